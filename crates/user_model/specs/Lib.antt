@@ -1,0 +1,13 @@
+pub mod Filters
+pub mod Idle
+pub mod Legal
+pub mod Machines
+pub mod Next
+pub mod Past
+pub mod Places
+pub mod Posts
+pub mod Refusals
+pub mod Replies
+pub mod Retrievals
+pub mod Setups
+pub mod Threads

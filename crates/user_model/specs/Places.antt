@@ -1,0 +1,42 @@
+-- The clock, the ended threads, the cursor, and a thread's own entries.
+use Rattle.std.specs.Prelude.{if◌then◌else◌, ℕ, ◌==◌, Bool, true, false, ◌&&◌, pos, filter, Option, Some, None, unwrap_or}
+use Rattle.win_num.specs.declared.shapes.Point.{Point}
+use Rattle.user_model.specs.declared.entry.Entry.{Entry}
+use Rattle.user_model.specs.declared.entry.Answer.{Answer}
+use Rattle.user_model.specs.declared.entry.Answer.TheVariants.{Advanced, Ended}
+use Rattle.user_model.specs.Past.{Past, last_of, ever}
+
+-- the time that an answer may tell
+abbrev pub time_told : Answer → Option ℕ
+time_told (Advanced v) = Some v
+time_told _ = None
+
+-- what is told, where actor 0 is told it
+abbrev pub if_clock : ℕ → Option ℕ → Option ℕ
+if_clock who None = None
+if_clock who (Some v) = if who == 0 then Some v else None
+
+-- the time that actor 0 was told last, in milliseconds; 0 before
+abbrev pub clock : Past → ℕ
+clock past = unwrap_or (last_of (λ e before. if_clock e.who.0 (time_told e.answer)) past) 0
+
+-- whether the answer ends a thread
+abbrev pub is_end : Answer → Bool
+is_end Ended = true
+is_end _ = false
+
+-- whether the entry ends the thread
+abbrev pub ends_thread : Entry → ℕ → Bool
+ends_thread e t = is_end e.answer && (e.who.0 == t)
+
+-- whether the thread has ended
+abbrev pub has_ended : Past → ℕ → Bool
+has_ended past t = ever (λ e before. ends_thread e t) past
+
+-- the cursor stands at the left top corner of the screen, since no call moves it
+abbrev pub cursor : Past → Point
+cursor past = record { x = pos 0; y = pos 0 }
+
+-- the thread's own entries, the newest first
+abbrev pub mine : Past → ℕ → Past
+mine past t = filter (λ e. e.who.0 == t) past
