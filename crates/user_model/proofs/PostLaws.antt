@@ -1,6 +1,6 @@
 -- Posted messages at a past with one entry more.
 use Rattle.std.proofs.Common.{◌≡◌, ◌≢◌, ℕ, zero, suc, ◌+◌, ◌≤◌, ◌<◌, Bool, true, false, not, cond, eqb, List, [], ◌∷◌, ◌++◌, length, Some, refl, ap, ◌∙◌, sym, subst, inl, inr, arith}
-use Rattle.std.specs.Prelude.{filter, ◌||◌, ◌&&◌, take, drop, slice_get}
+use Rattle.std.specs.Prelude.{filter, ◌||◌, ◌&&◌, take, drop, slice_index_or}
 use Rattle.std.specs.List.{AllByRecursion}
 use Rattle.std.proofs.lemmas.Bool.{eqb-true, false≢true}
 use Rattle.std.proofs.lemmas.Bool.Decides.{nat_tests, eqb_tells}
@@ -265,19 +265,22 @@ posted_rises setup (e ∷ past) t lawful =
 taken_rest : (n : ℕ) (xs : List PostedMsg) → AllByRecursion (λ y. n < y.0) xs → filter (λ x. not (eqb n x.0)) xs ≡ xs
 taken_rest n xs above = filter_all (λ x. not (eqb n x.0)) xs (all_weaker (λ y. n < y.0) (λ y. not (eqb n y.0) ≡ true) (λ y lt. grind (arith, nat_tests, lt)) xs above)
 
-above_at : (P : PostedMsg → Type 0) (xs : List PostedMsg) (i : ℕ) (y : PostedMsg) → AllByRecursion P xs → slice_get xs i ≡ Some y → P y
-above_at P [] i y h e = absurd cc
-above_at P (x ∷ xs) zero y h e = let same : x ≡ y = cc in subst P same h.0
-above_at P (x ∷ xs) (suc i) y h e = above_at P xs i y h.1 e
+above_at : (P : PostedMsg → Type 0) (xs : List PostedMsg) (i : ℕ) (d : PostedMsg) → AllByRecursion P xs → i < length xs → P (slice_index_or xs i d)
+above_at P [] i d h lt = absurd (omega (arith, lt))
+above_at P (x ∷ xs) zero d h lt = h.0
+above_at P (x ∷ xs) (suc i) d h lt = above_at P xs i d h.1 (omega (arith, lt))
 
-pub taken_at : (xs : List PostedMsg) (i n : ℕ) (m : Msg) → IsRising xs → slice_get xs i ≡ Some (n, m) → take i xs ++ drop (suc i) xs ≡ filter (λ x. not (eqb n x.0)) xs
-taken_at [] i n m r e = absurd cc
-taken_at (x ∷ xs) zero n m r e =
-    let same : x ≡ (n, m) = cc in
-    let number : x.0 ≡ n = ap (λ (y : PostedMsg). y.0) same in
-    let here : eqb n x.0 ≡ true = grind (arith, nat_tests, number) in
-    rw here (sym (taken_rest n xs (all_weaker (λ y. x.0 < y.0) (λ y. n < y.0) (λ y lt. omega (arith, lt, number)) xs r.0)))
-taken_at (x ∷ xs) (suc i) n m r e =
-    let above : x.0 < n = above_at (λ y. x.0 < y.0) xs i (n, m) r.0 e in
-    let differs : eqb n x.0 ≡ false = grind (arith, nat_tests, above) in
-    rw differs (ap (λ l. x ∷ l) (taken_at xs i n m r.1 e))
+pub taken_at : (xs : List PostedMsg) (i n : ℕ) → IsRising xs → i < length xs → ((d : PostedMsg) → (slice_index_or xs i d).0 ≡ n) → take i xs ++ drop (suc i) xs ≡ filter (λ x. not (eqb n x.0)) xs
+taken_at [] i n r lt e = absurd (omega (arith, lt))
+taken_at (x ∷ xs) zero n r lt e =
+    let here : eqb n x.0 ≡ true = grind (arith, nat_tests, e x) in
+    rw here (sym (taken_rest n xs (all_weaker (λ y. x.0 < y.0) (λ y. n < y.0) (λ y lt. omega (arith, lt, e x)) xs r.0)))
+taken_at (x ∷ xs) (suc i) n r lt e =
+    let within : i < length xs = omega (arith, lt) in
+    let above : x.0 < (slice_index_or xs i x).0 = above_at (λ y. x.0 < y.0) xs i x r.0 within in
+    let differs : eqb n x.0 ≡ false = grind (arith, nat_tests, above, e x) in
+    rw differs (ap (λ l. x ∷ l) (taken_at xs i n r.1 within e))
+
+-- a number that none has takes nothing out
+pub taken_none : (xs : List PostedMsg) (n : ℕ) → AllByRecursion (λ x. eqb n x.0 ≡ false) xs → filter (λ x. not (eqb n x.0)) xs ≡ xs
+taken_none xs n none = filter_all (λ x. not (eqb n x.0)) xs (all_weaker (λ x. eqb n x.0 ≡ false) (λ x. not (eqb n x.0) ≡ true) (λ x e. ap not e) xs none)
