@@ -1,0 +1,142 @@
+//! The lines after the entries.
+#![tactic(auto, using(user_io::proofs::Texts::two))]
+
+ghost use Rattle.std.specs.Prelude.{◌≡◌, ◌<◌, ◌≤◌, length, reverse, OnOk};
+ghost use Rattle.user_io.specs.Text.{Adds};
+ghost use Rattle.user_model.specs.Places.{has_ended};
+ghost use Rattle.log_text.specs.Ends.{setup_of};
+ghost use Rattle.log_text.specs.Endings.{end_line, last_call, waits_line, spent_line, extra, extras, ending};
+
+use crate::end::End;
+use crate::entry::put_call;
+use script_text::Script;
+use std::alloc::AllocError;
+use user_io::text::{put_operand, put_text};
+use user_model::{Answer, Call, Entry, Machine};
+use win_num::Thread;
+
+fn put_end_line(out: &mut Vec<u8>, end: End) -> Result<(), AllocError>
+    ensures { OnOk result (Adds out.old.items out.new.items (end_line end)) }
+{
+    match end {
+        End::Done => put_text(out, b"end done\n"),
+        End::Stuck => put_text(out, b"end stuck\n"),
+        End::Spent => put_text(out, b"end spent\n"),
+    }
+}
+
+/// Whether a thread has ended.
+fn has_ended(history: &[Entry], thread: u8) -> bool
+    ensures { result ≡ has_ended (reverse history.now) thread }
+{
+    let mut ended = false;
+    for entry in history {
+        if matches!(entry.answer, Answer::Ended) && entry.who.0 == thread {
+            ended = true;
+        }
+    }
+    ended
+}
+
+/// The last call of a thread.
+fn last_call(history: &[Entry], thread: u8) -> Option<Call>
+    ensures { result ≡ last_call (reverse history.now) thread }
+{
+    let mut last = None;
+    for entry in history {
+        if entry.who.0 == thread {
+            last = Some(entry.call);
+        }
+    }
+    last
+}
+
+/// Adds the line of a thread that waits, with its last call.
+fn put_waits(out: &mut Vec<u8>, thread: u8, call: Option<Call>) -> Result<(), AllocError>
+    ensures { OnOk result (Adds out.old.items out.new.items (waits_line thread call)) }
+{
+    let Some(call) = call else {
+        return Ok(());
+    };
+    put_text(out, b"waits")?;
+    put_operand(out, u64::from(thread))?;
+    put_text(out, b" ")?;
+    put_call(out, call)?;
+    put_text(out, b"\n")?;
+    Ok(())
+}
+
+/// Adds the line of a thread that has used up its budget.
+fn put_spent(out: &mut Vec<u8>, thread: u8) -> Result<(), AllocError>
+    ensures { OnOk result (Adds out.old.items out.new.items (spent_line thread)) }
+{
+    put_text(out, b"spent")?;
+    put_operand(out, u64::from(thread))?;
+    put_text(out, b"\n")?;
+    Ok(())
+}
+
+/// Adds the extra line of a thread, where it has one.
+fn put_extra<M: Machine>(
+    out: &mut Vec<u8>,
+    script: &Script,
+    machine: &M,
+    end: End,
+    thread: u8,
+) -> Result<(), AllocError>
+    requires some { 0 < thread }
+    requires setup { M.setup machine.now ≡ setup_of script.now }
+    ensures { OnOk result (Adds out.old.items out.new.items (extra script.now (M.past machine.now) end thread)) }
+{
+    match end {
+        End::Done => {}
+        End::Stuck => {
+            let history = machine.history();
+            if !has_ended(history, thread) {
+                put_waits(out, thread, last_call(history, thread))?;
+            }
+        }
+        End::Spent => {
+            if !machine.barred(Thread(thread)) {
+                put_spent(out, thread)?;
+            }
+        }
+    }
+    Ok(())
+}
+
+fn put_extras<M: Machine>(
+    out: &mut Vec<u8>,
+    script: &Script,
+    machine: &M,
+    end: End,
+) -> Result<(), AllocError>
+    requires few { length script.now.threads ≤ 15 }
+    requires setup { M.setup machine.now ≡ setup_of script.now }
+    ensures { OnOk result (Adds out.old.items out.new.items (extras script.now (M.past machine.now) end)) }
+{
+    for thread in 0..script.thread_count() {
+        put_extra(out, script, machine, end, thread + 1)?;
+    }
+    Ok(())
+}
+
+/// Adds the lines after the entries.
+pub fn put_ending<M: Machine>(
+    out: &mut Vec<u8>,
+    script: &Script,
+    machine: &M,
+    end: End,
+) -> Result<(), AllocError>
+    requires few { length script.now.threads ≤ 15 }
+    requires setup { M.setup machine.now ≡ setup_of script.now }
+    ensures { OnOk result (Adds out.old.items out.new.items (ending script.now (M.past machine.now) end)) }
+{
+    put_end_line(out, end)?;
+    put_extras(out, script, machine, end)?;
+    put_text(
+        out,
+        b"sends begun 0 entered 0 proc 0 reply 0 loss 0 timeout 0 open 0\n",
+    )?;
+    Ok(())
+}

@@ -1,0 +1,119 @@
+//! Writing a log.
+//!
+//! The lines are made in one text, which goes into the sink where it has grown large, and is used
+//! again.
+
+ghost use Rattle.std.specs.Prelude.{◌≡◌, ◌≤◌, ◌++◌, [], length, OnOk, OnErr, IsErrOf};
+ghost use Rattle.std.specs.List.{flat_map};
+ghost use Rattle.std.specs.Io.KnownBytes.{Appends};
+ghost use Rattle.user_io.specs.Outside.{Rose, AppendsPart};
+ghost use Rattle.log_text.specs.declared.writer.WriteFault.TheVariants.{Memory as OutOfMemory, Write as WriteFails};
+ghost use Rattle.log_text.specs.Ends.{setup_of, end_of};
+ghost use Rattle.log_text.specs.Entries.{entry_text};
+ghost use Rattle.log_text.specs.Logs.{log};
+ghost use Rattle.log_text.specs.Passing.{Passes};
+
+use crate::end::End;
+use crate::ending::put_ending;
+use crate::entry::put_entry;
+use script_text::Script;
+use std::alloc::{AllocError, Global};
+use user_io::text::put_text;
+use user_io::{Sink, WriteFailed, write_all};
+use user_model::{Entry, Machine};
+
+/// How large the text grows, in bytes, before it goes into the sink.
+const PIECE: usize = 65536;
+
+/// Why a log was not written whole.
+#[derive(Clone, Copy, Debug, PartialEq, Eq)]
+pub enum WriteFault {
+    /// The sink has failed.
+    Write,
+    /// No memory was left.
+    Memory,
+}
+
+impl From<AllocError> for WriteFault {
+    ghost from_gives = { λ _ e. e ≡ OutOfMemory };
+
+    fn from(_error: AllocError) -> WriteFault {
+        WriteFault::Memory
+    }
+}
+
+impl From<WriteFailed> for WriteFault {
+    ghost from_gives = { λ _ e. e ≡ WriteFails };
+
+    fn from(_error: WriteFailed) -> WriteFault {
+        WriteFault::Write
+    }
+}
+
+/// Writes the text into the sink where it has grown large, and empties it.
+fn pass_on<K: Sink>(sink: &mut K, text: &mut Vec<u8>) -> Result<(), WriteFault>
+    ensures ok { OnOk result (Passes (K.holds sink.old) (K.holds sink.new) text.old.items text.new.items []) }
+    ensures err { OnErr result (AppendsPart (K.holds sink.old) (K.holds sink.new) text.old.items) }
+    ensures faults { K.faults sink.old ≤ K.faults sink.new }
+    ensures failed { IsErrOf result WriteFault.Write → Rose (K.faults sink.old) (K.faults sink.new) }
+{
+    if text.len() < PIECE {
+        return Ok(());
+    }
+    write_all(sink, text)?;
+    text.clear();
+    Ok(())
+}
+
+/// Adds the line of an entry, and passes the text on where it has grown large.
+fn write_entry<K: Sink>(sink: &mut K, text: &mut Vec<u8>, entry: Entry) -> Result<(), WriteFault>
+    ensures ok { OnOk result (Passes (K.holds sink.old) (K.holds sink.new) text.old.items text.new.items (entry_text entry)) }
+    ensures err { OnErr result (AppendsPart (K.holds sink.old) (K.holds sink.new) (text.old.items ++ entry_text entry)) }
+    ensures faults { K.faults sink.old ≤ K.faults sink.new }
+    ensures failed { IsErrOf result WriteFault.Write → Rose (K.faults sink.old) (K.faults sink.new) }
+{
+    put_entry(text, entry)?;
+    pass_on(sink, text)
+}
+
+/// Adds the lines of the entries, and passes the text on where it has grown large.
+fn write_entries<K: Sink>(
+    sink: &mut K,
+    text: &mut Vec<u8>,
+    history: &[Entry],
+) -> Result<(), WriteFault>
+    ensures ok { OnOk result (Passes (K.holds sink.old) (K.holds sink.new) text.old.items text.new.items (flat_map entry_text history.now)) }
+    ensures err { OnErr result (AppendsPart (K.holds sink.old) (K.holds sink.new) (text.old.items ++ flat_map entry_text history.now)) }
+    ensures faults { K.faults sink.old ≤ K.faults sink.new }
+    ensures failed { IsErrOf result WriteFault.Write → Rose (K.faults sink.old) (K.faults sink.new) }
+{
+    for entry in history {
+        write_entry(sink, text, *entry)?;
+    }
+    Ok(())
+}
+
+/// Writes the log of a run that is over. Where the sink fails (`Write`, only where its count of faults
+/// has risen) and where memory is wanting (`Memory`), a front of the log was written.
+pub fn write_log<M: Machine, K: Sink>(
+    alloc: Global,
+    script: &Script,
+    machine: &M,
+    end: End,
+    sink: &mut K,
+) -> Result<(), WriteFault>
+    requires few { length script.now.threads ≤ 15 }
+    requires setup { M.setup machine.now ≡ setup_of script.now }
+    requires end { end ≡ end_of script.now (M.past machine.now) }
+    ensures ok { OnOk result (Appends (K.holds sink.old) (K.holds sink.new) (log script.now (M.past machine.now))) }
+    ensures err { OnErr result (AppendsPart (K.holds sink.old) (K.holds sink.new) (log script.now (M.past machine.now))) }
+    ensures faults { K.faults sink.old ≤ K.faults sink.new }
+    ensures failed { IsErrOf result WriteFault.Write → Rose (K.faults sink.old) (K.faults sink.new) }
+{
+    let mut text = Vec::new(alloc);
+    put_text(&mut text, b"log 1\n")?;
+    write_entries(sink, &mut text, machine.history())?;
+    put_ending(&mut text, script, machine, end)?;
+    write_all(sink, &text)?;
+    Ok(())
+}
