@@ -1,0 +1,4 @@
+pub mod Again
+pub mod Bodies
+pub mod OneTree
+pub mod Parsed

@@ -1,0 +1,5 @@
+pub mod Tree
+pub mod Spelling
+pub mod Limits
+pub mod Reading
+pub mod Refusals
