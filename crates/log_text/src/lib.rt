@@ -1,0 +1,6 @@
+//! The end of a run.
+#![tactic(auto)]
+
+mod end;
+
+pub use end::End;
