@@ -1,0 +1,10 @@
+pub mod Ended
+pub mod Programs
+pub mod Turns
+pub mod Moves
+pub mod Waiting
+pub mod AllEnded
+pub mod OneRun
+pub mod NeverFull
+pub mod NeverSpent
+pub mod Replays

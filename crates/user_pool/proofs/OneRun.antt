@@ -1,0 +1,74 @@
+-- A script has one run, and it is lawful.
+use Rattle.std.proofs.Common.{◌≡◌, ℕ, zero, suc, ◌+◌, ◌-◌, ◌<◌, ◌≤◌, List, [], ◌∷◌, length, drop, get_or, Option, Some, None, refl, sym, ap, ◌∙◌, subst, inl, inr, arith}
+use Rattle.std.proofs.lemmas.Bool.{cases_lt}
+use Rattle.std.proofs.lemmas.List.{drop_more, length-drop}
+use Rattle.user_model.specs.declared.call.Call.{Call}
+use Rattle.user_model.specs.declared.entry.Answer.{Answer}
+use Rattle.user_model.specs.declared.entry.Entry.{Entry}
+use Rattle.user_model.specs.Idle.{reply}
+use Rattle.user_model.specs.Legal.{IsLawful}
+use Rattle.script_text.specs.Tree.{Tree}
+use Rattle.log_text.specs.Ends.{setup_of}
+use Rattle.user_pool.specs.Runs.{next_call, choice, IsMove, IsRun, IsListed}
+
+some_is : {X : Type 0} (o : Option X) (x y : X) → o ≡ Some x → o ≡ Some y → x ≡ y
+some_is o x y e f = let both : Some x ≡ Some y = sym e ∙ f in cc
+
+-- two moves after the same past are the same
+move_same : (s : Tree) (h : List Entry) (e f : Entry) → IsMove s h e → IsMove s h f → e ≡ f
+move_same s h e f a b =
+    let who : e.who.0 ≡ f.who.0 = some_is (choice s h) e.who.0 f.who.0 a.actor b.actor in
+    let call : e.call ≡ f.call = some_is (next_call s h e.who.0) e.call f.call a.call (ap (next_call s h) who ∙ b.call) in
+    let answer : e.answer ≡ f.answer = a.answer ∙ ap (λ (w : ℕ). reply (setup_of s) h w e.call) who ∙ ap (reply (setup_of s) h f.who.0) call ∙ sym b.answer in
+    ap (λ (w : ℕ). let x : Entry = record { who = record { 0 = w }; call = e.call; answer = e.answer } in x) who
+    ∙ ap (λ (c : Call). let x : Entry = record { who = f.who; call = c; answer = e.answer } in x) call
+    ∙ ap (λ (a : Answer). let x : Entry = record { who = f.who; call = f.call; answer = a } in x) answer
+
+same_length : (s : Tree) (h k : List Entry) → IsRun s h → IsRun s k → length h ≡ length k → h ≡ k
+same_length s [] [] a b e = refl
+same_length s [] (y ∷ k) a b e = absurd (omega arith)
+same_length s (x ∷ h) [] a b e = absurd (omega arith)
+same_length s (x ∷ h) (y ∷ k) a b e =
+    let below : h ≡ k = same_length s h k a.1 b.1 (omega arith) in
+    let moved : IsMove s h y = subst (λ l. IsMove s l y) (sym below) b.0 in
+    ap (λ (l : List Entry). x ∷ l) below ∙ ap (λ (z : Entry). z ∷ k) (move_same s h x y a.0 moved)
+
+run_drop : (s : Tree) (n : ℕ) (h : List Entry) → IsRun s h → IsRun s (drop n h)
+run_drop s zero h r = r
+run_drop s (suc n) [] r = tt
+run_drop s (suc n) (x ∷ h) r = run_drop s n h r.1
+
+-- a run that is over is no past of a longer one
+not_shorter : (s : Tree) (h k : List Entry) (d : Entry) → IsListed s h → IsRun s k → length h < length k → ⊥
+not_shorter s h k d a b lt =
+    let n = length k - length h - 1 in
+    let past : List Entry = drop (n + 1) k in
+    let same : h ≡ past = same_length s h past a.run (run_drop s (n + 1) k b) (omega (arith, length-drop (n + 1) k)) in
+    let there : n < length k = omega arith in
+    let longer : IsRun s (get_or k n d ∷ past) = subst (IsRun s) (drop_more k n d there) (run_drop s n k b) in
+    let clash : None ≡ Some (get_or k n d).who.0 = sym a.over ∙ ap (choice s) same ∙ longer.0.actor in
+    absurd cc
+
+shorter_nil : (s : Tree) (h : List Entry) → IsListed s h → IsListed s [] → 1 ≤ length h → h ≡ []
+shorter_nil s [] a b le = refl
+shorter_nil s (x ∷ h) a b le = absurd (not_shorter s [] (x ∷ h) x b a.run (omega arith))
+
+pub one_listed : (s : Tree) (h k : List Entry) → IsListed s h → IsListed s k → h ≡ k
+one_listed s h [] a b =
+    elim (cases_lt (length h) 1) [
+      | inl lt ↦ same_length s h [] a.run b.run (omega (arith, lt))
+      | inr le ↦ shorter_nil s h a b le
+    ]
+one_listed s h (y ∷ k) a b =
+    elim (cases_lt (length h) (length (y ∷ k))) [
+      | inl lt ↦ absurd (not_shorter s h (y ∷ k) y a b.run lt)
+      | inr le ↦ elim (cases_lt (length (y ∷ k)) (length h)) [
+        | inl lt ↦ absurd (not_shorter s (y ∷ k) h y b a.run lt)
+        | inr ge ↦ same_length s h (y ∷ k) a.run b.run (omega (arith, le, ge))
+      ]
+    ]
+
+-- each move has the answer that the past gives it
+pub run_lawful : (s : Tree) (past : List Entry) → IsRun s past → IsLawful (setup_of s) past
+run_lawful s [] run = tt
+run_lawful s (e ∷ past) run = (run_lawful s past run.1, run.0.answer)

@@ -1,0 +1,30 @@
+//! Laws of runs. Each is a function that does nothing; its contract is the law.
+
+ghost use Rattle.std.specs.Prelude.{◌≡◌, ◌≢◌, ◌≤◌, List, length};
+ghost use Rattle.user_model.specs.declared.entry.Entry.{Entry};
+ghost use Rattle.user_model.specs.Legal.{IsLawful};
+ghost use Rattle.script_text.specs.Tree.{Tree};
+ghost use Rattle.script_text.specs.Limits.{IsScript};
+ghost use Rattle.log_text.specs.declared.end.End.{End};
+ghost use Rattle.log_text.specs.Ends.{setup_of, end_of};
+ghost use Rattle.user_pool.specs.Runs.{IsRun, IsListed};
+
+/// A script has one listed run, so its log is one text.
+pub fn one_run()
+    ensures { (s : Tree) (a b : List Entry) → IsListed s a → IsListed s b → a ≡ b }
+{}
+
+/// Each run, also one that isn't over, is lawful: each answer is the reply at what was before it.
+pub fn runs_are_lawful()
+    ensures { (s : Tree) (past : List Entry) → IsRun s past → IsLawful (setup_of s) past }
+{}
+
+/// No run fills the history: it has at most 983,041 of 2,097,152 entries.
+pub fn runs_are_short()
+    ensures { (s : Tree) (past : List Entry) → IsScript s → IsRun s past → length past ≤ 983041 }
+{}
+
+/// No listed run of a script is spent: either all threads have ended, or nothing can go on.
+pub fn runs_are_not_spent()
+    ensures { (s : Tree) (past : List Entry) → IsScript s → IsListed s past → end_of s past ≢ End.Spent }
+{}
