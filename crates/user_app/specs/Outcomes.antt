@@ -1,0 +1,61 @@
+-- What each status says, over what was left and is left to read, what was and is held, and the counts of faults.
+use Rattle.std.specs.Prelude.{◌≡◌, ℕ, ◌⊎◌, List, length, Option, codes}
+use Rattle.std.specs.Io.KnownBytes.{Appends, Consumes, Keeps, IsAtEnd}
+use Rattle.user_model.specs.Past.{Past}
+use Rattle.user_io.specs.Outside.{Rose, AppendsPart}
+use Rattle.script_text.specs.Tree.{Tree}
+use Rattle.script_text.specs.Limits.{IsScript}
+use Rattle.script_text.specs.Refusals.{IsNoScript}
+use Rattle.script_text.specs.Spelling.{spelling}
+use Rattle.log_text.specs.declared.end.End.{End}
+use Rattle.log_text.specs.declared.end.End.TheVariants as ends
+use Rattle.log_text.specs.Ends.{end_of}
+use Rattle.log_text.specs.Logs.{log}
+use Rattle.user_pool.specs.Runs.{IsListed}
+use Rattle.user_app.specs.declared.status.Status.{Status}
+use Rattle.user_app.specs.declared.status.Status.TheVariants as statuses
+
+-- the log of the script's one run was written, and this is its end
+pub record Logged (s : Tree) (holds holds' : Option (List ℕ)) (end : End) : Type 0 where
+  pub history : Past
+  pub listed : IsListed s history
+  pub ended : end_of s history ≡ end
+  pub written : Appends holds holds' (log s history)
+
+-- a front of that log was written
+pub record LoggedPart (s : Tree) (holds holds' : Option (List ℕ)) : Type 0 where
+  pub history : Past
+  pub listed : IsListed s history
+  pub written : AppendsPart holds holds' (log s history)
+
+-- how the run of a script may end
+abbrev pub RunEnds : Tree → Option (List ℕ) → Option (List ℕ) → ℕ → ℕ → Status → Type 0
+RunEnds s holds holds' faults faults' statuses.Done = Logged s holds holds' ends.Done
+RunEnds s holds holds' faults faults' statuses.Stuck = Logged s holds holds' ends.Stuck
+RunEnds s holds holds' faults faults' statuses.WriteFault = LoggedPart s holds holds' × Rose faults faults'
+RunEnds s holds holds' faults faults' statuses.Memory = Keeps holds holds' ⊎ LoggedPart s holds holds'
+RunEnds s holds holds' faults faults' _ = ⊥
+
+-- the input was read to its end and is a script, and its run ended so
+pub record Ran (left left' holds holds' : Option (List ℕ)) (faults faults' : ℕ) (status : Status) : Type 0 where
+  pub script : Tree
+  pub is_script : IsScript script
+  pub input : Consumes left left' (spelling script)
+  pub read_out : IsAtEnd left'
+  pub ends : RunEnds script holds holds' faults faults' status
+
+-- the input was read to its end and is no script, or one byte more than a script may have was read
+pub record ReadNoScript (left left' : Option (List ℕ)) : Type 0 where
+  pub text : List ℕ
+  pub input : Consumes left left' text
+  pub refused : (IsAtEnd left' × IsNoScript text) ⊎ (length text ≡ 1048577)
+
+-- the line of a refusal
+abbrev pub refusal_text : List ℕ
+refusal_text = codes "refused 0 later\n"
+
+-- how a refusal may end
+abbrev pub Refuses : Option (List ℕ) → Option (List ℕ) → ℕ → ℕ → Status → Type 0
+Refuses holds holds' faults faults' statuses.Script = Appends holds holds' refusal_text
+Refuses holds holds' faults faults' statuses.WriteFault = AppendsPart holds holds' refusal_text × Rose faults faults'
+Refuses holds holds' faults faults' _ = ⊥

@@ -1,0 +1,23 @@
+-- The statuses of the program.
+use Rattle.std.specs.Prelude.{ℕ}
+use Rattle.log_text.specs.declared.end.End.{End}
+use Rattle.log_text.specs.declared.end.End.TheVariants as ends
+use Rattle.user_app.specs.declared.status.Status.{Status}
+use Rattle.user_app.specs.declared.status.Status.TheVariants as statuses
+
+-- the exit status of the process
+abbrev pub number_of : Status → ℕ
+number_of statuses.Done = 0
+number_of statuses.Words = 2
+number_of statuses.Script = 3
+number_of statuses.Stuck = 4
+number_of statuses.Spent = 5
+number_of statuses.ReadFault = 7
+number_of statuses.WriteFault = 8
+number_of statuses.Memory = 9
+
+-- the status that the end of a run gives
+abbrev pub status_of : End → Status
+status_of ends.Done = statuses.Done
+status_of ends.Stuck = statuses.Stuck
+status_of ends.Spent = statuses.Spent

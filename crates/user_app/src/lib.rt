@@ -1,0 +1,16 @@
+//! The program's top call: words, input and output become one run.
+#![tactic(auto)]
+
+mod app;
+mod status;
+
+pub use app::user_plain;
+pub use status::Status;
+
+/// The traits of the outside, their forms in memory, and the adapters over std's reader and writer.
+pub mod io {
+    pub use user_io::{MemSink, MemSource, Put, Sink, Source, StdSink, StdSource, Took};
+}
+
+#[cfg(test)]
+mod tests;

@@ -1,0 +1,56 @@
+//! How the program ends.
+
+ghost use Rattle.std.specs.Prelude.{◌≡◌};
+ghost use Rattle.user_app.specs.Statuses.{number_of, status_of};
+
+use log_text::End;
+
+/// How the program ends.
+#[derive(Clone, Copy, Debug, PartialEq, Eq)]
+pub enum Status {
+    /// All threads have ended.
+    Done,
+    /// The words ask for nothing that the program does; nothing was read or written.
+    Words,
+    /// The input is no script.
+    Script,
+    /// Some thread hasn't ended, and nothing can go on.
+    Stuck,
+    /// The budgets are spent. No script of the present form comes to this.
+    Spent,
+    /// The source failed.
+    ReadFault,
+    /// The sink failed.
+    WriteFault,
+    /// No memory was left.
+    Memory,
+}
+
+impl Status {
+    /// The exit status of the process, 0 to 9.
+    pub fn number(&self) -> u8
+        ensures { result ≡ number_of self.now }
+    {
+        match self {
+            Status::Done => 0,
+            Status::Words => 2,
+            Status::Script => 3,
+            Status::Stuck => 4,
+            Status::Spent => 5,
+            Status::ReadFault => 7,
+            Status::WriteFault => 8,
+            Status::Memory => 9,
+        }
+    }
+}
+
+/// The status of a run whose log was written.
+pub fn end_status(end: End) -> Status
+    ensures { result ≡ status_of end }
+{
+    match end {
+        End::Done => Status::Done,
+        End::Stuck => Status::Stuck,
+        End::Spent => Status::Spent,
+    }
+}

@@ -1,0 +1,104 @@
+ghost use Rattle.std.specs.Prelude.{◌<◌};
+
+use super::*;
+use crate::io::{MemSink, MemSource};
+use std::alloc::{AllocError, Global};
+use std::test::Fail;
+
+/// A script of one thread without statements.
+const ONE_END: &[u8] = b"user 1\nscreen 8 4\nbudget 100\norder\nthread\nend\n";
+
+const ONE_END_LOG: &[u8] =
+    b"log 1\n1 end_thread = ended\nend done\nsends begun 0 entered 0 proc 0 reply 0 loss 0 timeout 0 open 0\n";
+
+/// Two threads that post to a third.
+const POSTS: &[u8] =
+    b"user 1\nscreen 8 4\nbudget 100\norder\nthread\npost_thread 3 1024 1 0\npost_thread 3 1025 2 0\nend\nthread\npost_thread 3 1024 3 0\nend\nthread\nget 0 0 0\nget 0 0 0\nget 0 0 0\nend\n";
+
+const POSTS_LOG: &[u8] =
+    b"log 1\n1 post_thread 3 WM_USER 1 0 = posted 1\n2 post_thread 3 WM_USER 3 0 = posted 2\n3 get 0 0 0 = got posted 1 0 WM_USER 1 0 0 0 0\n1 post_thread 3 1025 2 0 = posted 3\n2 end_thread = ended\n3 get 0 0 0 = got posted 2 0 WM_USER 3 0 0 0 0\n1 end_thread = ended\n3 get 0 0 0 = got posted 3 0 1025 2 0 0 0 0\n3 end_thread = ended\nend done\nsends begun 0 entered 0 proc 0 reply 0 loss 0 timeout 0 open 0\n";
+
+/// Two threads that wait for ever.
+const WAITS: &[u8] =
+    b"user 1\nscreen 8 4\nbudget 100\norder\nthread\nget 0 0 0\nend\nthread\nget 0 0 0\nend\n";
+
+const WAITS_LOG: &[u8] =
+    b"log 1\n1 get 0 0 0 = wait\n2 get 0 0 0 = wait\n0 advance = stuck\nend stuck\nwaits 1 get 0 0 0\nwaits 2 get 0 0 0\nsends begun 0 entered 0 proc 0 reply 0 loss 0 timeout 0 open 0\n";
+
+/// A post to no thread, and a number that is no message's.
+const REFUSALS: &[u8] =
+    b"user 1\nscreen 8 4\nbudget 100\norder\nthread\npost_thread 9 1024 1 0\npost_thread 1 70000 0 0\nend\n";
+
+const REFUSALS_LOG: &[u8] =
+    b"log 1\n1 post_thread 9 WM_USER 1 0 = refused 1444\n1 post_thread 1 70000 0 0 = refused 87\n1 end_thread = ended\nend done\nsends begun 0 entered 0 proc 0 reply 0 loss 0 timeout 0 open 0\n";
+
+/// Calls the program with some words on a source that gives `piece` bytes a call and fails at the calls
+/// listed, and on a sink with `room`.
+fn call(
+    alloc: Global,
+    words: &[&str],
+    script: &[u8],
+    piece: usize,
+    fail: Vec<u64>,
+    room: u32,
+) -> Result<(Status, MemSink), AllocError>
+    requires { 0 < piece }
+{
+    let mut owned = Vec::new(alloc);
+    for word in words {
+        owned.push(String::from_str(alloc, word)?)?;
+    }
+    let mut source = MemSource::new(Vec::from_slice(alloc, script)?, piece, fail);
+    let mut sink = MemSink::new(alloc, room)?;
+    let status = user_plain(alloc, &owned, &mut source, &mut sink);
+    Ok((status, sink))
+}
+
+#[test]
+fn runs(rt: HostRuntime) -> Result<(), Fail> {
+    let alloc: Global = rt.alloc();
+    let cases: [(&[u8], &[u8], Status, u8); 5] = [
+        (ONE_END, ONE_END_LOG, Status::Done, 0),
+        (POSTS, POSTS_LOG, Status::Done, 0),
+        (WAITS, WAITS_LOG, Status::Stuck, 4),
+        (REFUSALS, REFUSALS_LOG, Status::Done, 0),
+        (b"user 1\n", b"refused 0 later\n", Status::Script, 3),
+    ];
+    for (script, log, status, number) in cases {
+        let (told, sink) = call(alloc, &["run"], script, 7, Vec::new(alloc), 10000)?;
+        assert_eq!(rt; sink.bytes(), log);
+        assert_eq!(rt; told, status);
+        assert_eq!(rt; told.number(), number);
+    }
+    Ok(())
+}
+
+#[test]
+fn other_words(rt: HostRuntime) -> Result<(), Fail> {
+    let alloc: Global = rt.alloc();
+    let cases: [&[&str]; 4] = [&[], &["run", "x"], &["Run"], &["--help"]];
+    for words in cases {
+        let (status, sink) = call(alloc, words, ONE_END, 7, Vec::new(alloc), 10000)?;
+        assert_eq!(rt; sink.bytes().len(), 0usize);
+        assert_eq!(rt; status, Status::Words);
+        assert_eq!(rt; status.number(), 2u8);
+    }
+    Ok(())
+}
+
+#[test]
+fn faults(rt: HostRuntime) -> Result<(), Fail> {
+    let alloc: Global = rt.alloc();
+    let mut fail = Vec::new(alloc);
+    fail.push(1)?;
+    let (status, sink) = call(alloc, &["run"], ONE_END, 10, fail, 10000)?;
+    assert_eq!(rt; sink.bytes(), b"".as_slice());
+    assert_eq!(rt; status.number(), 7u8);
+    let (status, sink) = call(alloc, &["run"], ONE_END, 10, Vec::new(alloc), 20)?;
+    assert_eq!(rt; sink.bytes(), b"log 1\n1 end_thread =".as_slice());
+    assert_eq!(rt; status.number(), 8u8);
+    let (status, sink) = call(alloc, &["run"], b"user 1\n", 10, Vec::new(alloc), 9)?;
+    assert_eq!(rt; sink.bytes(), b"refused 0".as_slice());
+    assert_eq!(rt; status.number(), 8u8);
+    Ok(())
+}
