@@ -93,3 +93,118 @@ fn one_thread_that_ends(rt: HostRuntime) -> Result<(), Fail> {
     assert_eq!(rt; machine.history(), entries.as_slice());
     Ok(())
 }
+
+#[test]
+fn two_threads_that_wait(rt: HostRuntime) -> Result<(), Fail> {
+    let alloc = rt.alloc();
+    let first = vec![in alloc; Statement::Get]?;
+    let second = vec![in alloc; Statement::Get]?;
+    let threads = vec![in alloc; Body::new(first), Body::new(second)]?;
+    let script = Script::new(8, 4, 100, threads);
+    let entries = [
+        entry!(1, Call::Get(0, 0, 0), Answer::Wait),
+        entry!(2, Call::Get(0, 0, 0), Answer::Wait),
+        entry!(0, Call::Advance, Answer::Stuck),
+    ];
+    let bars = [
+        (true, false, false, false),
+        (true, true, false, false),
+        (false, true, true, false),
+        (true, true, true, false),
+    ];
+    let setup = Setup {
+        threads: 2,
+        width: 8,
+        height: 4,
+    };
+    let machine = Replay {
+        setup,
+        entries: &entries,
+        bars: &bars,
+        place: 0,
+    };
+    let (machine, end) = run_listed(alloc, &script, machine)?;
+    assert_eq!(rt; end, End::Stuck);
+    assert_eq!(rt; machine.history(), entries.as_slice());
+    Ok(())
+}
+
+macro_rules! post {
+    ($number:literal, $wparam:literal) => {
+        Statement::PostThread {
+            to: 3,
+            number: $number,
+            wparam: $wparam,
+            lparam: 0,
+        }
+    };
+}
+
+macro_rules! got {
+    ($post:literal, $number:literal, $wparam:literal) => {
+        entry!(
+            3,
+            Call::Get(0, 0, 0),
+            Answer::Got {
+                origin: Origin::Posted,
+                number: $post,
+                msg: Msg {
+                    hwnd: Hwnd(0),
+                    number: $number,
+                    wparam: $wparam,
+                    lparam: 0,
+                    time: 0,
+                    point: Point { x: 0, y: 0 },
+                },
+            }
+        )
+    };
+}
+
+#[test]
+fn two_threads_that_post_to_a_third(rt: HostRuntime) -> Result<(), Fail> {
+    let alloc = rt.alloc();
+    let first = vec![in alloc; post!(1024, 1), post!(1025, 2)]?;
+    let second = vec![in alloc; post!(1024, 3)]?;
+    let third = vec![in alloc; Statement::Get, Statement::Get, Statement::Get]?;
+    let threads = vec![in alloc; Body::new(first), Body::new(second), Body::new(third)]?;
+    let script = Script::new(8, 4, 100, threads);
+    let entries = [
+        entry!(1, Call::PostThread(3, 1024, 1, 0), Answer::Posted(1)),
+        entry!(2, Call::PostThread(3, 1024, 3, 0), Answer::Posted(2)),
+        got!(1, 1024, 1),
+        entry!(1, Call::PostThread(3, 1025, 2, 0), Answer::Posted(3)),
+        entry!(2, Call::EndThread, Answer::Ended),
+        got!(2, 1024, 3),
+        entry!(1, Call::EndThread, Answer::Ended),
+        got!(3, 1025, 2),
+        entry!(3, Call::EndThread, Answer::Ended),
+    ];
+    let bars = [
+        (true, false, false, false),
+        (true, false, false, false),
+        (true, false, false, false),
+        (true, false, false, false),
+        (true, false, false, false),
+        (true, false, true, false),
+        (true, false, true, false),
+        (true, true, true, false),
+        (true, true, true, false),
+        (true, true, true, true),
+    ];
+    let setup = Setup {
+        threads: 3,
+        width: 8,
+        height: 4,
+    };
+    let machine = Replay {
+        setup,
+        entries: &entries,
+        bars: &bars,
+        place: 0,
+    };
+    let (machine, end) = run_listed(alloc, &script, machine)?;
+    assert_eq!(rt; end, End::Done);
+    assert_eq!(rt; machine.history(), entries.as_slice());
+    Ok(())
+}
