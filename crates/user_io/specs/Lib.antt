@@ -1,3 +1,4 @@
 pub mod Memory
 pub mod Outside
+pub mod Standard
 pub mod Text

@@ -19,17 +19,17 @@ pub struct StdSource<R: Read> {
 }
 
 impl<R: Read> Model for StdSource<R> {
-    ghost use Rattle.std.specs.Prelude.{ℕ};
+    ghost use Rattle.user_io.specs.Standard.{Adapted};
 
-    ghost Value = { ℕ };
+    ghost Value = { Adapted };
 
-    ghost view = { λ s. s.faults };
+    ghost view = { λ s. record { known = R.remaining s.reader; faults = s.faults } };
 }
 
 impl<R: Read> StdSource<R> {
     /// A source that hasn't failed yet.
     pub fn new(reader: R) -> StdSource<R>
-        ensures { result ≡ 0 }
+        ensures { result ≡ record { known = R.remaining reader; faults = 0 } }
     {
         StdSource { reader, faults: 0 }
     }
@@ -38,13 +38,15 @@ impl<R: Read> StdSource<R> {
 impl<R: Read> Source for StdSource<R> {
     ghost left = { λ _. None };
 
-    ghost faults = { λ s. s };
+    ghost faults = { λ s. s.faults };
 
-    /// Beside what a source promises: only `Failed` is counted.
+    /// Beside what a source promises: only `Failed` is counted, and the same holds of what std's
+    /// reader has left, where that is known.
     fn read(&mut self, buf: &mut [u8]) -> Took
-        ensures taken { IsTaken None None self.old self.new buf.new result }
-        ensures count { self.old ≤ self.new }
-        ensures counted { self.new ≡ faults_after_read self.old result }
+        ensures taken { IsTaken None None self.old.faults self.new.faults buf.new result }
+        ensures count { self.old.faults ≤ self.new.faults }
+        ensures counted { self.new.faults ≡ faults_after_read self.old.faults result }
+        ensures content { IsTaken self.old.known self.new.known self.old.faults self.new.faults buf.new result }
     {
         if buf.is_empty() {
             return Took::Took(0);
@@ -75,17 +77,17 @@ pub struct StdSink<W: Write> {
 }
 
 impl<W: Write> Model for StdSink<W> {
-    ghost use Rattle.std.specs.Prelude.{ℕ};
+    ghost use Rattle.user_io.specs.Standard.{Adapted};
 
-    ghost Value = { ℕ };
+    ghost Value = { Adapted };
 
-    ghost view = { λ s. s.faults };
+    ghost view = { λ s. record { known = W.contents s.writer; faults = s.faults } };
 }
 
 impl<W: Write> StdSink<W> {
     /// A sink that hasn't failed yet.
     pub fn new(writer: W) -> StdSink<W>
-        ensures { result ≡ 0 }
+        ensures { result ≡ record { known = W.contents writer; faults = 0 } }
     {
         StdSink { writer, faults: 0 }
     }
@@ -94,13 +96,15 @@ impl<W: Write> StdSink<W> {
 impl<W: Write> Sink for StdSink<W> {
     ghost holds = { λ _. None };
 
-    ghost faults = { λ s. s };
+    ghost faults = { λ s. s.faults };
 
-    /// Beside what a sink promises: only `Failed` is counted.
+    /// Beside what a sink promises: only `Failed` is counted, and the same holds of what std's
+    /// writer holds, where that is known.
     fn write(&mut self, buf: &[u8]) -> Put
-        ensures put { IsPut None None self.old self.new buf.now result }
-        ensures count { self.old ≤ self.new }
-        ensures counted { self.new ≡ faults_after_write self.old result }
+        ensures put { IsPut None None self.old.faults self.new.faults buf.now result }
+        ensures count { self.old.faults ≤ self.new.faults }
+        ensures counted { self.new.faults ≡ faults_after_write self.old.faults result }
+        ensures content { IsPut self.old.known self.new.known self.old.faults self.new.faults buf.now result }
     {
         if buf.is_empty() {
             return Put::Put(0);
