@@ -87,18 +87,34 @@ fn other_words(rt: HostRuntime) -> Result<(), Fail> {
 }
 
 #[test]
-fn faults(rt: HostRuntime) -> Result<(), Fail> {
+fn failing_reads(rt: HostRuntime) -> Result<(), Fail> {
     let alloc: Global = rt.alloc();
-    let mut fail = Vec::new(alloc);
-    fail.push(1)?;
-    let (status, sink) = call(alloc, &["run"], ONE_END, 10, fail, 10000)?;
-    assert_eq!(rt; sink.bytes(), b"".as_slice());
-    assert_eq!(rt; status.number(), 7u8);
-    let (status, sink) = call(alloc, &["run"], ONE_END, 10, Vec::new(alloc), 20)?;
-    assert_eq!(rt; sink.bytes(), b"log 1\n1 end_thread =".as_slice());
-    assert_eq!(rt; status.number(), 8u8);
-    let (status, sink) = call(alloc, &["run"], b"user 1\n", 10, Vec::new(alloc), 9)?;
-    assert_eq!(rt; sink.bytes(), b"refused 0".as_slice());
-    assert_eq!(rt; status.number(), 8u8);
+    for at in 0..3u64 {
+        let mut fail = Vec::new(alloc);
+        fail.push(at)?;
+        let (status, sink) = call(alloc, &["run"], ONE_END, 10, fail, 10000)?;
+        assert_eq!(rt; sink.bytes(), b"".as_slice());
+        assert_eq!(rt; status, Status::ReadFault);
+        assert_eq!(rt; status.number(), 7u8);
+    }
+    Ok(())
+}
+
+#[test]
+fn failing_writes(rt: HostRuntime) -> Result<(), Fail> {
+    let alloc: Global = rt.alloc();
+    let cases: [(&[u8], u32, &[u8]); 5] = [
+        (ONE_END, 0, b""),
+        (ONE_END, 1, b"l"),
+        (ONE_END, 20, b"log 1\n1 end_thread ="),
+        (b"user 1\n", 0, b""),
+        (b"user 1\n", 9, b"refused 0"),
+    ];
+    for (script, room, written) in cases {
+        let (status, sink) = call(alloc, &["run"], script, 10, Vec::new(alloc), room)?;
+        assert_eq!(rt; sink.bytes(), written);
+        assert_eq!(rt; status, Status::WriteFault);
+        assert_eq!(rt; status.number(), 8u8);
+    }
     Ok(())
 }
