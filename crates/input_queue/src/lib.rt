@@ -1,0 +1,13 @@
+//! The mouse and keyboard input that no thread has taken yet, in the order of its injection.
+//!
+//! Attached threads share one queue of input, so an element is taken only in its turn among those of the
+//! group (Microsoft, AttachThreadInput function).
+#![tactic(auto)]
+
+mod element;
+mod inputs;
+#[cfg(test)]
+mod tests;
+
+pub use element::Element;
+pub use inputs::Inputs;

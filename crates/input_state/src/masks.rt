@@ -1,0 +1,31 @@
+//! Sets of threads: bit t for thread t.
+
+ghost use Rattle.std.specs.Prelude.{◌≡◌, ◌≢◌, ℕ, ◌<◌};
+ghost use Rattle.std.specs.Int.{bit_at};
+ghost use Rattle.input_state.specs.Groups.{has_bit};
+
+/// Whether the set has thread `t`.
+pub fn has(mask: u16, t: usize) -> bool
+    requires { t < 16 }
+    ensures { result ≡ has_bit mask t }
+{
+    (mask >> t) & 1 == 1
+}
+
+/// The set with thread `t`.
+pub fn with_member(mask: u16, t: usize) -> u16
+    requires { t < 16 }
+    ensures member { bit_at result t ≡ 1 }
+    ensures others { (u : ℕ) → u ≢ t → bit_at result u ≡ bit_at mask u }
+{
+    mask | 1 << t
+}
+
+/// The set without thread `t`.
+pub fn without_member(mask: u16, t: usize) -> u16
+    requires { t < 16 }
+    ensures member { bit_at result t ≡ 0 }
+    ensures others { (u : ℕ) → u < 16 → u ≢ t → bit_at result u ≡ bit_at mask u }
+{
+    mask & !(1 << t)
+}

@@ -1,0 +1,94 @@
+-- Lists of settings.
+use Rattle.std.proofs.Common.{◌≡◌, ◌&&◌, ℕ, ◌+◌, ◌<◌, ◌≤◌, ◌^◌, take, drop, ◌==◌, Bool, true, false, not, cond, List, [], ◌∷◌, ◌++◌, length, get_or, set, Option, Some, None, refl, ap, sym, ◌∙◌, arith}
+use Rattle.std.proofs.lemmas.List.Elements.{filter-append, All-filter, All-push, All-map, All-weaker}
+use Rattle.std.proofs.lemmas.List.{append-nil, append_assoc, drop_all, take_all, length-map, length-take-le, drop_more, take_more, get_or_at, set_at, map-append}
+use Rattle.std.proofs.lemmas.Bool.Decides.{nat_tests}
+use Rattle.std.specs.Option.{option_map}
+use Rattle.win_num.specs.declared.message.Hwnd.{Hwnd}
+use Rattle.win_num.specs.declared.message.Thread.{Thread}
+use Rattle.timer_source.specs.declared.setting.Setting.{Setting}
+use Rattle.timer_source.specs.declared.timer.Timer.{Timer}
+use Rattle.timer_source.specs.Settings.{AreEarly, is_of, without, without_window, anew, restarted, sooner, soonest, timer_of, passing, first_passing, or_timer, with_timer}
+
+-- what is taken out leaves early settings
+pub early_without : (w : Hwnd) (id : ℕ) (settings left : List Setting) → left ≡ without w id settings → AreEarly settings → AreEarly left
+early_without w id settings left e early = rw e (All-filter (λ s. not (is_of w id s)) (λ s. s.base < 2 ^ 54) settings early)
+
+-- the same of a window's
+pub early_without_window : (w : Hwnd) (settings left : List Setting) → left ≡ without_window w settings → AreEarly settings → AreEarly left
+early_without_window w settings left e early = rw e (All-filter (λ s. not (s.hwnd.0 == w.0)) (λ s. s.base < 2 ^ 54) settings early)
+
+-- a new one at an early clock
+pub early_push : (settings left : List Setting) (s : Setting) → left ≡ settings ++ s ∷ [] → AreEarly settings → s.base < 2 ^ 54 → AreEarly left
+early_push settings left s e early now = rw e (All-push (λ r. r.base < 2 ^ 54) settings s early now)
+
+-- begun anew at an early clock
+pub early_base : (w : Hwnd) (id clock : ℕ) (s : Setting) → clock < 2 ^ 54 → s.base < 2 ^ 54 → (anew w id clock s).base < 2 ^ 54
+early_base w id clock s now early = elim (is_of w id s) as (λ b. (cond b (record s { base = clock }) s).base < 2 ^ 54) [ true ↦ now | false ↦ early ]
+
+pub early_restarted : (w : Hwnd) (id clock : ℕ) (settings left : List Setting) → left ≡ restarted w id clock settings → clock < 2 ^ 54 → AreEarly settings → AreEarly left
+early_restarted w id clock settings left e now early = rw e (All-map (λ s. s.base < 2 ^ 54) _ settings (All-weaker (λ s. s.base < 2 ^ 54) _ (λ s h. early_base w id clock s now h) settings early))
+
+-- of three, it does not matter which two are compared first
+pub sooner_assoc : (x r s : Setting) → sooner x (Some (sooner r (Some s))) ≡ sooner (sooner x (Some r)) (Some s)
+sooner_assoc x r s = grind (arith, nat_tests)
+
+-- the one of a list that is due first, and one behind it
+abbrev pub or_later : Option Setting → Setting → Setting
+or_later None s = s
+or_later (Some r) s = sooner r (Some s)
+
+pub soonest-push : (settings : List Setting) (s : Setting) → soonest (settings ++ s ∷ []) ≡ Some (or_later (soonest settings) s)
+soonest-push [] s = refl
+soonest-push (x ∷ settings) s = ap (λ m. Some (sooner x m)) (soonest-push settings s) ∙ ap Some (regrouped (soonest settings))
+  where
+    regrouped : (m : Option Setting) → sooner x (Some (or_later m s)) ≡ sooner (sooner x m) (Some s)
+    regrouped None = refl
+    regrouped (Some r) = sooner_assoc x r s
+
+pub timer_of-or_later : (m : Option Setting) (s : Setting) → timer_of (or_later m s) ≡ or_timer (option_map timer_of m) (timer_of s)
+timer_of-or_later None s = refl
+timer_of-or_later (Some r) s = grind (arith, nat_tests)
+
+-- one more setting of the thread behind the others
+pub first_passing-own : (t : Thread) (test : Timer → Bool) (settings : List Setting) (s : Setting) → (s.thread.0 == t.0) ≡ true → first_passing t test (settings ++ s ∷ []) ≡ with_timer test (first_passing t test settings) (timer_of s)
+first_passing-own t test settings s own = ap (λ kept. option_map timer_of (soonest kept)) (filter-append (λ r. (r.thread.0 == t.0) && test (timer_of r)) settings (s ∷ [])) ∙ rw own (by_answer (test (timer_of s)))
+  where
+    by_answer : (b : Bool) → option_map timer_of (soonest (passing t test settings ++ cond b (s ∷ []) [])) ≡ cond b (Some (or_timer (first_passing t test settings) (timer_of s))) (first_passing t test settings)
+    by_answer true = ap (option_map timer_of) (soonest-push (passing t test settings) s) ∙ ap Some (timer_of-or_later (soonest (passing t test settings)) s)
+    by_answer false = ap (λ kept. option_map timer_of (soonest kept)) (append-nil (passing t test settings))
+
+-- one more setting of another thread
+pub first_passing-other : (t : Thread) (test : Timer → Bool) (settings : List Setting) (s : Setting) → (s.thread.0 == t.0) ≡ false → first_passing t test (settings ++ s ∷ []) ≡ first_passing t test settings
+first_passing-other t test settings s other = ap (λ kept. option_map timer_of (soonest kept)) (filter-append (λ r. (r.thread.0 == t.0) && test (timer_of r)) settings (s ∷ []) ∙ rw other (append-nil (passing t test settings)))
+
+-- a slice of all elements, written back
+pub written_back : (n : ℕ) (new old : List Setting) → length new ≡ length old → length old ≤ n → take n (new ++ drop (length new) old) ≡ new
+written_back n new old same fits = rw (drop_all (length new) old (omega arith), append-nil) (take_all n new (omega arith))
+
+pub anew-true : (w : Hwnd) (id clock : ℕ) (s : Setting) → is_of w id s ≡ true → record s { base = clock } ≡ anew w id clock s
+anew-true w id clock s is = rw is refl
+
+pub anew-false : (w : Hwnd) (id clock : ℕ) (s : Setting) → is_of w id s ≡ false → s ≡ anew w id clock s
+anew-false w id clock s is = rw is refl
+
+-- one more setting begun anew, as at a step of a loop
+pub restarted-step : (w : Hwnd) (id clock i : ℕ) (xs ys : List Setting) (y d : Setting) → i < length xs → ys ≡ restarted w id clock (take i xs) ++ drop i xs → y ≡ anew w id clock (get_or ys i d) → set ys i y ≡ restarted w id clock (take (i + 1) xs) ++ drop (i + 1) xs
+restarted-step w id clock i xs ys y d l e ey =
+    let front : List Setting = restarted w id clock (take i xs) in
+    let rest : List Setting = drop (i + 1) xs in
+    let x : Setting = get_or xs i d in
+    let len : length front ≡ i = length-map (take i xs) (anew w id clock) ∙ length-take-le i xs (omega arith) in
+    let shape : ys ≡ front ++ x ∷ rest = e ∙ ap (λ r. front ++ r) (drop_more xs i d l) in
+    let read : get_or ys i d ≡ x = ap (λ r. get_or r i d) shape ∙ get_or_at front x rest d i len in
+    let written : set ys i y ≡ front ++ y ∷ rest = ap (λ r. set r i y) shape ∙ set_at front x rest y i len in
+    let longer : restarted w id clock (take (i + 1) xs) ≡ front ++ anew w id clock x ∷ [] = ap (restarted w id clock) (take_more xs i d l) ∙ map-append (anew w id clock) (take i xs) (x ∷ []) in
+    written ∙ ap (λ v. front ++ v ∷ rest) (ey ∙ ap (anew w id clock) read) ∙ sym (ap (λ r. r ++ rest) longer ∙ append_assoc front (anew w id clock x ∷ []) rest)
+
+-- a loop's step at a timer of the thread
+pub own_step : (t : Thread) (test : Timer → Bool) (settings : List Setting) (i : ℕ) (d : Setting) (best next : Option Timer) → i < length settings → ((get_or settings i d).thread.0 == t.0) ≡ true → best ≡ first_passing t test (take i settings) → next ≡ with_timer test best (timer_of (get_or settings i d)) → next ≡ first_passing t test (take (i + 1) settings)
+own_step t test settings i d best next l own before e = rw (take_more settings i d l) (e ∙ ap (λ b. with_timer test b (timer_of (get_or settings i d))) before ∙ sym (first_passing-own t test (take i settings) (get_or settings i d) own))
+
+-- and at one of another thread
+pub other_step : (t : Thread) (test : Timer → Bool) (settings : List Setting) (i : ℕ) (d : Setting) (best : Option Timer) → i < length settings → ((get_or settings i d).thread.0 == t.0) ≡ false → best ≡ first_passing t test (take i settings) → best ≡ first_passing t test (take (i + 1) settings)
+other_step t test settings i d best l other before = rw (take_more settings i d l) (before ∙ sym (first_passing-other t test (take i settings) (get_or settings i d) other))
