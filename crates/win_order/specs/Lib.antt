@@ -1,0 +1,5 @@
+pub mod Families
+pub mod Layers
+pub mod Mending
+pub mod Siblings
+pub mod Standings
