@@ -1,3 +1,5 @@
+pub mod Booleans
+pub mod MendingLaws
 pub mod Places
 pub mod Rewriting
 pub mod Walks

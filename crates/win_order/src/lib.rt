@@ -6,6 +6,7 @@
 
 mod after;
 mod families;
+pub mod laws;
 mod mending;
 mod order;
 mod standings;

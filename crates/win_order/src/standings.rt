@@ -67,11 +67,25 @@ fn is_topmost(standings: &[Standing], window: Hwnd) -> bool
 pub fn top_level(standings: &[Standing], window: Hwnd) -> TopLevel
     ensures { result ≡ top_level standings.now window }
 {
+    let known = older_from(standings, window);
     TopLevel {
         window,
-        owner: owner_of(standings, window),
-        topmost: is_topmost(standings, window),
+        owner: owner_of(known, window),
+        topmost: is_topmost(known, window),
     }
+}
+
+/// The window with all that are older, or nothing where it isn't there.
+fn older_from(standings: &[Standing], window: Hwnd) -> &[Standing]
+    ensures owner { owner_of result.now window.0 ≡ owner_of standings.now window.0 }
+    ensures topmost { is_topmost result.now window.0 ≡ is_topmost standings.now window.0 }
+{
+    for (place, standing) in standings.iter().enumerate() {
+        if standing.window == window {
+            return standings.split_at(place).1;
+        }
+    }
+    &[]
 }
 
 /// The same with one more window, the newest.
