@@ -1,0 +1,6 @@
+pub mod Booleans
+pub mod MendingLaws
+pub mod OrderLaws
+pub mod Places
+pub mod Rewriting
+pub mod Walks

@@ -1,0 +1,6 @@
+pub mod Families
+pub mod Layers
+pub mod Mended
+pub mod Mending
+pub mod Siblings
+pub mod Standings
