@@ -1,0 +1,4 @@
+pub mod Constants
+pub mod Messages
+pub mod Rows
+pub mod Tables

@@ -1,0 +1,8 @@
+use Rattle.std.proofs.Common.{◌≡◌, ◌+◌, false, take, ℕ}
+use Rattle.std.specs.Prelude.{All}
+use Rattle.std.specs.Fn.{FnReturnsAt}
+use Rattle.post_queue.specs.Slots.{posted_in}
+use Rattle.post_queue.proofs.posts.first_in.Given as goal
+
+abbrev pub invariant-loop-slot : goal.invariant-loop-slot
+invariant-loop-slot g l = All (λ q. FnReturnsAt g.F.Fn l.pass q.msg false) (take l.slot-index (posted_in l.slots)) × (l.steps ≡ l.initial.steps + l.slot-index)

@@ -1,0 +1,9 @@
+//! Window classes by name, and the numbers of registered messages.
+#![tactic(auto)]
+
+mod classes;
+
+pub use classes::{Class, Classes};
+
+#[cfg(test)]
+mod tests;
