@@ -45,7 +45,7 @@ impl<S: Journaled> TurnLock<S> {
         if seats.len() < self.seats as usize {
             return Err((self, seats));
         }
-        let TurnLock { board, seats: _ } = self;
+        let board = self.into_board();
         let place = gather(&board.shared, seats);
         Ok(settle(board, place))
     }

@@ -46,6 +46,13 @@ impl<S: Journaled> Model for TurnLock<S> {
     ghost invariant = { λ l. (l.board.shared.table_id.words ≡ 3) × (l.board.shared.table_id.slots ≡ 1) × (l.board.shared.key.seats ≡ l.seats) × (0 < l.seats) };
 }
 
+impl<S: Journaled + Drop> Drop for TurnLock<S> {
+    fn drop(self) {
+        let Self { board, seats: _ } = self;
+        drop(board);
+    }
+}
+
 // The table over the state, and its first seat.
 fn open<S: Journaled>(
     alloc: Global,
@@ -95,6 +102,15 @@ fn deal<S: Journaled>(top: &Top<S>, mut first: Place<S>, seats: u32, made: &mut 
 }
 
 impl<S: Journaled> TurnLock<S> {
+    // What is left of a lock that no thread shares any more.
+    pub(crate) fn into_board(self) -> Board<S>
+        ensures table { (result.shared.table_id ≡ self.table) × (result.shared.table_id.words ≡ 3) × (result.shared.table_id.slots ≡ 1) }
+        ensures key { (result.shared.key.state.value ≡ self.opening) × (result.shared.key.seats ≡ self.seats) }
+    {
+        let Self { board, seats: _ } = self;
+        board
+    }
+
     /// A lock over the state, and its seats with the numbers from 0 up, in order. There is at least one seat.
     /// Where memory runs out the state comes back.
     pub fn new(
