@@ -10,6 +10,8 @@ mod journaled;
 mod lock;
 mod plays;
 mod seat;
+#[cfg(test)]
+mod tests;
 mod turn;
 mod view;
 
