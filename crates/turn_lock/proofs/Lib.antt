@@ -1,0 +1,6 @@
+mod Closed
+mod Gathering
+mod Lists
+mod Results
+mod RuleKept
+mod Turns
