@@ -1,5 +1,5 @@
 -- What slots with rising numbers hold.
-use Rattle.std.proofs.Common.{◌≡◌, ◌≢◌, inl, inr, ℕ, zero, suc, ◌+◌, ◌<◌, ◌≤◌, ◌==◌, Bool, true, false, not, ◌&&◌, List, [], ◌∷◌, ◌++◌, length, take, map, filter, get_or, Option, Some, None, cond, refl, ap, subst, sym, ◌∙◌, arith}
+use Rattle.std.proofs.Common.{◌≡◌, ◌≢◌, inl, inr, ℕ, zero, suc, ◌+◌, ◌<◌, ◌≤◌, ◌==◌, Bool, true, false, not, ◌&&◌, List, [], ◌∷◌, ◌++◌, length, take, filter, get_or, Option, Some, None, refl, ap, subst, sym, ◌∙◌, arith}
 use Rattle.std.specs.Prelude.{find, position, All, option_map, remove, count_by, nat_lt}
 use Rattle.std.specs.List.{AllByRecursion, position_from}
 use Rattle.std.proofs.lemmas.Bool.{cases_Bool, eqb-true, eq-eqb, ne_eqb, cond-true, cond-false}
@@ -11,7 +11,7 @@ use Rattle.std.proofs.lemmas.Iterator.Adapters.{position_from-zero}
 use Rattle.win_num.specs.declared.message.Msg.{Msg}
 use Rattle.win_num.specs.declared.message.Hwnd.{Hwnd}
 use Rattle.post_queue.specs.declared.slot.Slot.{Slot}
-use Rattle.post_queue.specs.Queue.{Posted, post_of, message_of, without_number, without_window, count_for, count_above, is_for}
+use Rattle.post_queue.specs.Queue.{Posted, message_of, without_number, without_window, count_for, count_above, is_for}
 use Rattle.post_queue.specs.Slots.{posted_of, posted_in, IsRising, IsSound}
 
 -- all of the slots, and one more

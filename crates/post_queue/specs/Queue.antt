@@ -1,6 +1,5 @@
 -- Posted messages in posted order.
-use Rattle.std.specs.Prelude.{◌≡◌, ℕ, ◌+◌, ◌≤◌, ◌<◌, ◌==◌, nat_lt, Bool, true, false, not, ◌&&◌, List, [], ◌∷◌, ◌++◌, length, take, filter, count_by, find, map, All, Option, Some, None, option_map, slice_get}
-use Rattle.std.specs.List.Sorted.{IsStrictlyIncreasing}
+use Rattle.std.specs.Prelude.{◌≡◌, ℕ, ◌+◌, ◌==◌, nat_lt, Bool, true, false, not, ◌&&◌, List, length, take, filter, count_by, find, All, Option, Some, None, option_map, slice_get}
 use Rattle.win_num.specs.declared.message.Msg.{Msg}
 
 -- a posted message with its number

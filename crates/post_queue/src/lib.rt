@@ -8,3 +8,6 @@ mod steps;
 
 pub use posts::Posts;
 pub use steps::Steps;
+
+#[cfg(test)]
+mod tests;

@@ -1,4 +1,4 @@
-use Rattle.std.proofs.Common.{◌≡◌, ◌+◌, false, take, ℕ}
+use Rattle.std.proofs.Common.{◌≡◌, ◌+◌, false, take}
 use Rattle.std.specs.Prelude.{All}
 use Rattle.std.specs.Fn.{FnReturnsAt}
 use Rattle.post_queue.specs.Slots.{posted_in}

@@ -1,4 +1,4 @@
-use Rattle.std.proofs.Common.{◌≡◌, ◌<◌, ℕ, List, arith, sym, subst}
+use Rattle.std.proofs.Common.{◌<◌, List, arith, sym, subst}
 use Rattle.std.specs.Prelude.{All}
 use Rattle.post_queue.specs.declared.slot.Slot.{Slot}
 use Rattle.post_queue.specs.Queue.{Queue}

@@ -1,4 +1,4 @@
-use Rattle.std.proofs.Common.{◌≡◌, ℕ, List, Option, Some, None, not, ◌==◌, ap, sym, subst, ◌∙◌}
+use Rattle.std.proofs.Common.{◌≡◌, List, Option, Some, not, ◌==◌, ap, sym, subst, ◌∙◌}
 use Rattle.std.specs.Prelude.{position}
 use Rattle.win_num.specs.declared.message.Msg.{Msg}
 use Rattle.post_queue.specs.declared.slot.Slot.{Slot}
