@@ -1,0 +1,4 @@
+pub mod Geometry
+pub mod Gains
+pub mod Sweep
+pub mod Sets

@@ -1,0 +1,25 @@
+use Rattle.std.proofs.Common.{◌∙◌, ◌++◌, ap}
+use Rattle.band_region.proofs.Sets.{rest_at, region_at, xor_has, xor_region}
+use Rattle.band_region.proofs.region.Region.xor.Goals as goal
+
+pub invariant_of-result : goal.invariant_of-result
+invariant_of-result c =
+    let a = c.as_slice.ensures.value ∙ c.self.view_is in
+    let b = c.as_slice-2.ensures.value ∙ c.o.view_is in
+    let b2 = c.as_slice-3.ensures.value ∙ c.o.view_is in
+    let a2 = c.as_slice-4.ensures.value ∙ c.self.view_is in
+    let s = rest_at _ a b c.in_ok-rects.ensures in
+    let t = rest_at _ b2 a2 c.in_ok-others.ensures in
+    let e = c.in_ok-extend_from_slice.ensures.items ∙ ap (λ x. c.in_ok-rects.rects.items ++ x) c.as_slice-5.ensures.value in
+    xor_region _ _ _ _ _ s t e (region_at c.self.view_is c.self.invariant) (region_at c.o.view_is c.o.invariant)
+
+pub returns : goal.returns
+returns c =
+    let a = c.as_slice.ensures.value ∙ c.self.view_is in
+    let b = c.as_slice-2.ensures.value ∙ c.o.view_is in
+    let b2 = c.as_slice-3.ensures.value ∙ c.o.view_is in
+    let a2 = c.as_slice-4.ensures.value ∙ c.self.view_is in
+    let s = rest_at _ a b c.in_ok-rects.ensures in
+    let t = rest_at _ b2 a2 c.in_ok-others.ensures in
+    let e = c.in_ok-extend_from_slice.ensures.items ∙ ap (λ x. c.in_ok-rects.rects.items ++ x) c.as_slice-5.ensures.value in
+    xor_has _ _ _ _ _ s t e
