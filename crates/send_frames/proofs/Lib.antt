@@ -1,0 +1,4 @@
+pub mod Counting
+pub mod Ledger
+pub mod Maps
+pub mod Shown
