@@ -5,6 +5,8 @@
 mod lists;
 mod ready;
 mod row;
+#[cfg(test)]
+mod tests;
 
 pub use lists::ReadyLists;
 pub use ready::Ready;

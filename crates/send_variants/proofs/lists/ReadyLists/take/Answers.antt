@@ -1,4 +1,4 @@
-use Rattle.std.proofs.Common.{◌≡◌, ◌≤◌, List, length, sym, subst}
+use Rattle.std.proofs.Common.{◌≤◌, List, length, sym, subst}
 use Rattle.send_variants.specs.Lists.{Entry, IsSound}
 use Rattle.send_variants.proofs.Entries.{sound-take}
 use Rattle.send_variants.proofs.lists.ReadyLists.take.Goals as goal

@@ -1,8 +1,8 @@
-use Rattle.std.proofs.Common.{◌≡◌, ◌<◌, ◌≤◌, List, [], length, get_or, ap, sym, subst, ◌∙◌, Some, None, arith}
+use Rattle.std.proofs.Common.{◌≡◌, ap, sym, subst, ◌∙◌, Some, None, arith}
 use Rattle.std.specs.List.{position}
-use Rattle.send_variants.specs.Lists.{Entry, IsSound, all_without, count_in, has_send, place_on}
-use Rattle.send_variants.proofs.Places.{holder-none, holder-some, holder-within}
-use Rattle.send_variants.proofs.Entries.{count-total, length-all, sound-withdraw}
+use Rattle.send_variants.specs.Lists.{IsSound, all_without, has_send, place_on}
+use Rattle.send_variants.proofs.Places.{holder-none, holder-some}
+use Rattle.send_variants.proofs.Entries.{count-total, sound-withdraw}
 use Rattle.send_variants.proofs.lists.ReadyLists.withdraw.Goals as goal
 
 nowhere : (c : goal.In_default) → position (has_send c.args.s.0) c.self.inside.rows.items ≡ None

@@ -1,4 +1,4 @@
-use Rattle.std.proofs.Common.{◌≡◌, ◌≤◌, ap, sym, subst, ◌∙◌, Some, None}
+use Rattle.std.proofs.Common.{◌≡◌, ◌≤◌, ap, sym, subst, ◌∙◌, Some}
 use Rattle.std.specs.List.{position}
 use Rattle.send_variants.specs.Lists.{Entry, count_in, names, place_in, without}
 use Rattle.send_variants.proofs.Places.{at-none, at-some}
