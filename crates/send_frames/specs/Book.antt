@@ -97,6 +97,13 @@ is_send s (Some n) = s == n
 abbrev pub names : ℕ → Frame → Bool
 names s f = is_send s (named_by f)
 
+-- whether two frames are of one kind and name one send
+abbrev pub is_same : Frame → Frame → Bool
+is_same (Entered s) (Entered q) = s.0 == q.0
+is_same (Inside s) (Inside q) = s.0 == q.0
+is_same (Await s) (Await q) = s.0 == q.0
+is_same f g = false
+
 -- how many frames of a stack pass a test
 abbrev pub count_in : (Frame → Bool) → List Frame → ℕ
 count_in test [] = 0
@@ -106,6 +113,14 @@ count_in test (f ∷ fs) = (if test f then 1 else 0) + count_in test fs
 abbrev pub count_on : (Frame → Bool) → List (List Frame) → ℕ
 count_on test [] = 0
 count_on test (fs ∷ stacks) = count_in test fs + count_on test stacks
+
+-- at most one frame of each kind names a send
+abbrev pub AreNamedOnce : List (List Frame) → Type 0
+AreNamedOnce stacks = (f : Frame) → count_on (is_same f) stacks ≤ 1
+
+-- a frame names no send, or no frame of its kind names that send yet
+abbrev pub IsNewFrame : List (List Frame) → Frame → Type 0
+IsNewFrame stacks f = IfSome (named_by f) (λ _. count_on (is_same f) stacks ≡ 0)
 
 -- whether a send stays known: it has no answer, or its result is owed, or a frame that names it stands on a stack
 abbrev pub is_wanted : List (List Frame) → ℕ → KnownSend → Bool

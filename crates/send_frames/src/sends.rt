@@ -2,7 +2,7 @@
 
 ghost use Rattle.std.specs.Prelude.{◌≡◌, ◌+◌, ◌≤◌, ◌<◌, ◌-◌, List, [], length, vec_len, slice_index_or, slice_set, drop, replicate, IsSome, Option, Some, None, IfOk, OnOk, OnErr, MatchResult, option_and_then, option_copied, option_map, slice_get};
 ghost use Rattle.std.specs.FinMap as map;
-ghost use Rattle.send_frames.specs.Book.{Book, IsFaultFor, IsSound, IsThread, NamesKnown, answered_by, begun_by, forgotten, is_open, is_too_deep, named_by, no_sends, popped, pushed, refusal_at_begin, stack_of, with_top};
+ghost use Rattle.send_frames.specs.Book.{AreNamedOnce, Book, IsFaultFor, IsNewFrame, IsSound, IsThread, NamesKnown, answered_by, begun_by, forgotten, is_open, is_too_deep, named_by, no_sends, popped, pushed, refusal_at_begin, stack_of, with_top};
 
 use crate::row::SendRow;
 use crate::stack::{DEPTH, Stack};
@@ -45,7 +45,8 @@ impl Sends {
     /// No send, and an empty stack for each thread, with room for 64 frames.
     pub fn new(alloc: Global, threads: u8) -> Result<Sends, AllocError>
         requires { (1 ≤ threads) × (threads ≤ 15) }
-        ensures { IfOk result (λ s. s ≡ no_sends threads) }
+        ensures empty { IfOk result (λ s. s ≡ no_sends threads) }
+        ensures once { IfOk result (λ s. AreNamedOnce s.stacks) }
     {
         let stacks = empty_stacks(alloc, threads)?;
         let table = Table::new(alloc);
@@ -65,6 +66,7 @@ impl Sends {
         requires to { IsThread self.old row.to.0 }
         ensures number { IfOk result (λ s. s.0 ≡ self.old.begun + 1) }
         ensures begun { OnOk result (self.new ≡ begun_by self.old row) }
+        ensures once { OnOk result (AreNamedOnce self.old.stacks → AreNamedOnce self.new.stacks) }
         ensures cause { MatchResult result (λ _. refusal_at_begin self.old row ≡ None) (λ fault. IsFaultFor (refusal_at_begin self.old row) fault) }
         ensures err { OnErr result (self.new ≡ self.old) }
         ensures threads { length self.new.stacks ≡ length self.old.stacks }
@@ -121,6 +123,7 @@ impl Sends {
         requires thread { IsThread self.old t.0 }
         requires named { NamesKnown self.old f }
         ensures pushed { OnOk result (self.new ≡ pushed self.old t.0 f) }
+        ensures once { OnOk result (IsNewFrame self.old.stacks f → AreNamedOnce self.old.stacks → AreNamedOnce self.new.stacks) }
         ensures cause { MatchResult result (λ _. length (stack_of self.old t.0) < 64) (λ fault. (fault ≡ Fault.Refused (Code.Win 1001)) × (64 ≤ length (stack_of self.old t.0))) }
         ensures err { OnErr result (self.new ≡ self.old) }
         ensures threads { length self.new.stacks ≡ length self.old.stacks }
@@ -140,6 +143,7 @@ impl Sends {
         requires { IsThread self.old t.0 }
         ensures frame { result ≡ slice_get (stack_of self.old t.0) 0 }
         ensures rest { self.new ≡ popped self.old t.0 }
+        ensures once { AreNamedOnce self.old.stacks → AreNamedOnce self.new.stacks }
         ensures threads { length self.new.stacks ≡ length self.old.stacks }
         ensures sound { IsSound self.new }
     {
@@ -170,6 +174,7 @@ impl Sends {
     pub fn answer(&mut self, s: SendId, value: u64, cause: Cause) -> bool
         ensures told { result ≡ is_open (map.get self.old.known s.0) }
         ensures kept { self.new ≡ answered_by self.old s.0 (value, cause) }
+        ensures stacks { self.new.stacks ≡ self.old.stacks }
         ensures threads { length self.new.stacks ≡ length self.old.stacks }
         ensures sound { IsSound self.new }
     {
@@ -180,6 +185,7 @@ impl Sends {
     /// changes nothing for a send that isn't known, or whose result is owed to nobody.
     pub fn forget(&mut self, s: SendId)
         ensures forgotten { self.new ≡ forgotten self.old s.0 }
+        ensures stacks { self.new.stacks ≡ self.old.stacks }
         ensures threads { length self.new.stacks ≡ length self.old.stacks }
         ensures sound { IsSound self.new }
     {

@@ -1,8 +1,9 @@
 use Rattle.std.proofs.Common.{◌≡◌, ◌≤◌, ap, sym, subst, ◌∙◌, length}
 use Rattle.std.specs.FinMap as map
-use Rattle.send_frames.specs.Book.{Book, begun_by, refusal_at_begin, with_top}
+use Rattle.send_frames.specs.Book.{AreNamedOnce, Book, begun_by, refusal_at_begin, with_top}
 use Rattle.send_frames.specs.Items.{Agrees}
 use Rattle.send_frames.proofs.Ledger.{after-begin, book_of, sound, unrefused-parts}
+use Rattle.send_frames.proofs.Once.{once-begin}
 use Rattle.send_frames.proofs.sends.Sends.begin.Goals as goal
 
 after : (c : goal.After-put_on_top) → Agrees c.in-Some-checked_add.number c.put_on_top.new.stacks.items c.add.new.self
@@ -24,3 +25,9 @@ returns-clause-begun c = (after c).1 ∙ ap (λ b. begun_by b c.args.row) c.self
 
 pub returns-clause-sound : goal.returns-clause-sound
 returns-clause-sound c = sound c.in-Some-checked_add.number c.put_on_top.new.stacks.items c.add.new.self (after c).0
+
+pub returns-clause-once : goal.returns-clause-once
+returns-clause-once c once =
+    let high : c.args.row.from.0 ≤ length c.self.inside.stacks.items = subst (λ (b : Book). c.args.row.from.0 ≤ length b.stacks) (sym c.self.view_is) c.requires.from.1 in
+    subst AreNamedOnce (sym (ap (λ (b : Book). b.stacks) (after c).1)) (once-begin c.self.inside.begun c.self.inside.stacks.items c.self.inside.table c.args.row c.self.invariant c.requires.from.0 high
+    (subst (λ (b : Book). AreNamedOnce b.stacks) (sym c.self.view_is) once))

@@ -1,8 +1,9 @@
-use Rattle.std.proofs.Common.{◌≡◌, ◌≤◌, ap, sym, subst, ◌∙◌, length}
+use Rattle.std.proofs.Common.{◌≡◌, ◌-◌, ◌≤◌, ap, sym, subst, ◌∙◌, length, arith}
 use Rattle.std.specs.Option.{option_and_then}
-use Rattle.send_frames.specs.Book.{Book, named_by, popped}
+use Rattle.send_frames.specs.Book.{AreNamedOnce, Book, named_by, popped}
 use Rattle.send_frames.specs.Items.{Agrees, counted_down}
 use Rattle.send_frames.proofs.Ledger.{after-pop, book_of, room-pop, sound}
+use Rattle.send_frames.proofs.Once.{once-pop}
 use Rattle.send_frames.proofs.sends.Sends.pop.Goals as goal
 
 pub count_down-requires : goal.count_down-requires
@@ -25,3 +26,9 @@ returns-clause-rest c = (after c).1 ∙ ap (λ b. popped b c.args.t.0) c.self.vi
 
 pub returns-clause-sound : goal.returns-clause-sound
 returns-clause-sound c = sound c.self.inside.begun c.take_top-frame.new.stacks.items c.count_down.new.self (after c).0
+
+pub returns-clause-once : goal.returns-clause-once
+returns-clause-once c once =
+    let high : c.args.t.0 ≤ length c.self.inside.stacks.items = subst (λ (b : Book). c.args.t.0 ≤ length b.stacks) (sym c.self.view_is) c.requires.1 in
+    subst AreNamedOnce (sym c.take_top-frame.ensures.rest) (once-pop c.self.inside.stacks.items (c.args.t.0 - 1) (omega (arith, high, c.requires.0))
+    (subst (λ (b : Book). AreNamedOnce b.stacks) (sym c.self.view_is) once))

@@ -1,9 +1,10 @@
 use Rattle.std.proofs.Common.{◌≡◌, ◌-◌, ◌<◌, ◌≤◌, [], get_or, ap, sym, subst, ◌∙◌, length, arith}
 use Rattle.std.specs.Prelude.{IfSome, IsSome}
 use Rattle.std.specs.FinMap as map
-use Rattle.send_frames.specs.Book.{Book, named_by, pushed, stack_of}
+use Rattle.send_frames.specs.Book.{AreNamedOnce, Book, IsNewFrame, named_by, pushed, stack_of}
 use Rattle.send_frames.specs.Items.{Agrees, counted_up}
 use Rattle.send_frames.proofs.Ledger.{after-push, book_of, named-known, room-up, sound}
+use Rattle.send_frames.proofs.Once.{once-push}
 use Rattle.send_frames.proofs.sends.Sends.push.Goals as goal
 
 pub count_up-requires : goal.count_up-requires
@@ -27,3 +28,9 @@ returns-clause-pushed c = (after c).1 ∙ ap (λ b. pushed b c.args.t.0 c.args.f
 
 pub returns-clause-sound : goal.returns-clause-sound
 returns-clause-sound c = sound c.self.inside.begun c.put_on_top.new.stacks.items c.count_up.new.self (after c).0
+
+pub returns-clause-once : goal.returns-clause-once
+returns-clause-once c new once =
+    let high : c.args.t.0 ≤ length c.self.inside.stacks.items = subst (λ (b : Book). c.args.t.0 ≤ length b.stacks) (sym c.self.view_is) c.requires.thread.1 in
+    subst AreNamedOnce (sym c.put_on_top.ensures) (once-push c.self.inside.stacks.items (c.args.t.0 - 1) c.args.f (omega (arith, high, c.requires.thread.0))
+    (subst (λ (b : Book). IsNewFrame b.stacks c.args.f) (sym c.self.view_is) new) (subst (λ (b : Book). AreNamedOnce b.stacks) (sym c.self.view_is) once))
