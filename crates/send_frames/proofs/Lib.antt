@@ -1,0 +1,5 @@
+pub mod Counting
+pub mod Ledger
+pub mod Maps
+pub mod Once
+pub mod Shown
