@@ -101,9 +101,8 @@ impl<S: Journaled> TurnLock<S> {
             ⊎ Finds S.history S.setting (λ g h. (S.is_full g h ≡ true) × (a ≡ S.refusal g h call)) self.now.opening seat.old seat.new) }
         ensures no_memory { OnErr result (seat.new.mine ≡ seat.old.mine) }
     {
-        let top = &self.board.shared;
-        let state = take(rt, top, &mut seat.place);
-        make(top, &mut seat.place, state, call)
+        let state = take(rt, &self.board.shared, &mut seat.place);
+        make(&self.board.shared, &mut seat.place, state, call)
     }
 
     /// Waits for the seat's turn and makes the call, if it has to wait for no other.
