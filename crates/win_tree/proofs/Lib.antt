@@ -1,0 +1,5 @@
+pub mod Drops
+pub mod Marking
+pub mod Numbers
+pub mod Searches
+pub mod Walks

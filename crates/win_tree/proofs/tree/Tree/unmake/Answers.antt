@@ -1,0 +1,12 @@
+use Rattle.std.proofs.Common.{◌≡◌, ◌∙◌, length, map, refl, sym, ap, arith}
+use Rattle.win_tree.specs.Windows.{number_of}
+use Rattle.win_tree.specs.Destruction.{given}
+use Rattle.win_tree.proofs.Numbers.{whole, given_numbers}
+use Rattle.win_tree.proofs.tree.Tree.unmake.Goals as goal
+
+pub invariant_of-self : goal.invariant_of-self
+invariant_of-self c =
+    let old = c.self.inside.windows.items in
+    let new = c.give.new.windows in
+    let long : c.self.inside.windows.len ≡ length new = omega arith in
+    c.self.invariant ∙ sym (ap (map number_of) (whole c.self.inside.windows.len new old long ∙ (c.give.ensures ∙ ap (given c.next_step-step.result) c.deref_mut.ensures.value)) ∙ given_numbers c.next_step-step.result old)
