@@ -42,7 +42,7 @@ stays p ks (x ∷ us) h =
       | inr h0 ↦ rw (h0, filter) rest
     ]
 
-agree : (p q : Window → Bool) → ((x : Window) → p x ≡ q x) → (ws : List Window) → filter p ws ≡ filter q ws
+pub agree : (p q : Window → Bool) → ((x : Window) → p x ≡ q x) → (ws : List Window) → filter p ws ≡ filter q ws
 agree p q h [] = refl
 agree p q h (x ∷ ws) = elim (cases_Bool (q x)) [
   | inl h1 ↦ rw (h x, h1, filter) (ap (λ (vs : List Window). x ∷ vs) (agree p q h ws))

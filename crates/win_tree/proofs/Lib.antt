@@ -1,3 +1,4 @@
+pub mod Alone
 pub mod Drops
 pub mod Marking
 pub mod Numbers

@@ -1,7 +1,7 @@
 -- Who stands above whom. A number bounds each walk up: what stands above a window is older, so of a
 -- lesser number.
 use Rattle.std.specs.Prelude.{◌≡◌, nat_le, if◌then◌else◌, ℕ, zero, suc, ◌==◌, Bool, true, false, not, ◌&&◌, ◌||◌, List, [], ◌∷◌, ◌++◌, map, length, Option, Some, None, bit_and}
-use Rattle.std.specs.List.{filter}
+use Rattle.std.specs.List.{filter, list_any}
 use Rattle.win_num.specs.declared.message.Hwnd.{Hwnd}
 use Rattle.win_num.specs.declared.code.Code.{Code}
 use Rattle.win_num.specs.declared.code.Fault.{Fault}
@@ -28,6 +28,10 @@ kin_within (suc n) ws v w = elim (w == 0) [ true ↦ false | false ↦ elim (w =
 -- whether w is v, or stands below v or is owned by it, by however many steps
 abbrev pub is_kin : List Window → ℕ → ℕ → Bool
 is_kin ws v w = kin_within w ws v w
+
+-- whether nothing stands directly below w or is owned by it
+abbrev pub is_alone : List Window → ℕ → Bool
+is_alone ws w = not (w == 0) && not (list_any (λ x. (up x).0 == w) ws)
 
 -- w's parent is v, or stands below v
 abbrev pub below_within : ℕ → List Window → ℕ → ℕ → Bool

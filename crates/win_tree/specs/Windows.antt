@@ -58,6 +58,10 @@ ended_if w x = record x { ended = x.ended || (x.number.0 == w) }
 abbrev pub marked_also : Bool → Window → Window
 marked_also also x = record x { marked = x.marked || also }
 
+-- the window, marked also if it is w
+abbrev pub marked_if : ℕ → Window → Window
+marked_if w x = marked_also (x.number.0 == w) x
+
 -- the window, with this style and place if it is w
 abbrev pub set_if : ℕ → ℕ → ℕ → Rect → Window → Window
 set_if w style ex place x = if x.number.0 == w then record x { row = record x.row { style = style; ex = ex; place = place } } else x

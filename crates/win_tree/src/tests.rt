@@ -113,11 +113,19 @@ fn rows_and_walks(rt: HostRuntime) -> Result<(), Fail> {
 }
 
 #[test]
-fn a_thousand_windows_are_the_limit(rt: HostRuntime) -> Result<(), Fail> {
+fn a_thousand_windows(rt: HostRuntime) -> Result<(), Fail> {
     let mut tree = Tree::new(rt.alloc());
     for number in 16..1040u32 {
         assert_eq!(rt; tree.add(row(0, 0, 0)?), Ok(Hwnd(number)));
     }
     assert_eq!(rt; tree.add(row(0, 0, 0)?), Err(Fault::Refused(Code::Full)));
+    for number in 16..1040u32 {
+        let w = Hwnd(number);
+        assert_eq!(rt; tree.doom(w), Ok(()));
+        assert_eq!(rt; tree.unmake(w), Unmade::Tell(w));
+        assert_eq!(rt; tree.unmake(w), Unmade::Last(w));
+        assert_eq!(rt; tree.drop_one(w), Ok(()));
+    }
+    assert_eq!(rt; tree.add(row(0, 0, 0)?), Ok(Hwnd(1040)));
     Ok(())
 }

@@ -2,8 +2,8 @@
 
 ghost use Rattle.std.specs.Prelude.{◌≡◌, ◌+◌, ◌<◌, ◌++◌, ◌∷◌, [], List, length, map, not, IsTrue, IfOk, OnOk, OnErr, MatchResult, Option, Some, None, IfNone, ◌^◌, ◌==◌, option_copied, option_map};
 ghost use Rattle.std.specs.List.{filter, list_any};
-ghost use Rattle.win_tree.specs.Windows.{no_windows, number_of, window_of, is_live, is_marked, is_ended, told_if, ended_if, set_if, next_top};
-ghost use Rattle.win_tree.specs.Kin.{IsFaultFor, is_bad, refusal, next_number, settled, with_window, doomed, doom_refusal, dropped, drop_refusal, is_below};
+ghost use Rattle.win_tree.specs.Windows.{no_windows, number_of, window_of, is_live, is_marked, is_ended, told_if, ended_if, set_if, next_top, up, marked_if};
+ghost use Rattle.win_tree.specs.Kin.{IsFaultFor, is_bad, refusal, next_number, settled, with_window, doomed, doom_refusal, dropped, drop_refusal, is_below, is_alone};
 ghost use Rattle.win_tree.specs.Destruction.{unmade, given};
 
 use crate::destruction::first_left;
@@ -196,6 +196,26 @@ impl Tree {
     fn drop_kin(&mut self, w: Hwnd)
         ensures { self.new ≡ record self.old { live = dropped self.old.live w.0 } }
     {
+        if is_alone(&self.windows, w) {
+            self.drop_alone(w);
+        } else {
+            self.drop_each(w);
+        }
+    }
+
+    /// Takes out a window that has no other kin.
+    fn drop_alone(&mut self, w: Hwnd)
+        requires { IsTrue (is_alone self.old.live w.0) }
+        ensures { self.new ≡ record self.old { live = dropped self.old.live w.0 } }
+    {
+        self.numbers.retain(|v| *v != w);
+        self.windows.retain(|x| x.number != w);
+    }
+
+    /// Takes out each window that is of the window's kin.
+    fn drop_each(&mut self, w: Hwnd)
+        ensures { self.new ≡ record self.old { live = dropped self.old.live w.0 } }
+    {
         let windows = &self.windows;
         self.numbers.retain(|v| !is_kin(windows, w, *v));
         let numbers = &self.numbers;
@@ -287,6 +307,43 @@ fn set_row(windows: &mut [Window], w: Hwnd, style: u32, ex: u32, place: Rect)
 
 /// Marks a window with its kin.
 fn mark_kin(windows: &mut [Window], w: Hwnd)
+    ensures { windows.new ≡ doomed windows.old w.0 }
+{
+    if is_alone(windows, w) {
+        mark_one(windows, w);
+    } else {
+        mark_each(windows, w);
+    }
+}
+
+/// Whether nothing stands directly below the window or is owned by it.
+fn is_alone(windows: &[Window], w: Hwnd) -> bool
+    ensures { result ≡ is_alone windows.now w.0 }
+{
+    if w == Hwnd(0) {
+        return false;
+    }
+    !has_above(windows, w)
+}
+
+/// Whether the window is the parent or owner of one of these.
+fn has_above(windows: &[Window], w: Hwnd) -> bool
+    ensures { result ≡ list_any (λ x. (up x).0 == w.0) windows.now }
+{
+    windows.iter().any(|x| x.up() == w)
+}
+
+/// Marks a window alone.
+fn mark_one(windows: &mut [Window], w: Hwnd)
+    ensures { windows.new ≡ map (marked_if w.0) windows.old }
+{
+    for x in windows.iter_mut() {
+        *x = x.marked_if(w);
+    }
+}
+
+/// Marks each window that is of the window's kin.
+fn mark_each(windows: &mut [Window], w: Hwnd)
     ensures { windows.new ≡ doomed windows.old w.0 }
 {
     for i in 0..windows.len() {

@@ -1,7 +1,7 @@
 //! A live window.
 
 ghost use Rattle.std.specs.Prelude.{◌≡◌};
-ghost use Rattle.win_tree.specs.Windows.{up, made, told_if, ended_if, set_if, marked_also};
+ghost use Rattle.win_tree.specs.Windows.{up, made, told_if, ended_if, set_if, marked_also, marked_if};
 
 use crate::row::WindowRow;
 use win_num::{Hwnd, Rect};
@@ -72,6 +72,13 @@ impl Window {
             marked: self.marked || also,
             ..*self
         }
+    }
+
+    /// The same, marked also if it is this window.
+    pub fn marked_if(&self, window: Hwnd) -> Self
+        ensures { result ≡ marked_if window.0 self.now }
+    {
+        self.marked_also(self.number == window)
     }
 
     /// The same, with this style and place if it is this window.

@@ -4,7 +4,7 @@ use Rattle.std.proofs.lemmas.Fn.{filter_same}
 use Rattle.win_tree.specs.Windows.{number_of}
 use Rattle.win_tree.specs.Kin.{is_kin, dropped}
 use Rattle.win_tree.proofs.Drops.{kept_numbers, kept_windows}
-use Rattle.win_tree.proofs.tree.Tree.drop_kin.Goals as goal
+use Rattle.win_tree.proofs.tree.Tree.drop_each.Goals as goal
 
 pub invariant_of-self : goal.invariant_of-self
 invariant_of-self c =
