@@ -1,5 +1,5 @@
 -- The live windows, the oldest first.
-use Rattle.std.specs.Prelude.{if◌then◌else◌, ℕ, ◌==◌, nat_lt, Bool, true, false, ◌&&◌, ◌||◌, List, [], ◌∷◌, map, Option, Some, None, option_map, is_some, find, unwrap_or, ◌<◌}
+use Rattle.std.specs.Prelude.{if◌then◌else◌, ℕ, ◌==◌, nat_lt, Bool, true, false, ◌&&◌, ◌||◌, List, [], ◌∷◌, map, Option, Some, None, option_map, is_some, find, unwrap_or, ◌<◌, ◌≤◌}
 use Rattle.win_num.specs.declared.message.Hwnd.{Hwnd}
 use Rattle.win_num.specs.declared.shapes.Rect.{Rect}
 use Rattle.win_tree.specs.declared.row.WindowRow.{WindowRow}
@@ -45,6 +45,11 @@ is_ended ws w = unwrap_or (option_map (λ x. x.ended) (window_of ws w)) false
 -- the parent of a child, else the owner, or 0
 abbrev pub up : Window → Hwnd
 up x = if x.row.parent.0 == 0 then x.row.owner else x.row.parent
+
+-- the numbers rise from above a first one up to the last, and what stands above a window is older
+abbrev pub IsOrdered : ℕ → ℕ → List Window → Type 0
+IsOrdered from last [] = from ≤ last
+IsOrdered from last (x ∷ ws) = (from < x.number.0) × ((up x).0 < x.number.0) × IsOrdered x.number.0 last ws
 
 -- the window, told if it is w
 abbrev pub told_if : ℕ → Window → Window

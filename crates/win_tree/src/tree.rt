@@ -2,7 +2,7 @@
 
 ghost use Rattle.std.specs.Prelude.{◌≡◌, ◌+◌, ◌<◌, ◌++◌, ◌∷◌, [], List, length, map, not, IsTrue, IfOk, OnOk, OnErr, MatchResult, Option, Some, None, IfNone, ◌^◌, ◌==◌, option_copied, option_map};
 ghost use Rattle.std.specs.List.{filter, list_any};
-ghost use Rattle.win_tree.specs.Windows.{no_windows, number_of, window_of, is_live, is_marked, is_ended, told_if, ended_if, set_if, next_top, up, marked_if};
+ghost use Rattle.win_tree.specs.Windows.{IsOrdered, no_windows, number_of, window_of, is_live, is_marked, is_ended, told_if, ended_if, set_if, next_top, up, marked_if};
 ghost use Rattle.win_tree.specs.Kin.{IsFaultFor, is_bad, refusal, next_number, settled, with_window, doomed, doom_refusal, dropped, drop_refusal, is_below, is_alone};
 ghost use Rattle.win_tree.specs.Destruction.{unmade, given};
 
@@ -37,13 +37,13 @@ pub struct Tree {
 
 impl Model for Tree {
     ghost use Rattle.std.specs.Prelude.{◌≡◌, map};
-    ghost use Rattle.win_tree.specs.Windows.{Windows, number_of};
+    ghost use Rattle.win_tree.specs.Windows.{IsOrdered, Windows, number_of};
 
     ghost Value = { Windows };
 
     ghost view = { λ t. record { last = t.last; live = t.windows.items } };
 
-    ghost invariant = { λ t. t.numbers.items ≡ map number_of t.windows.items };
+    ghost invariant = { λ t. (t.numbers.items ≡ map number_of t.windows.items) × IsOrdered 15 t.last t.windows.items };
 }
 
 impl Tree {
@@ -77,7 +77,6 @@ impl Tree {
         if self.push(Window::new(number, kept)).is_err() {
             return Err(Fault::Memory);
         }
-        self.last = number.0;
         Ok(number)
     }
 
@@ -98,14 +97,17 @@ impl Tree {
         None
     }
 
-    /// Puts a window last.
+    /// Puts a window last, whose number becomes the last.
     fn push(&mut self, window: Window) -> Result<(), AllocError>
-        ensures ok { OnOk result (self.new ≡ record self.old { live = self.old.live ++ window ∷ [] }) }
+        requires rises { self.old.last < window.number.0 }
+        requires older { (up window).0 < window.number.0 }
+        ensures ok { OnOk result (self.new ≡ record { last = window.number.0; live = self.old.live ++ window ∷ [] }) }
         ensures err { OnErr result (self.new ≡ self.old) }
     {
         self.numbers.reserve(1)?;
         self.windows.push(window)?;
         self.numbers.push(window.number).unwrap();
+        self.last = window.number.0;
         Ok(())
     }
 
@@ -242,9 +244,10 @@ impl Tree {
         }
     }
 
-    /// The live windows, by rising number.
+    /// The live windows, by rising number. The parent or owner of each is older than itself.
     pub fn windows(&self) -> &[Hwnd]
-        ensures { result.now ≡ map number_of self.now.live }
+        ensures numbers { result.now ≡ map number_of self.now.live }
+        ensures ordered { IsOrdered 15 self.now.last self.now.live }
     {
         &self.numbers
     }
