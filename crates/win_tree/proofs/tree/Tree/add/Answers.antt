@@ -1,0 +1,19 @@
+use Rattle.std.proofs.Common.{◌≡◌, ◌∙◌, ◌+◌, ◌≤◌, ◌<◌, None, suc, subst, sym, ap, arith, rules, tests}
+use Rattle.win_num.specs.declared.message.Hwnd.{Hwnd}
+use Rattle.win_tree.specs.declared.row.WindowRow.{WindowRow}
+use Rattle.win_tree.specs.declared.window.Window.{Window}
+use Rattle.win_tree.specs.Windows.{Windows, IsOrdered, up, made}
+use Rattle.win_tree.specs.Kin.{refusal, settled}
+use Rattle.win_tree.proofs.Ordered.{new_older}
+use Rattle.win_tree.proofs.tree.Tree.add.Goals as goal
+
+pub push-requires-clause-older : goal.push-requires-clause-older
+push-requires-clause-older c =
+    let ws = c.self.inside.windows.items in
+    let t : Windows = record { last = c.self.inside.last; live = ws } in
+    let none : refusal t c.args.row ≡ None = search (rules, tests) in
+    let kept : c.settled-kept.result ≡ settled ws c.args.row = search (rules, tests) in
+    let x : c.new.result ≡ made c.new.result.number (settled ws c.args.row) = search (rules, tests) in
+    let number : c.new.result.number.0 ≡ c.self.inside.last + 1 = search (rules, tests) in
+    let small : (up c.new.result).0 ≤ c.self.inside.last = subst (λ (y : Window). (up y).0 ≤ c.self.inside.last) (sym x) (new_older t c.args.row c.new.result.number c.self.invariant.1 none) in
+    omega (arith, small, number)

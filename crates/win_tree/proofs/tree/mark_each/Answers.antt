@@ -1,0 +1,10 @@
+use Rattle.std.proofs.Common.{◌∙◌, Bool, ap, arith}
+use Rattle.win_tree.specs.Windows.{marked_also}
+use Rattle.win_tree.proofs.Marking.{one_more}
+use Rattle.win_tree.proofs.tree.mark_each.Goals as goal
+
+pub loop-i-preserved : goal.loop-i-preserved
+loop-i-preserved c =
+    let x = c.index-windows-i.result in
+    one_more c.args.windows.now c.loop-i.windows c.args.w.0 c.loop-i.i x c.marked_also.result (omega arith) c.loop-i.invariant c.index-windows-i.is
+    (c.marked_also.ensures ∙ ap (λ (b : Bool). marked_also b x) c.is_kin-also.ensures)

@@ -1,0 +1,3 @@
+pub mod Destruction
+pub mod Kin
+pub mod Windows

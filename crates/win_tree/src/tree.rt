@@ -1,0 +1,393 @@
+//! The table of windows.
+
+ghost use Rattle.std.specs.Prelude.{◌≡◌, ◌+◌, ◌<◌, ◌++◌, ◌∷◌, [], List, length, map, not, IsTrue, IfOk, OnOk, OnErr, MatchResult, Option, Some, None, IfNone, ◌^◌, ◌==◌, option_copied, option_map};
+ghost use Rattle.std.specs.List.{filter, list_any};
+ghost use Rattle.win_tree.specs.Windows.{IsOrdered, no_windows, number_of, window_of, is_live, is_marked, is_ended, told_if, ended_if, set_if, next_top, up, marked_if};
+ghost use Rattle.win_tree.specs.Kin.{IsFaultFor, is_bad, refusal, next_number, settled, with_window, doomed, doom_refusal, dropped, drop_refusal, is_below, is_alone};
+ghost use Rattle.win_tree.specs.Destruction.{unmade, given};
+
+use crate::destruction::first_left;
+use crate::kin::{is_below, is_kin, top_of, window_of};
+use crate::row::{Unmade, WindowRow};
+use crate::window::Window;
+use std::alloc::{AllocError, Global};
+use std::marker::Model;
+use win_num::names::WS_CHILD;
+use win_num::{Code, Fault, Hwnd, Rect};
+
+/// How many windows may be live.
+const LIVE: usize = 1024;
+
+/// ERROR_INVALID_WINDOW_HANDLE's number (Microsoft, System Error Codes).
+const NO_SUCH_WINDOW: u16 = 1400;
+
+/// ERROR_TLW_WITH_WSCHILD's number (Microsoft, System Error Codes).
+const CHILD_WITHOUT_PARENT: u16 = 1406;
+
+/// ERROR_INVALID_PARAMETER's number (Microsoft, System Error Codes).
+const NOT_ENDED: u16 = 87;
+
+/// The live windows. Contracts see the number that was given last, and the windows with the oldest first.
+#[derive(Drop)]
+pub struct Tree {
+    last: u32,
+    windows: Vec<Window>,
+    numbers: Vec<Hwnd>,
+}
+
+impl Model for Tree {
+    ghost use Rattle.std.specs.Prelude.{◌≡◌, map};
+    ghost use Rattle.win_tree.specs.Windows.{IsOrdered, Windows, number_of};
+
+    ghost Value = { Windows };
+
+    ghost view = { λ t. record { last = t.last; live = t.windows.items } };
+
+    ghost invariant = { λ t. (t.numbers.items ≡ map number_of t.windows.items) × IsOrdered 15 t.last t.windows.items };
+}
+
+impl Tree {
+    /// No window. The first that is added gets the number 16. Takes no memory.
+    pub fn new(alloc: Global) -> Tree
+        ensures { result ≡ no_windows }
+    {
+        Tree {
+            last: 15,
+            windows: Vec::new(alloc),
+            numbers: Vec::new(alloc),
+        }
+    }
+
+    /// Adds a window and answers its number, one above the last that was given: 16, 17 and so on, and
+    /// none is given twice (Microsoft, CreateWindowEx function). A child has no owner, and an owner that
+    /// is a child is replaced by its top-level ancestor. `Win(1400)` comes exactly where the parent or
+    /// the owner isn't 0 and is not live, or is marked; else `Win(1406)` where the style has WS_CHILD
+    /// and the parent is 0; else `Full` where 1,024 windows are live or all numbers of 32 bits are given.
+    pub fn add(&mut self, row: WindowRow) -> Result<Hwnd, Fault>
+        ensures number { IfOk result (λ w. w ≡ next_number self.old) }
+        ensures ok { OnOk result (self.new ≡ with_window self.old row) }
+        ensures cause { MatchResult result (λ _. refusal self.old row ≡ None) (λ fault. IsFaultFor (refusal self.old row) fault) }
+        ensures err { OnErr result (self.new ≡ self.old) }
+    {
+        if let Some(code) = self.refusal(&row) {
+            return Err(Fault::Refused(code));
+        }
+        let number = Hwnd(self.last + 1);
+        let kept = settled(&self.windows, &row);
+        if self.push(Window::new(number, kept)).is_err() {
+            return Err(Fault::Memory);
+        }
+        Ok(number)
+    }
+
+    /// Why a window can't be made, room aside.
+    fn refusal(&self, row: &WindowRow) -> Option<Code>
+        ensures cause { result ≡ refusal self.now row.now }
+        ensures next { IfNone result (self.now.last + 1 < 2 ^ 32) }
+    {
+        if is_bad(&self.windows, row.parent) || is_bad(&self.windows, row.owner) {
+            return Some(Code::Win(NO_SUCH_WINDOW));
+        }
+        if u64::from(row.style) & WS_CHILD != 0 && row.parent == Hwnd(0) {
+            return Some(Code::Win(CHILD_WITHOUT_PARENT));
+        }
+        if self.windows.len() >= LIVE || self.last == u32::MAX {
+            return Some(Code::Full);
+        }
+        None
+    }
+
+    /// Puts a window last, whose number becomes the last.
+    fn push(&mut self, window: Window) -> Result<(), AllocError>
+        requires rises { self.old.last < window.number.0 }
+        requires older { (up window).0 < window.number.0 }
+        ensures ok { OnOk result (self.new ≡ record { last = window.number.0; live = self.old.live ++ window ∷ [] }) }
+        ensures err { OnErr result (self.new ≡ self.old) }
+    {
+        self.numbers.reserve(1)?;
+        self.windows.push(window)?;
+        self.numbers.push(window.number).unwrap();
+        self.last = window.number.0;
+        Ok(())
+    }
+
+    /// The window as it was added, with the style and place that were set last. None comes exactly where
+    /// it isn't live.
+    pub fn row(&self, w: Hwnd) -> Option<&WindowRow>
+        ensures { option_copied result ≡ option_map (λ x. x.row) (window_of self.now.live w.0) }
+    {
+        match window_of(&self.windows, w) {
+            Some(x) => Some(&x.row),
+            None => None,
+        }
+    }
+
+    /// Sets the style, extended style and place of a live window (Microsoft, SetWindowLong and
+    /// SetWindowPos functions).
+    pub fn set_row(&mut self, w: Hwnd, style: u32, ex: u32, place: Rect)
+        requires { IsTrue (is_live self.old.live w.0) }
+        ensures { self.new ≡ record self.old { live = map (set_if w.0 style ex place) self.old.live } }
+    {
+        set_row(&mut self.windows, w, style, ex, place);
+    }
+
+    /// Marks a window with all that stands below it or is owned by it, by however many steps (Microsoft,
+    /// DestroyWindow function). `Win(1400)` comes exactly where it isn't live or is marked, and changes
+    /// nothing. Takes no memory.
+    pub fn doom(&mut self, w: Hwnd) -> Result<(), Code>
+        ensures ok { OnOk result (self.new ≡ record self.old { live = doomed self.old.live w.0 }) }
+        ensures cause { MatchResult result (λ _. doom_refusal self.old.live w.0 ≡ None) (λ code. doom_refusal self.old.live w.0 ≡ Some code) }
+        ensures err { OnErr result (self.new ≡ self.old) }
+    {
+        match window_of(&self.windows, w) {
+            Some(x) if !x.marked => {}
+            _ => return Err(Code::Win(NO_SUCH_WINDOW)),
+        }
+        mark_kin(&mut self.windows, w);
+        Ok(())
+    }
+
+    /// The first step of the window's destruction that wasn't given yet, which is given with it: all
+    /// steps of each window that it owns, by number; then `Tell` for it and all below it, each window
+    /// before its children, and children by number; then `Last` for the same, each window after its
+    /// children. Once all are given it answers its `Last` again. `Gone` comes exactly where the window
+    /// isn't live, `NotDoomed` exactly where it is live and not marked (Microsoft, DestroyWindow function).
+    pub fn unmake(&mut self, w: Hwnd) -> Unmade
+        ensures answer { result ≡ unmade self.old.live w.0 }
+        ensures given { self.new ≡ record self.old { live = given result self.old.live } }
+    {
+        let step = self.next_step(w);
+        give(&mut self.windows, step);
+        step
+    }
+
+    /// What `unmake` answers.
+    fn next_step(&self, w: Hwnd) -> Unmade
+        ensures { result ≡ unmade self.now.live w.0 }
+    {
+        let Some(x) = window_of(&self.windows, w) else {
+            return Unmade::Gone;
+        };
+        if !x.marked {
+            return Unmade::NotDoomed;
+        }
+        match first_left(&self.windows, x, self.windows.len()) {
+            Some(step) => step,
+            None => Unmade::Last(x.number),
+        }
+    }
+
+    /// Takes out a window that `Last` was answered for, with all that stands below it or is owned by it,
+    /// by however many steps. `Win(1400)` comes exactly where it isn't live, else `Win(87)` where `Last`
+    /// didn't give it; both change nothing. Takes no memory.
+    pub fn drop_one(&mut self, w: Hwnd) -> Result<(), Code>
+        ensures ok { OnOk result (self.new ≡ record self.old { live = dropped self.old.live w.0 }) }
+        ensures cause { MatchResult result (λ _. drop_refusal self.old.live w.0 ≡ None) (λ code. drop_refusal self.old.live w.0 ≡ Some code) }
+        ensures err { OnErr result (self.new ≡ self.old) }
+    {
+        match window_of(&self.windows, w) {
+            Some(x) if x.ended => {}
+            Some(_) => return Err(Code::Win(NOT_ENDED)),
+            None => return Err(Code::Win(NO_SUCH_WINDOW)),
+        }
+        self.drop_kin(w);
+        Ok(())
+    }
+
+    /// Takes out a window with its kin.
+    fn drop_kin(&mut self, w: Hwnd)
+        ensures { self.new ≡ record self.old { live = dropped self.old.live w.0 } }
+    {
+        if is_alone(&self.windows, w) {
+            self.drop_alone(w);
+        } else {
+            self.drop_each(w);
+        }
+    }
+
+    /// Takes out a window that has no other kin.
+    fn drop_alone(&mut self, w: Hwnd)
+        requires { IsTrue (is_alone self.old.live w.0) }
+        ensures { self.new ≡ record self.old { live = dropped self.old.live w.0 } }
+    {
+        self.numbers.retain(|v| *v != w);
+        self.windows.retain(|x| x.number != w);
+    }
+
+    /// Takes out each window that is of the window's kin.
+    fn drop_each(&mut self, w: Hwnd)
+        ensures { self.new ≡ record self.old { live = dropped self.old.live w.0 } }
+    {
+        let windows = &self.windows;
+        self.numbers.retain(|v| !is_kin(windows, w, *v));
+        let numbers = &self.numbers;
+        self.windows.retain(|x| has(numbers, x.number));
+    }
+
+    /// Whether the window is live and marked.
+    pub fn marked(&self, w: Hwnd) -> bool
+        ensures { result ≡ is_marked self.now.live w.0 }
+    {
+        match window_of(&self.windows, w) {
+            Some(x) => x.marked,
+            None => false,
+        }
+    }
+
+    /// Whether the window is live and was given by `Last`.
+    pub fn last_given(&self, w: Hwnd) -> bool
+        ensures { result ≡ is_ended self.now.live w.0 }
+    {
+        match window_of(&self.windows, w) {
+            Some(x) => x.ended,
+            None => false,
+        }
+    }
+
+    /// The live windows, by rising number. The parent or owner of each is older than itself.
+    pub fn windows(&self) -> &[Hwnd]
+        ensures numbers { result.now ≡ map number_of self.now.live }
+        ensures ordered { IsOrdered 15 self.now.last self.now.live }
+    {
+        &self.numbers
+    }
+
+    /// Whether w is a child of `above`, or of such a child, and so on (Microsoft, IsChild function).
+    pub fn is_child(&self, above: Hwnd, w: Hwnd) -> bool
+        ensures { result ≡ is_below self.now.live above.0 w.0 }
+    {
+        is_below(&self.windows, above, w)
+    }
+
+    /// The top-level window of least number above w, or 0 where there is none. w is any number.
+    pub fn next_top(&self, w: Hwnd) -> Hwnd
+        ensures { result ≡ next_top self.now.live w.0 }
+    {
+        let next = self
+            .windows
+            .iter()
+            .find(|x| x.row.parent == Hwnd(0) && w < x.number);
+        match next {
+            Some(x) => x.number,
+            None => Hwnd(0),
+        }
+    }
+}
+
+/// Whether the window can't be a parent or an owner: it isn't 0, and not live or marked.
+fn is_bad(windows: &[Window], w: Hwnd) -> bool
+    ensures { result ≡ is_bad windows.now w.0 }
+{
+    if w == Hwnd(0) {
+        return false;
+    }
+    match window_of(windows, w) {
+        Some(x) => x.marked,
+        None => true,
+    }
+}
+
+/// The row that is kept of a new window.
+fn settled(windows: &[Window], row: &WindowRow) -> WindowRow
+    ensures { result ≡ settled windows.now row.now }
+{
+    let owner = if row.parent == Hwnd(0) {
+        top_of(windows, row.owner)
+    } else {
+        Hwnd(0)
+    };
+    WindowRow { owner, ..*row }
+}
+
+/// Sets the style, extended style and place of a window.
+fn set_row(windows: &mut [Window], w: Hwnd, style: u32, ex: u32, place: Rect)
+    ensures { windows.new ≡ map (set_if w.0 style ex place) windows.old }
+{
+    for x in windows.iter_mut() {
+        *x = x.set_if(w, style, ex, place);
+    }
+}
+
+/// Marks a window with its kin.
+fn mark_kin(windows: &mut [Window], w: Hwnd)
+    ensures { windows.new ≡ doomed windows.old w.0 }
+{
+    if is_alone(windows, w) {
+        mark_one(windows, w);
+    } else {
+        mark_each(windows, w);
+    }
+}
+
+/// Whether nothing stands directly below the window or is owned by it.
+fn is_alone(windows: &[Window], w: Hwnd) -> bool
+    ensures { result ≡ is_alone windows.now w.0 }
+{
+    if w == Hwnd(0) {
+        return false;
+    }
+    !has_above(windows, w)
+}
+
+/// Whether the window is the parent or owner of one of these.
+fn has_above(windows: &[Window], w: Hwnd) -> bool
+    ensures { result ≡ list_any (λ x. (up x).0 == w.0) windows.now }
+{
+    windows.iter().any(|x| x.up() == w)
+}
+
+/// Marks a window alone.
+fn mark_one(windows: &mut [Window], w: Hwnd)
+    ensures { windows.new ≡ map (marked_if w.0) windows.old }
+{
+    for x in windows.iter_mut() {
+        *x = x.marked_if(w);
+    }
+}
+
+/// Marks each window that is of the window's kin.
+fn mark_each(windows: &mut [Window], w: Hwnd)
+    ensures { windows.new ≡ doomed windows.old w.0 }
+{
+    for i in 0..windows.len() {
+        let x = windows[i];
+        let also = is_kin(windows, w, x.number);
+        windows[i] = x.marked_also(also);
+    }
+}
+
+/// Gives what was answered.
+fn give(windows: &mut [Window], step: Unmade)
+    ensures { windows.new ≡ given step windows.old }
+{
+    match step {
+        Unmade::Tell(w) => tell(windows, w),
+        Unmade::Last(w) => end(windows, w),
+        Unmade::Gone | Unmade::NotDoomed => {}
+    }
+}
+
+/// Notes that a window was told.
+fn tell(windows: &mut [Window], w: Hwnd)
+    ensures { windows.new ≡ map (told_if w.0) windows.old }
+{
+    for x in windows.iter_mut() {
+        *x = x.told_if(w);
+    }
+}
+
+/// Notes that a window got its last message.
+fn end(windows: &mut [Window], w: Hwnd)
+    ensures { windows.new ≡ map (ended_if w.0) windows.old }
+{
+    for x in windows.iter_mut() {
+        *x = x.ended_if(w);
+    }
+}
+
+/// Whether the number is among these.
+fn has(numbers: &[Hwnd], w: Hwnd) -> bool
+    ensures { result ≡ list_any (λ v. v.0 == w.0) numbers.now }
+{
+    numbers.iter().any(|v| *v == w)
+}
