@@ -1,5 +1,5 @@
 -- Attached threads, and who reaches whom.
-use Rattle.std.specs.Prelude.{if◌then◌else◌, ◌≡◌, ℕ, ◌+◌, ◌*◌, ◌<◌, ◌==◌, ◌↔◌, Bool, ◌&&◌, ◌||◌, List, slice_index}
+use Rattle.std.specs.Prelude.{if◌then◌else◌, ◌≡◌, ℕ, ◌<◌, ◌==◌, ◌↔◌, Bool, ◌&&◌, ◌||◌, List, slice_index}
 use Rattle.std.specs.Int.{bit_at}
 
 -- whether a set of threads has t: it has bit t for thread t

@@ -64,6 +64,7 @@ impl Model for Table {
 }
 
 impl Table {
+    /// No send is known.
     pub(crate) fn new(alloc: Global) -> Self
         ensures { result ≡ map.empty }
     {
@@ -79,6 +80,7 @@ impl Table {
         self.items.len()
     }
 
+    /// What is kept of a send, where it is known.
     pub(crate) fn get(&self, send: SendId) -> Option<&Item>
         ensures { option_copied result ≡ map.get self.now send.0 }
     {

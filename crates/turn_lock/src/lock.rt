@@ -102,7 +102,7 @@ fn deal<S: Journaled>(top: &Top<S>, mut first: Place<S>, seats: u32, made: &mut 
 }
 
 impl<S: Journaled> TurnLock<S> {
-    // What is left of a lock that no thread shares any more.
+    /// What is left of a lock that no thread shares any more.
     pub(crate) fn into_board(self) -> Board<S>
         ensures table { (result.shared.table_id ≡ self.table) × (result.shared.table_id.words ≡ 3) × (result.shared.table_id.slots ≡ 1) }
         ensures key { (result.shared.key.state.value ≡ self.opening) × (result.shared.key.seats ≡ self.seats) }

@@ -33,6 +33,7 @@ impl<S: Journaled> Model for TurnSeat<S> {
 }
 
 impl<S: Journaled> TurnSeat<S> {
+    /// The seat at a place of the table.
     pub(crate) fn of(place: Place<S>) -> TurnSeat<S>
         requires { place ≡ at_rest place }
         ensures { result ≡ sitting place }
@@ -40,6 +41,7 @@ impl<S: Journaled> TurnSeat<S> {
         TurnSeat { place }
     }
 
+    /// The place of the table that the seat had.
     pub(crate) fn into_place(self) -> Place<S>
         ensures { (result ≡ at_rest result) × (sitting result ≡ self) }
     {

@@ -1,5 +1,5 @@
 -- A window that nothing stands below and that owns nothing has no other kin.
-use Rattle.std.proofs.Common.{◌≡◌, ◌∙◌, inl, inr, ℕ, suc, zero, List, [], ◌∷◌, Bool, true, false, not, ◌&&◌, eqb, map, filter, find, refl, sym, ap, subst, rules, tests}
+use Rattle.std.proofs.Common.{◌≡◌, ◌∙◌, inl, inr, ℕ, suc, zero, List, [], ◌∷◌, Bool, true, false, not, ◌&&◌, eqb, map, filter, find, refl, sym, ap, subst}
 use Rattle.std.specs.List.{list_any}
 use Rattle.std.proofs.lemmas.Bool.{cases_Bool, eqb-true, eq-eqb, or_parts}
 use Rattle.win_tree.specs.declared.window.Window.{Window}

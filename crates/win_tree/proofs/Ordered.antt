@@ -1,6 +1,6 @@
 -- Numbers rise, and what stands above a window is older than it.
-use Rattle.std.proofs.Common.{◌≡◌, ◌∙◌, inl, inr, ℕ, ◌<◌, ◌≤◌, suc, zero, List, [], ◌∷◌, ◌++◌, Bool, true, false, not, ◌&&◌, ◌||◌, eqb, map, filter, find, Option, Some, None, is_some, refl, sym, ap, subst, arith}
-use Rattle.std.proofs.lemmas.Bool.{cases_Bool, eqb-true, eq-eqb, or_parts}
+use Rattle.std.proofs.Common.{◌≡◌, ◌∙◌, inl, inr, ℕ, ◌<◌, ◌≤◌, suc, zero, List, [], ◌∷◌, ◌++◌, Bool, true, false, ◌||◌, eqb, map, filter, find, Option, Some, None, is_some, refl, sym, ap, subst, arith}
+use Rattle.std.proofs.lemmas.Bool.{cases_Bool, eqb-true, or_parts}
 use Rattle.std.proofs.lemmas.List.{map-append}
 use Rattle.win_num.specs.declared.message.Hwnd.{Hwnd}
 use Rattle.win_num.specs.declared.shapes.Rect.{Rect}
@@ -9,8 +9,8 @@ use Rattle.win_tree.specs.declared.row.WindowRow.{WindowRow}
 use Rattle.win_tree.specs.declared.row.Unmade.{Unmade}
 use Rattle.win_tree.specs.declared.row.Unmade.TheVariants.{Tell, Last, Gone, NotDoomed}
 use Rattle.win_tree.specs.declared.window.Window.{Window}
-use Rattle.win_tree.specs.Windows.{Windows, IsOrdered, made, window_of, is_live, is_marked, number_of, up, told_if, ended_if, set_if}
-use Rattle.win_tree.specs.Kin.{parent_of, top_within, top_of, is_bad, refusal, settled, next_number}
+use Rattle.win_tree.specs.Windows.{Windows, IsOrdered, made, window_of, is_live, number_of, up, told_if, ended_if, set_if}
+use Rattle.win_tree.specs.Kin.{parent_of, top_within, is_bad, refusal, settled}
 use Rattle.win_tree.specs.Destruction.{given}
 
 -- the bound below is no greater than the last number

@@ -1,5 +1,5 @@
 -- Searches along the order of destruction.
-use Rattle.std.proofs.Common.{◌≡◌, inl, inr, ◌∙◌, ℕ, ◌+◌, ◌-◌, ◌<◌, ◌≤◌, suc, zero, List, [], ◌∷◌, ◌++◌, map, length, get_or, drop, Bool, true, false, not, eqb, filter, find, Option, Some, None, option_map, is_some, add-one, refl, sym, ap, arith}
+use Rattle.std.proofs.Common.{◌≡◌, inl, inr, ◌∙◌, ℕ, ◌+◌, ◌-◌, ◌<◌, ◌≤◌, suc, zero, List, [], ◌∷◌, ◌++◌, map, length, get_or, drop, Bool, true, false, eqb, filter, find, Option, Some, None, option_map, is_some, add-one, refl, sym, ap, arith}
 use Rattle.std.specs.List.{flat_map}
 use Rattle.std.specs.Option.{option_or}
 use Rattle.std.proofs.lemmas.Bool.{cases_Bool}
@@ -7,11 +7,10 @@ use Rattle.std.proofs.Math.Seq.{drop-cons}
 use Rattle.std.proofs.lemmas.List.{drop_all}
 use Rattle.std.proofs.lemmas.List.Folds.{find-append}
 use Rattle.win_num.specs.declared.message.Hwnd.{Hwnd}
-use Rattle.win_tree.specs.declared.row.Unmade.{Unmade}
 use Rattle.win_tree.specs.declared.row.Unmade.TheVariants.{Tell, Last}
 use Rattle.win_tree.specs.declared.window.Window.{Window}
 use Rattle.win_tree.specs.Windows.{number_of}
-use Rattle.win_tree.specs.Destruction.{Step, told, ended, preorder, postorder, destruction, children_of, owned_by, is_untold, is_unended, is_left, answer_of}
+use Rattle.win_tree.specs.Destruction.{told, ended, preorder, postorder, destruction, children_of, owned_by, is_untold, is_unended, is_left, answer_of}
 
 -- the rest of a list begins with the element that stands there
 pub cut : {X : Type 0} (xs : List X) (i : ℕ) (x : X) → i < length xs → x ≡ get_or xs i x → drop i xs ≡ x ∷ drop (i + 1) xs

@@ -1,7 +1,6 @@
 -- The order of destruction.
-use Rattle.std.specs.Prelude.{if◌then◌else◌, ℕ, zero, suc, ◌==◌, Bool, true, false, not, List, [], ◌∷◌, ◌++◌, map, length, Option, Some, None, find}
+use Rattle.std.specs.Prelude.{if◌then◌else◌, ℕ, zero, suc, ◌==◌, Bool, not, List, [], ◌∷◌, ◌++◌, map, length, Some, None, find}
 use Rattle.std.specs.List.{filter, flat_map}
-use Rattle.win_num.specs.declared.message.Hwnd.{Hwnd}
 use Rattle.win_tree.specs.declared.row.Unmade.{Unmade}
 use Rattle.win_tree.specs.declared.row.Unmade.TheVariants.{Tell, Last, Gone, NotDoomed}
 use Rattle.win_tree.specs.declared.window.Window.{Window}

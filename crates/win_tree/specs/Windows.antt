@@ -1,5 +1,5 @@
 -- The live windows, the oldest first.
-use Rattle.std.specs.Prelude.{if◌then◌else◌, ℕ, ◌==◌, nat_lt, Bool, true, false, ◌&&◌, ◌||◌, List, [], ◌∷◌, map, Option, Some, None, option_map, is_some, find, unwrap_or, ◌<◌, ◌≤◌}
+use Rattle.std.specs.Prelude.{if◌then◌else◌, ℕ, ◌==◌, nat_lt, Bool, false, ◌&&◌, ◌||◌, List, [], ◌∷◌, Option, option_map, is_some, find, unwrap_or, ◌<◌, ◌≤◌}
 use Rattle.win_num.specs.declared.message.Hwnd.{Hwnd}
 use Rattle.win_num.specs.declared.shapes.Rect.{Rect}
 use Rattle.win_tree.specs.declared.row.WindowRow.{WindowRow}

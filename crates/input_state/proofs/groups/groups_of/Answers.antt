@@ -1,4 +1,4 @@
-use Rattle.std.proofs.Common.{◌≡◌, ◌+◌, ℕ, List, subst, sym, arith}
+use Rattle.std.proofs.Common.{◌+◌, ℕ, List, subst, sym, arith}
 use Rattle.input_state.specs.Groups.{IsClosure}
 use Rattle.input_state.proofs.GroupLemmas.{JoinsBefore, closure_link, closure_no_link, closure_start, closure_end, has_true, has_false}
 use Rattle.input_state.proofs.groups.groups_of.Goals as goal

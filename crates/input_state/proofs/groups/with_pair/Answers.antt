@@ -1,4 +1,4 @@
-use Rattle.std.proofs.Common.{◌∙◌, arith}
+use Rattle.std.proofs.Common.{arith}
 use Rattle.std.proofs.lemmas.List.{length-set}
 use Rattle.input_state.proofs.GroupLemmas.{one_sided, both_sided}
 use Rattle.input_state.proofs.groups.with_pair.Goals as goal

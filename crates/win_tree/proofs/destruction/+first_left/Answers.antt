@@ -1,8 +1,6 @@
-use Rattle.std.proofs.Common.{rules, tests, ◌≡◌, ◌∙◌, ◌-◌, ◌<◌, sym, ap, length, option_map, find, is_some, drop, true, false, List, [], None, Some, eqb, arith}
+use Rattle.std.proofs.Common.{rules, tests, ◌≡◌, ◌∙◌, ◌-◌, ◌<◌, sym, ap, length, option_map, find, is_some, drop, true, false, List, [], None, eqb, arith}
 use Rattle.std.specs.List.{flat_map}
-use Rattle.win_tree.specs.declared.row.Unmade.TheVariants.{Last}
 use Rattle.win_tree.specs.declared.window.Window.{Window}
-use Rattle.win_tree.specs.Windows.{number_of}
 use Rattle.win_tree.specs.Destruction.{destruction, owned_by, is_left, answer_of}
 use Rattle.win_tree.proofs.Searches.{found, left_owned, left_told, left_ended, past_end}
 use Rattle.win_tree.proofs.destruction.+first_left.Goals as goal

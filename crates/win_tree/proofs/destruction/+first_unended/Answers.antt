@@ -1,4 +1,4 @@
-use Rattle.std.proofs.Common.{rules, tests, ◌≡◌, ◌∙◌, ◌-◌, ◌<◌, sym, ap, length, option_map, find, is_some, drop, true, false, List, [], ◌∷◌, None, Some, eqb, arith}
+use Rattle.std.proofs.Common.{rules, tests, ◌≡◌, ◌∙◌, ◌-◌, ◌<◌, sym, ap, length, option_map, find, is_some, drop, true, false, List, [], None, eqb, arith}
 use Rattle.std.specs.List.{flat_map}
 use Rattle.win_tree.specs.declared.window.Window.{Window}
 use Rattle.win_tree.specs.Windows.{number_of}

@@ -1,9 +1,9 @@
-use Rattle.std.proofs.Common.{◌≡◌, ℕ, List, subst, ◌∙◌, not, eqb, refl, ap, sym, filter, map, rules, tests}
+use Rattle.std.proofs.Common.{ℕ, List, subst, not, eqb, refl, sym, rules, tests}
 use Rattle.std.specs.List.{list_any}
 use Rattle.std.proofs.lemmas.Fn.{filter_same}
 use Rattle.win_tree.specs.declared.window.Window.{Window}
-use Rattle.win_tree.specs.Windows.{IsOrdered, number_of}
-use Rattle.win_tree.specs.Kin.{is_kin, dropped}
+use Rattle.win_tree.specs.Windows.{IsOrdered}
+use Rattle.win_tree.specs.Kin.{is_kin}
 use Rattle.win_tree.proofs.Ordered.{ordered_filter}
 use Rattle.win_tree.proofs.Drops.{kept_numbers, kept_windows}
 use Rattle.win_tree.proofs.tree.Tree.drop_each.Goals as goal

@@ -1,4 +1,4 @@
-use Rattle.std.proofs.Common.{◌≡◌, List, subst, ◌∙◌, length, map, refl, sym, ap, arith}
+use Rattle.std.proofs.Common.{◌≡◌, List, subst, ◌∙◌, length, map, sym, ap, arith}
 use Rattle.win_tree.specs.declared.window.Window.{Window}
 use Rattle.win_tree.specs.Windows.{IsOrdered, number_of, set_if}
 use Rattle.win_tree.proofs.Ordered.{ordered_map, set_up}
