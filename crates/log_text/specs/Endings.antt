@@ -7,9 +7,9 @@ use Rattle.user_model.specs.Places.{has_ended}
 use Rattle.user_model.specs.Threads.{from_each}
 use Rattle.user_model.specs.Idle.{is_barred, last_entry}
 use Rattle.user_io.specs.Text.{operand}
-use Rattle.script_text.specs.Tree.{Tree}
+use Rattle.script_tree.specs.Tree.{Tree}
 use Rattle.log_text.specs.declared.end.End.{End}
-use Rattle.log_text.specs.declared.end.End.TheVariants.{Done, Stuck, Spent}
+use Rattle.log_text.specs.declared.end.End.TheVariants.{Done, Stuck, Spent, Cut}
 use Rattle.log_text.specs.Ends.{setup_of}
 use Rattle.log_text.specs.Entries.{call_text}
 
@@ -18,6 +18,7 @@ abbrev pub end_line : End → List ℕ
 end_line Done = codes "end done\n"
 end_line Stuck = codes "end stuck\n"
 end_line Spent = codes "end spent\n"
+end_line Cut = codes "end cut\n"
 
 -- the call of an entry, if there is one
 abbrev pub call_in : Option Entry → Option Call
@@ -29,9 +30,9 @@ abbrev pub last_call : Past → ℕ → Option Call
 last_call past t = call_in (last_entry past t)
 
 -- a thread that waits, with its last call
-abbrev pub waits_line : ℕ → Option Call → List ℕ
-waits_line t None = []
-waits_line t (Some call) = codes "waits" ++ (operand t ++ (codes " " ++ (call_text call ++ codes "\n")))
+abbrev pub waits_line : Tree → ℕ → Option Call → List ℕ
+waits_line s t None = []
+waits_line s t (Some call) = codes "waits" ++ (operand t ++ (codes " " ++ (call_text s call ++ codes "\n")))
 
 -- a thread that has used up its budget
 abbrev pub spent_line : ℕ → List ℕ
@@ -40,8 +41,9 @@ spent_line t = codes "spent" ++ (operand t ++ codes "\n")
 -- the extra line of a thread: where all is stuck and it hasn't ended, its call; where budgets are spent and it isn't idle, its number
 abbrev pub extra : Tree → Past → End → ℕ → List ℕ
 extra s past Done t = []
-extra s past Stuck t = if has_ended past t then [] else waits_line t (last_call past t)
+extra s past Stuck t = if has_ended past t then [] else waits_line s t (last_call past t)
 extra s past Spent t = if is_barred (setup_of s) past t then [] else spent_line t
+extra s past Cut t = []
 
 -- those of all threads, in order
 abbrev pub extras : Tree → Past → End → List ℕ

@@ -1,28 +1,74 @@
 -- The line of an entry.
-use Rattle.std.specs.Prelude.{ℕ, List, ◌∷◌, ◌++◌, codes, decimal, unwrap_or}
+use Rattle.std.specs.Prelude.{ℕ, ℤ, List, ◌∷◌, ◌++◌, codes, decimal, unwrap_or, slice_get}
 use Rattle.std.specs.Fmt.{signed_decimal}
 use Rattle.win_num.specs.declared.code.Code.{Code}
 use Rattle.win_num.specs.declared.code.Code.TheVariants as codes_of
 use Rattle.win_num.specs.declared.message.Msg.{Msg}
 use Rattle.win_num.specs.declared.shapes.Point.{Point}
+use Rattle.name_table.specs.Rows.{name_in}
+use Rattle.name_table.specs.Messages.{message_rows}
 use Rattle.user_model.specs.declared.call.Call.{Call}
-use Rattle.user_model.specs.declared.call.Call.TheVariants.{PostThread, Get, EndThread, Advance}
+use Rattle.user_model.specs.declared.call.Call.TheVariants as calls
 use Rattle.user_model.specs.declared.entry.Answer.{Answer}
 use Rattle.user_model.specs.declared.entry.Answer.TheVariants as answers
+use Rattle.user_model.specs.declared.entry.Origin.{Origin}
+use Rattle.user_model.specs.declared.entry.Origin.TheVariants as origins
 use Rattle.user_model.specs.declared.entry.Entry.{Entry}
 use Rattle.user_io.specs.Text.{operand}
-use Rattle.log_text.specs.Names.{name_of}
+use Rattle.script_tree.specs.Tree.{Tree}
 
 -- a blank and a message, by its name where it has one
 abbrev pub message_text : ℕ → List ℕ
-message_text n = 32 ∷ unwrap_or (name_of n) (decimal n)
+message_text n = 32 ∷ unwrap_or (name_in message_rows n) (decimal n)
+
+-- a blank and a name of the script, by its text where the list of names has it
+abbrev pub name_text : Tree → ℕ → List ℕ
+name_text s n = 32 ∷ unwrap_or (slice_get s.names n) (decimal n)
+
+-- a blank and a number with its sign
+abbrev pub signed_text : ℤ → List ℕ
+signed_text x = 32 ∷ signed_decimal x
+
+-- two numbers with their signs
+abbrev pub pair_text : ℤ → ℤ → List ℕ
+pair_text x y = signed_text x ++ signed_text y
+
+-- the four edges of a rectangle
+abbrev pub edges_text : ℤ → ℤ → ℤ → ℤ → List ℕ
+edges_text l t r b = pair_text l t ++ pair_text r b
+
+-- three numbers
+abbrev pub three_text : ℕ → ℕ → ℕ → List ℕ
+three_text a b c = operand a ++ (operand b ++ operand c)
+
+-- a message as a post takes it: to whom, its number, wParam and lParam
+abbrev pub posting_text : ℕ → ℕ → ℕ → ℕ → List ℕ
+posting_text to m p q = operand to ++ (message_text m ++ (operand p ++ operand q))
+
+-- a new window but its edges: the names of its class and its title, its parent, style and extended style
+abbrev pub window_text : Tree → ℕ → ℕ → ℕ → ℕ → ℕ → List ℕ
+window_text s class title parent style ex = codes "new_window" ++ (name_text s class ++ (name_text s title ++ three_text parent style ex))
 
 -- a call: its word and its arguments
-abbrev pub call_text : Call → List ℕ
-call_text (PostThread to m p q) = codes "post_thread" ++ (operand to ++ (message_text m ++ (operand p ++ operand q)))
-call_text (Get w min max) = codes "get" ++ (operand w ++ (operand min ++ operand max))
-call_text EndThread = codes "end_thread"
-call_text Advance = codes "advance"
+abbrev pub call_text : Tree → Call → List ℕ
+call_text s (calls.Peek w min max flags) = codes "peek" ++ (operand w ++ three_text min max flags)
+call_text s (calls.Get w min max) = codes "get" ++ three_text w min max
+call_text s (calls.Post w m p q) = codes "post" ++ posting_text w m p q
+call_text s (calls.PostThread to m p q) = codes "post_thread" ++ posting_text to m p q
+call_text s (calls.PostQuit v) = codes "post_quit" ++ operand v
+call_text s (calls.Message name) = codes "message" ++ name_text s name
+call_text s (calls.Register class procedure colour) = codes "register" ++ (name_text s class ++ (operand procedure ++ operand colour))
+call_text s (calls.Unregister class) = codes "unregister" ++ name_text s class
+call_text s (calls.NewWindow class title parent style ex l t r b) = window_text s class title parent style ex ++ edges_text l t r b
+call_text s (calls.Doom w) = codes "doom" ++ operand w
+call_text s (calls.Unmake w) = codes "unmake" ++ operand w
+call_text s (calls.Drop w) = codes "drop" ++ operand w
+call_text s (calls.NextTop w) = codes "next_top" ++ operand w
+call_text s (calls.IsWindow w) = codes "is_window" ++ operand w
+call_text s (calls.Parent w) = codes "parent" ++ operand w
+call_text s calls.EndThread = codes "end_thread"
+call_text s calls.Yield = codes "yield"
+call_text s calls.Advance = codes "advance"
 
 -- a blank and the code of a refusal
 abbrev pub code_text : Code → List ℕ
@@ -33,23 +79,35 @@ code_text codes_of.NoTarget = codes " no_target"
 
 -- the two numbers of a point, each after a blank
 abbrev pub point_text : Point → List ℕ
-point_text p = (32 ∷ signed_decimal p.x) ++ (32 ∷ signed_decimal p.y)
+point_text p = pair_text p.x p.y
 
 -- the numbers of a message, each after a blank
 abbrev pub msg_text : Msg → List ℕ
 msg_text m = operand m.hwnd.0 ++ (message_text m.number ++ (operand m.wparam ++ (operand m.lparam ++ (operand m.time ++ point_text m.point))))
 
+-- where a message came from
+abbrev pub origin_text : Origin → List ℕ
+origin_text origins.Posted = codes "got posted"
+origin_text origins.Quit = codes "got quit"
+
 -- an answer: its word and its numbers
 abbrev pub answer_text : Answer → List ℕ
+answer_text answers.Okay = codes "ok"
 answer_text answers.Ended = codes "ended"
+answer_text answers.Nothing = codes "none"
 answer_text answers.Wait = codes "wait"
 answer_text answers.Stuck = codes "stuck"
+answer_text answers.Gone = codes "gone"
+answer_text (answers.Value v) = codes "value" ++ operand v
+answer_text (answers.Window w) = codes "window" ++ operand w.0
 answer_text (answers.Posted k) = codes "posted" ++ operand k
+answer_text (answers.Tell w) = codes "tell" ++ operand w.0
+answer_text (answers.Last w) = codes "last" ++ operand w.0
 answer_text (answers.Advanced v) = codes "advanced" ++ operand v
 answer_text (answers.Busy t) = codes "busy" ++ operand t.0
-answer_text (answers.Got o n m) = codes "got posted" ++ (operand n ++ msg_text m)
+answer_text (answers.Got o n m) = origin_text o ++ (operand n ++ msg_text m)
 answer_text (answers.Refused c) = codes "refused" ++ code_text c
 
 -- who called, the call and its answer
-abbrev pub entry_text : Entry → List ℕ
-entry_text e = decimal e.who.0 ++ (codes " " ++ (call_text e.call ++ (codes " = " ++ (answer_text e.answer ++ codes "\n"))))
+abbrev pub entry_text : Tree → Entry → List ℕ
+entry_text s e = decimal e.who.0 ++ (codes " " ++ (call_text s e.call ++ (codes " = " ++ (answer_text e.answer ++ codes "\n"))))

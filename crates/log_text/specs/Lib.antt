@@ -2,5 +2,5 @@ pub mod Endings
 pub mod Ends
 pub mod Entries
 pub mod Logs
-pub mod Names
 pub mod Passing
+pub mod Summaries

@@ -9,4 +9,6 @@ pub enum End {
     Stuck,
     /// Some thread could go on, and each such thread has used up its budget of entries.
     Spent,
+    /// None of these: the run could go on.
+    Cut,
 }

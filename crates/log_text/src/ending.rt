@@ -5,23 +5,25 @@ ghost use Rattle.std.specs.Prelude.{◌≡◌, ◌<◌, ◌≤◌, length, rever
 ghost use Rattle.user_io.specs.Text.{Adds};
 ghost use Rattle.user_model.specs.Places.{has_ended};
 ghost use Rattle.log_text.specs.Ends.{setup_of};
-ghost use Rattle.log_text.specs.Endings.{end_line, last_call, waits_line, spent_line, extra, extras, ending};
+ghost use Rattle.log_text.specs.Endings.{end_line, last_call, waits_line, spent_line, extra, extras, sends_line, ending};
 
 use crate::end::End;
 use crate::entry::put_call;
-use script_text::Script;
+use crate::words::Words;
 use std::alloc::AllocError;
 use user_io::text::{put_operand, put_text};
 use user_model::{Answer, Call, Entry, Machine};
 use win_num::Thread;
 
-fn put_end_line(out: &mut Vec<u8>, end: End) -> Result<(), AllocError>
+/// Adds the word of an end.
+pub fn put_end_line(out: &mut Vec<u8>, end: End) -> Result<(), AllocError>
     ensures { OnOk result (Adds out.old.items out.new.items (end_line end)) }
 {
     match end {
         End::Done => put_text(out, b"end done\n"),
         End::Stuck => put_text(out, b"end stuck\n"),
         End::Spent => put_text(out, b"end spent\n"),
+        End::Cut => put_text(out, b"end cut\n"),
     }
 }
 
@@ -52,8 +54,13 @@ fn last_call(history: &[Entry], thread: u8) -> Option<Call>
 }
 
 /// Adds the line of a thread that waits, with its last call.
-fn put_waits(out: &mut Vec<u8>, thread: u8, call: Option<Call>) -> Result<(), AllocError>
-    ensures { OnOk result (Adds out.old.items out.new.items (waits_line thread call)) }
+fn put_waits(
+    out: &mut Vec<u8>,
+    words: &Words,
+    thread: u8,
+    call: Option<Call>,
+) -> Result<(), AllocError>
+    ensures { OnOk result (Adds out.old.items out.new.items (waits_line words.now.script.now thread call)) }
 {
     let Some(call) = call else {
         return Ok(());
@@ -61,7 +68,7 @@ fn put_waits(out: &mut Vec<u8>, thread: u8, call: Option<Call>) -> Result<(), Al
     put_text(out, b"waits")?;
     put_operand(out, u64::from(thread))?;
     put_text(out, b" ")?;
-    put_call(out, call)?;
+    put_call(out, words, call)?;
     put_text(out, b"\n")?;
     Ok(())
 }
@@ -79,21 +86,21 @@ fn put_spent(out: &mut Vec<u8>, thread: u8) -> Result<(), AllocError>
 /// Adds the extra line of a thread, where it has one.
 fn put_extra<M: Machine>(
     out: &mut Vec<u8>,
-    script: &Script,
+    words: &Words,
     machine: &M,
     end: End,
     thread: u8,
 ) -> Result<(), AllocError>
     requires some { 0 < thread }
-    requires setup { M.setup machine.now ≡ setup_of script.now }
-    ensures { OnOk result (Adds out.old.items out.new.items (extra script.now (M.past machine.now) end thread)) }
+    requires setup { M.setup machine.now ≡ setup_of words.now.script.now }
+    ensures { OnOk result (Adds out.old.items out.new.items (extra words.now.script.now (M.past machine.now) end thread)) }
 {
     match end {
-        End::Done => {}
+        End::Done | End::Cut => {}
         End::Stuck => {
             let history = machine.history();
             if !has_ended(history, thread) {
-                put_waits(out, thread, last_call(history, thread))?;
+                put_waits(out, words, thread, last_call(history, thread))?;
             }
         }
         End::Spent => {
@@ -107,36 +114,43 @@ fn put_extra<M: Machine>(
 
 fn put_extras<M: Machine>(
     out: &mut Vec<u8>,
-    script: &Script,
+    words: &Words,
     machine: &M,
     end: End,
 ) -> Result<(), AllocError>
-    requires few { length script.now.threads ≤ 15 }
-    requires setup { M.setup machine.now ≡ setup_of script.now }
-    ensures { OnOk result (Adds out.old.items out.new.items (extras script.now (M.past machine.now) end)) }
+    requires few { length words.now.script.now.threads ≤ 15 }
+    requires setup { M.setup machine.now ≡ setup_of words.now.script.now }
+    ensures { OnOk result (Adds out.old.items out.new.items (extras words.now.script.now (M.past machine.now) end)) }
 {
-    for thread in 0..script.thread_count() {
-        put_extra(out, script, machine, end, thread + 1)?;
+    for thread in 0..words.script.thread_count() {
+        put_extra(out, words, machine, end, thread + 1)?;
     }
     Ok(())
+}
+
+/// Adds the counts of sends.
+pub fn put_sends_line(out: &mut Vec<u8>) -> Result<(), AllocError>
+    ensures { OnOk result (Adds out.old.items out.new.items sends_line) }
+{
+    put_text(
+        out,
+        b"sends begun 0 entered 0 proc 0 reply 0 loss 0 timeout 0 open 0\n",
+    )
 }
 
 /// Adds the lines after the entries.
 pub fn put_ending<M: Machine>(
     out: &mut Vec<u8>,
-    script: &Script,
+    words: &Words,
     machine: &M,
     end: End,
 ) -> Result<(), AllocError>
-    requires few { length script.now.threads ≤ 15 }
-    requires setup { M.setup machine.now ≡ setup_of script.now }
-    ensures { OnOk result (Adds out.old.items out.new.items (ending script.now (M.past machine.now) end)) }
+    requires few { length words.now.script.now.threads ≤ 15 }
+    requires setup { M.setup machine.now ≡ setup_of words.now.script.now }
+    ensures { OnOk result (Adds out.old.items out.new.items (ending words.now.script.now (M.past machine.now) end)) }
 {
     put_end_line(out, end)?;
-    put_extras(out, script, machine, end)?;
-    put_text(
-        out,
-        b"sends begun 0 entered 0 proc 0 reply 0 loss 0 timeout 0 open 0\n",
-    )?;
+    put_extras(out, words, machine, end)?;
+    put_sends_line(out)?;
     Ok(())
 }

@@ -3,63 +3,191 @@
 
 ghost use Rattle.std.specs.Prelude.{◌++◌, codes, OnOk};
 ghost use Rattle.user_io.specs.Text.{Adds, operand};
-ghost use Rattle.log_text.specs.Entries.{message_text, call_text, code_text, point_text, msg_text, answer_text, entry_text};
+ghost use Rattle.log_text.specs.Entries.{three_text, pair_text, edges_text, posting_text, window_text, name_text, origin_text, call_text, code_text, point_text, msg_text, answer_text, entry_text};
 
-use crate::names::message_name;
+use crate::words::Words;
 use std::alloc::AllocError;
 use user_io::text::{put_number, put_operand, put_signed, put_text};
-use user_model::{Answer, Call, Entry};
+use user_model::{Answer, Call, Entry, Origin};
 use win_num::{Code, Msg, Point};
 
-/// Adds a blank and a message, by its name where it has one.
-fn put_message(out: &mut Vec<u8>, number: u64) -> Result<(), AllocError>
-    ensures { OnOk result (Adds out.old.items out.new.items (message_text number)) }
+/// Adds a word, a blank and a number.
+fn put_counted(out: &mut Vec<u8>, word: &[u8], number: u64) -> Result<(), AllocError>
+    ensures { OnOk result (Adds out.old.items out.new.items (word.now ++ operand number)) }
 {
-    put_text(out, b" ")?;
-    match message_name(number) {
-        Some(name) => put_text(out, name.as_bytes())?,
-        None => put_number(out, number)?,
-    }
+    put_text(out, word)?;
+    put_operand(out, number)?;
     Ok(())
 }
 
-fn put_post_thread(
+/// Adds three numbers, each after a blank.
+fn put_three(out: &mut Vec<u8>, first: u64, second: u64, third: u64) -> Result<(), AllocError>
+    ensures { OnOk result (Adds out.old.items out.new.items (three_text first second third)) }
+{
+    put_operand(out, first)?;
+    put_operand(out, second)?;
+    put_operand(out, third)?;
+    Ok(())
+}
+
+/// Adds two numbers with their signs, each after a blank.
+fn put_pair(out: &mut Vec<u8>, first: i64, second: i64) -> Result<(), AllocError>
+    ensures { OnOk result (Adds out.old.items out.new.items (pair_text first second)) }
+{
+    put_signed(out, first)?;
+    put_signed(out, second)?;
+    Ok(())
+}
+
+/// Adds the four edges of a rectangle.
+fn put_edges(
     out: &mut Vec<u8>,
+    left: i64,
+    top: i64,
+    right: i64,
+    bottom: i64,
+) -> Result<(), AllocError>
+    ensures { OnOk result (Adds out.old.items out.new.items (edges_text left top right bottom)) }
+{
+    put_pair(out, left, top)?;
+    put_pair(out, right, bottom)?;
+    Ok(())
+}
+
+/// Adds to whom a message is posted, its number, wParam and lParam.
+fn put_posting(
+    out: &mut Vec<u8>,
+    words: &Words,
     to: u64,
     number: u64,
     wparam: u64,
     lparam: u64,
 ) -> Result<(), AllocError>
-    ensures { OnOk result (Adds out.old.items out.new.items (call_text (Call.PostThread to number wparam lparam))) }
+    ensures { OnOk result (Adds out.old.items out.new.items (posting_text to number wparam lparam)) }
 {
-    put_text(out, b"post_thread")?;
     put_operand(out, to)?;
-    put_message(out, number)?;
+    words.put_message(out, number)?;
     put_operand(out, wparam)?;
     put_operand(out, lparam)?;
     Ok(())
 }
 
+/// Adds a word and a name of the script.
+fn put_named(out: &mut Vec<u8>, words: &Words, word: &[u8], name: u32) -> Result<(), AllocError>
+    ensures { OnOk result (Adds out.old.items out.new.items (word.now ++ name_text words.now.script.now name)) }
+{
+    put_text(out, word)?;
+    words.put_name(out, name)?;
+    Ok(())
+}
+
+fn put_peek(
+    out: &mut Vec<u8>,
+    window: u64,
+    min: u64,
+    max: u64,
+    flags: u64,
+) -> Result<(), AllocError>
+    ensures { OnOk result (Adds out.old.items out.new.items (codes "peek" ++ (operand window ++ three_text min max flags))) }
+{
+    put_text(out, b"peek")?;
+    put_operand(out, window)?;
+    put_three(out, min, max, flags)?;
+    Ok(())
+}
+
 fn put_get(out: &mut Vec<u8>, window: u64, min: u64, max: u64) -> Result<(), AllocError>
-    ensures { OnOk result (Adds out.old.items out.new.items (call_text (Call.Get window min max))) }
+    ensures { OnOk result (Adds out.old.items out.new.items (codes "get" ++ three_text window min max)) }
 {
     put_text(out, b"get")?;
-    put_operand(out, window)?;
-    put_operand(out, min)?;
-    put_operand(out, max)?;
+    put_three(out, window, min, max)?;
+    Ok(())
+}
+
+/// Adds the word of a post, and what it posts.
+fn put_post(
+    out: &mut Vec<u8>,
+    words: &Words,
+    word: &[u8],
+    to: u64,
+    number: u64,
+    wparam: u64,
+    lparam: u64,
+) -> Result<(), AllocError>
+    ensures { OnOk result (Adds out.old.items out.new.items (word.now ++ posting_text to number wparam lparam)) }
+{
+    put_text(out, word)?;
+    put_posting(out, words, to, number, wparam, lparam)?;
+    Ok(())
+}
+
+fn put_register(
+    out: &mut Vec<u8>,
+    words: &Words,
+    class: u32,
+    procedure: u32,
+    colour: u64,
+) -> Result<(), AllocError>
+    ensures { OnOk result (Adds out.old.items out.new.items (codes "register" ++ (name_text words.now.script.now class ++ (operand procedure ++ operand colour)))) }
+{
+    put_text(out, b"register")?;
+    words.put_name(out, class)?;
+    put_operand(out, u64::from(procedure))?;
+    put_operand(out, colour)?;
+    Ok(())
+}
+
+/// Adds what a new window has but its edges.
+fn put_window(
+    out: &mut Vec<u8>,
+    words: &Words,
+    class: u32,
+    title: u32,
+    parent: u64,
+    style: u64,
+    extended: u64,
+) -> Result<(), AllocError>
+    ensures { OnOk result (Adds out.old.items out.new.items (window_text words.now.script.now class title parent style extended)) }
+{
+    put_text(out, b"new_window")?;
+    words.put_name(out, class)?;
+    words.put_name(out, title)?;
+    put_three(out, parent, style, extended)?;
     Ok(())
 }
 
 /// Adds a call: its word and its arguments.
-pub fn put_call(out: &mut Vec<u8>, call: Call) -> Result<(), AllocError>
-    ensures { OnOk result (Adds out.old.items out.new.items (call_text call)) }
+pub fn put_call(out: &mut Vec<u8>, words: &Words, call: Call) -> Result<(), AllocError>
+    ensures { OnOk result (Adds out.old.items out.new.items (call_text words.now.script.now call)) }
 {
     match call {
+        Call::Peek(window, min, max, flags) => put_peek(out, window, min, max, flags),
         Call::Get(window, min, max) => put_get(out, window, min, max),
-        Call::PostThread(to, number, wparam, lparam) => {
-            put_post_thread(out, to, number, wparam, lparam)
+        Call::Post(window, number, wparam, lparam) => {
+            put_post(out, words, b"post", window, number, wparam, lparam)
         }
+        Call::PostThread(to, number, wparam, lparam) => {
+            put_post(out, words, b"post_thread", to, number, wparam, lparam)
+        }
+        Call::PostQuit(code) => put_counted(out, b"post_quit", code),
+        Call::Message(name) => put_named(out, words, b"message", name),
+        Call::Register(class, procedure, colour) => {
+            put_register(out, words, class, procedure, colour)
+        }
+        Call::Unregister(class) => put_named(out, words, b"unregister", class),
+        Call::NewWindow(class, title, parent, style, extended, left, top, right, bottom) => {
+            put_window(out, words, class, title, parent, style, extended)?;
+            put_edges(out, left, top, right, bottom)?;
+            Ok(())
+        }
+        Call::Doom(window) => put_counted(out, b"doom", window),
+        Call::Unmake(window) => put_counted(out, b"unmake", window),
+        Call::Drop(window) => put_counted(out, b"drop", window),
+        Call::NextTop(window) => put_counted(out, b"next_top", window),
+        Call::IsWindow(window) => put_counted(out, b"is_window", window),
+        Call::Parent(window) => put_counted(out, b"parent", window),
         Call::EndThread => put_text(out, b"end_thread"),
+        Call::Yield => put_text(out, b"yield"),
         Call::Advance => put_text(out, b"advance"),
     }
 }
@@ -78,16 +206,14 @@ fn put_code(out: &mut Vec<u8>, code: Code) -> Result<(), AllocError>
 fn put_point(out: &mut Vec<u8>, point: Point) -> Result<(), AllocError>
     ensures { OnOk result (Adds out.old.items out.new.items (point_text point)) }
 {
-    put_signed(out, i64::from(point.x))?;
-    put_signed(out, i64::from(point.y))?;
-    Ok(())
+    put_pair(out, i64::from(point.x), i64::from(point.y))
 }
 
-fn put_msg(out: &mut Vec<u8>, msg: Msg) -> Result<(), AllocError>
+fn put_msg(out: &mut Vec<u8>, words: &Words, msg: Msg) -> Result<(), AllocError>
     ensures { OnOk result (Adds out.old.items out.new.items (msg_text msg)) }
 {
     put_operand(out, msg.hwnd.0 as u64)?;
-    put_message(out, msg.number as u64)?;
+    words.put_message(out, msg.number as u64)?;
     put_operand(out, msg.wparam)?;
     put_operand(out, msg.lparam)?;
     put_operand(out, msg.time)?;
@@ -95,21 +221,27 @@ fn put_msg(out: &mut Vec<u8>, msg: Msg) -> Result<(), AllocError>
     Ok(())
 }
 
-/// Adds a word, a blank and a number.
-fn put_counted(out: &mut Vec<u8>, word: &[u8], number: u64) -> Result<(), AllocError>
-    ensures { OnOk result (Adds out.old.items out.new.items (word.now ++ operand number)) }
+fn put_origin(out: &mut Vec<u8>, origin: Origin) -> Result<(), AllocError>
+    ensures { OnOk result (Adds out.old.items out.new.items (origin_text origin)) }
 {
-    put_text(out, word)?;
-    put_operand(out, number)?;
-    Ok(())
+    match origin {
+        Origin::Posted => put_text(out, b"got posted"),
+        Origin::Quit => put_text(out, b"got quit"),
+    }
 }
 
-fn put_got(out: &mut Vec<u8>, number: u32, msg: Msg) -> Result<(), AllocError>
-    ensures { OnOk result (Adds out.old.items out.new.items (codes "got posted" ++ (operand number ++ msg_text msg))) }
+fn put_got(
+    out: &mut Vec<u8>,
+    words: &Words,
+    origin: Origin,
+    number: u32,
+    msg: Msg,
+) -> Result<(), AllocError>
+    ensures { OnOk result (Adds out.old.items out.new.items (origin_text origin ++ (operand number ++ msg_text msg))) }
 {
-    put_text(out, b"got posted")?;
+    put_origin(out, origin)?;
     put_operand(out, u64::from(number))?;
-    put_msg(out, msg)?;
+    put_msg(out, words, msg)?;
     Ok(())
 }
 
@@ -121,30 +253,41 @@ fn put_refused(out: &mut Vec<u8>, code: Code) -> Result<(), AllocError>
     Ok(())
 }
 
-fn put_answer(out: &mut Vec<u8>, answer: Answer) -> Result<(), AllocError>
+fn put_answer(out: &mut Vec<u8>, words: &Words, answer: Answer) -> Result<(), AllocError>
     ensures { OnOk result (Adds out.old.items out.new.items (answer_text answer)) }
 {
     match answer {
+        Answer::Okay => put_text(out, b"ok"),
         Answer::Ended => put_text(out, b"ended"),
+        Answer::Nothing => put_text(out, b"none"),
         Answer::Wait => put_text(out, b"wait"),
         Answer::Stuck => put_text(out, b"stuck"),
+        Answer::Gone => put_text(out, b"gone"),
+        Answer::Value(value) => put_counted(out, b"value", value),
+        Answer::Window(window) => put_counted(out, b"window", u64::from(window.0)),
         Answer::Posted(number) => put_counted(out, b"posted", u64::from(number)),
+        Answer::Tell(window) => put_counted(out, b"tell", u64::from(window.0)),
+        Answer::Last(window) => put_counted(out, b"last", u64::from(window.0)),
         Answer::Advanced(now) => put_counted(out, b"advanced", now),
         Answer::Busy(thread) => put_counted(out, b"busy", u64::from(thread.0)),
-        Answer::Got { number, msg, .. } => put_got(out, number, msg),
+        Answer::Got {
+            origin,
+            number,
+            msg,
+        } => put_got(out, words, origin, number, msg),
         Answer::Refused(code) => put_refused(out, code),
     }
 }
 
 /// Adds the line of an entry.
-pub fn put_entry(out: &mut Vec<u8>, entry: Entry) -> Result<(), AllocError>
-    ensures { OnOk result (Adds out.old.items out.new.items (entry_text entry)) }
+pub fn put_entry(out: &mut Vec<u8>, words: &Words, entry: Entry) -> Result<(), AllocError>
+    ensures { OnOk result (Adds out.old.items out.new.items (entry_text words.now.script.now entry)) }
 {
     put_number(out, u64::from(entry.who.0))?;
     put_text(out, b" ")?;
-    put_call(out, entry.call)?;
+    put_call(out, words, entry.call)?;
     put_text(out, b" = ")?;
-    put_answer(out, entry.answer)?;
+    put_answer(out, words, entry.answer)?;
     put_text(out, b"\n")?;
     Ok(())
 }

@@ -1,15 +1,19 @@
 //! Logs: the text of a run's history and of its end.
 //!
 //! The form of a log is this project's own. Its first line is `log 1`. Then comes a line for each
-//! entry, `WHO CALL = ANSWER`, with messages by their names where they have one; then the line `end`
-//! with a word, extra lines, and the line of the sends. Each line ends with one line feed.
+//! entry, `WHO CALL = ANSWER`, with messages and names by their text where they have one; then the
+//! line `end` with a word, extra lines, and the line of the sends. Each line ends with one line feed.
+//! The summary of a run has five lines: the number that it was made from, how many entries there are,
+//! the clock, and the lines of the end and of the sends.
 #![tactic(auto)]
 
 mod end;
 mod ending;
 mod entry;
-mod names;
+mod summary;
+mod words;
 mod writer;
 
 pub use end::End;
+pub use summary::write_summary;
 pub use writer::{WriteFault, write_log};

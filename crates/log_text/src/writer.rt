@@ -16,7 +16,8 @@ ghost use Rattle.log_text.specs.Passing.{Passes};
 use crate::end::End;
 use crate::ending::put_ending;
 use crate::entry::put_entry;
-use script_text::Script;
+use crate::words::Words;
+use script_tree::Script;
 use std::alloc::{AllocError, Global};
 use user_io::text::put_text;
 use user_io::{Sink, WriteFailed, write_all};
@@ -66,13 +67,18 @@ fn pass_on<K: Sink>(sink: &mut K, text: &mut Vec<u8>) -> Result<(), WriteFault>
 }
 
 /// Adds the line of an entry, and passes the text on where it has grown large.
-fn write_entry<K: Sink>(sink: &mut K, text: &mut Vec<u8>, entry: Entry) -> Result<(), WriteFault>
-    ensures ok { OnOk result (Passes (K.holds sink.old) (K.holds sink.new) text.old.items text.new.items (entry_text entry)) }
-    ensures err { OnErr result (AppendsPart (K.holds sink.old) (K.holds sink.new) (text.old.items ++ entry_text entry)) }
+fn write_entry<K: Sink>(
+    sink: &mut K,
+    text: &mut Vec<u8>,
+    words: &Words,
+    entry: Entry,
+) -> Result<(), WriteFault>
+    ensures ok { OnOk result (Passes (K.holds sink.old) (K.holds sink.new) text.old.items text.new.items (entry_text words.now.script.now entry)) }
+    ensures err { OnErr result (AppendsPart (K.holds sink.old) (K.holds sink.new) (text.old.items ++ entry_text words.now.script.now entry)) }
     ensures faults { K.faults sink.old ≤ K.faults sink.new }
     ensures failed { IsErrOf result WriteFault.Write → Rose (K.faults sink.old) (K.faults sink.new) }
 {
-    put_entry(text, entry)?;
+    put_entry(text, words, entry)?;
     pass_on(sink, text)
 }
 
@@ -80,15 +86,16 @@ fn write_entry<K: Sink>(sink: &mut K, text: &mut Vec<u8>, entry: Entry) -> Resul
 fn write_entries<K: Sink>(
     sink: &mut K,
     text: &mut Vec<u8>,
+    words: &Words,
     history: &[Entry],
 ) -> Result<(), WriteFault>
-    ensures ok { OnOk result (Passes (K.holds sink.old) (K.holds sink.new) text.old.items text.new.items (flat_map entry_text history.now)) }
-    ensures err { OnErr result (AppendsPart (K.holds sink.old) (K.holds sink.new) (text.old.items ++ flat_map entry_text history.now)) }
+    ensures ok { OnOk result (Passes (K.holds sink.old) (K.holds sink.new) text.old.items text.new.items (flat_map (entry_text words.now.script.now) history.now)) }
+    ensures err { OnErr result (AppendsPart (K.holds sink.old) (K.holds sink.new) (text.old.items ++ flat_map (entry_text words.now.script.now) history.now)) }
     ensures faults { K.faults sink.old ≤ K.faults sink.new }
     ensures failed { IsErrOf result WriteFault.Write → Rose (K.faults sink.old) (K.faults sink.new) }
 {
     for entry in history {
-        write_entry(sink, text, *entry)?;
+        write_entry(sink, text, words, *entry)?;
     }
     Ok(())
 }
@@ -110,10 +117,11 @@ pub fn write_log<M: Machine, K: Sink>(
     ensures faults { K.faults sink.old ≤ K.faults sink.new }
     ensures failed { IsErrOf result WriteFault.Write → Rose (K.faults sink.old) (K.faults sink.new) }
 {
+    let words = Words::new(script);
     let mut text = Vec::new(alloc);
     put_text(&mut text, b"log 1\n")?;
-    write_entries(sink, &mut text, machine.history())?;
-    put_ending(&mut text, script, machine, end)?;
+    write_entries(sink, &mut text, &words, machine.history())?;
+    put_ending(&mut text, &words, machine, end)?;
     write_all(sink, &text)?;
     Ok(())
 }

@@ -1,7 +1,7 @@
 -- What slots with rising numbers hold.
 use Rattle.std.proofs.Common.{◌≡◌, ◌≢◌, inl, inr, ℕ, zero, suc, ◌+◌, ◌<◌, ◌≤◌, ◌==◌, Bool, true, false, not, ◌&&◌, List, [], ◌∷◌, ◌++◌, length, take, filter, get_or, Option, Some, None, refl, ap, subst, sym, ◌∙◌, arith}
 use Rattle.std.specs.Prelude.{find, position, All, option_map, remove, count_by, nat_lt}
-use Rattle.std.specs.List.{AllByRecursion, position_from}
+use Rattle.std.specs.List.{AllByRecursion, position_from, items_where_true}
 use Rattle.std.proofs.lemmas.Bool.{cases_Bool, eqb-true, eq-eqb, ne_eqb, cond-true, cond-false}
 use Rattle.std.proofs.lemmas.List.{take_all, length-append, length-map, get_or-map}
 use Rattle.std.proofs.lemmas.List.Elements.{All-head, All-tail}
@@ -163,3 +163,34 @@ at-slot xs i s within at = get_or-map posted_of xs i s (posted_of s) within ∙ 
 -- all slots are before a place that is past the end
 pub all-posted : (P : Posted → Type 0) (xs : List Slot) (i : ℕ) → length xs ≤ i → All P (take i (posted_in xs)) → All P (posted_in xs)
 all-posted P xs i past all = subst (λ (ps : List Posted). All P ps) (take_all i (posted_in xs) (rw (length-map xs posted_of) past)) all
+
+-- ---- slots of which some are kept
+
+all-where : (P : Slot → Type 0) (bs : List Bool) (xs : List Slot) → AllByRecursion P xs → AllByRecursion P (items_where_true bs xs)
+all-where P [] xs all = tt
+all-where P (b ∷ bs) [] all = tt
+all-where P (true ∷ bs) (x ∷ xs) all = (all.0, all-where P bs xs all.1)
+all-where P (false ∷ bs) (x ∷ xs) all = all-where P bs xs all.1
+
+rising-where : (bs : List Bool) (xs : List Slot) → IsRising xs → IsRising (items_where_true bs xs)
+rising-where [] xs rising = tt
+rising-where (b ∷ bs) [] rising = tt
+rising-where (true ∷ bs) (x ∷ xs) rising = (all-where (λ t. x.number < t.number) bs xs rising.0, rising-where bs xs rising.1)
+rising-where (false ∷ bs) (x ∷ xs) rising = rising-where bs xs rising.1
+
+fewer-where : (bs : List Bool) (xs : List Slot) → length (items_where_true bs xs) ≤ length xs
+fewer-where [] xs = omega arith
+fewer-where (b ∷ bs) [] = omega arith
+fewer-where (true ∷ bs) (x ∷ xs) = omega (arith, fewer-where bs xs)
+fewer-where (false ∷ bs) (x ∷ xs) = omega (arith, fewer-where bs xs)
+
+pub sound-where : (bs : List Bool) (xs ys : List Slot) (limit : ℕ) → ys ≡ items_where_true bs xs → IsSound xs limit → IsSound ys limit
+sound-where bs xs ys limit e sound = subst (λ (zs : List Slot). IsSound zs limit) (sym e) (record {
+  within = omega (arith, fewer-where bs xs, sound.within);
+  fits = sound.fits;
+  rising = rising-where bs xs sound.rising;
+})
+
+-- a test of the slots' windows is one of the messages' windows
+pub posted-kept : (test : ℕ → Bool) (xs : List Slot) → posted_in (filter (λ s. not (test s.hwnd.0)) xs) ≡ filter (λ p. not (test p.msg.hwnd.0)) (posted_in xs)
+posted-kept test xs = posted-filter (λ s. not (test s.hwnd.0)) (λ p. not (test p.msg.hwnd.0)) xs (λ s. ap (λ (h : Hwnd). not (test h.0)) (sym s.same_window))

@@ -16,6 +16,10 @@ pub record Queue : Type 0 where
 abbrev pub post_of : ℕ → Msg → Posted
 post_of number msg = record { number = number; msg = msg }
 
+-- the number and the message as a pair
+abbrev pub pair_of : Posted → ℕ × Msg
+pair_of p = (p.number, p.msg)
+
 -- a queue from its parts
 abbrev pub queue : ℕ → List Posted → Queue
 queue limit posted = record { limit = limit; posted = posted }

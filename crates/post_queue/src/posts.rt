@@ -1,14 +1,17 @@
 //! The queue of posted messages.
 
-ghost use Rattle.std.specs.Prelude.{◌≡◌, ◌↔◌, ◌+◌, ◌<◌, ◌≤◌, [], ◌∷◌, ◌++◌, ◌==◌, ◌&&◌, nat_lt, count_by, position, Some, All, OnOk, OnErr, IfErr, ◌⊎◌, length};
+ghost use Rattle.std.specs.Prelude.{ℕ, Bool, not, filter, remove, slice_index_or, find, option_map, ◌≡◌, ◌↔◌, ◌+◌, ◌<◌, ◌≤◌, [], ◌∷◌, ◌++◌, ◌==◌, ◌&&◌, nat_lt, count_by, position, Some, All, OnOk, OnErr, IfErr, ◌⊎◌, length};
+ghost use Rattle.win_num.specs.declared.message.Hwnd.{Hwnd};
+ghost use Rattle.win_num.specs.declared.message.Msg.{Msg};
 ghost use Rattle.std.specs.Fn.{FnReturnsAt};
 ghost use Rattle.post_queue.specs.Slots.{posted_in};
-ghost use Rattle.post_queue.specs.Queue.{FindsFirst, count_above, count_for, message_of, post_of, queue, without_number, without_window};
+ghost use Rattle.post_queue.specs.Queue.{FindsFirst, count_above, count_for, message_of, pair_of, post_of, queue, without_number, without_window};
 
 use crate::sealed::Sealed;
 use crate::slot::Slot;
 use crate::steps::Steps;
 use std::alloc::Global;
+use std::collections::VecDeque;
 use std::marker::Model;
 use std::sync::ledger::Ledger;
 use win_num::{Code, Fault, Hwnd, Msg};
@@ -17,7 +20,7 @@ use win_num::{Code, Fault, Hwnd, Msg};
 /// see the limit and the list of the messages with their numbers.
 #[derive(Drop)]
 pub struct Posts {
-    slots: Vec<Slot>,
+    slots: VecDeque<Slot>,
     limit: u32,
 }
 
@@ -34,14 +37,15 @@ impl Model for Posts {
 
 /// The first message that passes, with its number, read from the front.
 fn first_in<F: Fn(&Msg) -> bool, L: Ledger>(
-    slots: &[Slot],
+    slots: &VecDeque<Slot>,
     pass: F,
     steps: &mut Steps<L>,
 ) -> Option<(u32, Msg)>
     requires { F.IsAlwaysCallable pass }
-    ensures { FindsFirst (FnReturnsAt F.Fn pass) (posted_in slots.now) result steps.old steps.new }
+    ensures { FindsFirst (FnReturnsAt F.Fn pass) (posted_in slots.now.items) result steps.old steps.new }
 {
-    for slot in slots {
+    for i in 0..slots.len() {
+        let slot = &slots[i];
         let msg = slot.sealed.read(steps);
         if pass(&msg) {
             return Some((slot.number, msg));
@@ -50,23 +54,32 @@ fn first_in<F: Fn(&Msg) -> bool, L: Ledger>(
     None
 }
 
+/// The message at a place, taken out.
+fn taken_from(slots: &mut VecDeque<Slot>, place: usize) -> Slot
+    requires { place < length slots.old.items }
+    ensures value { result ≡ slice_index_or slots.old.items place result }
+    ensures items { slots.new.items ≡ remove slots.old.items place }
+{
+    slots.remove(place).unwrap()
+}
+
 /// The place of the message with the number.
-fn place_of(slots: &[Slot], number: u32) -> Option<usize>
-    ensures { result ≡ position (λ s. s.number == number) slots.now }
+fn place_of(slots: &VecDeque<Slot>, number: u32) -> Option<usize>
+    ensures { result ≡ position (λ s. s.number == number) slots.now.items }
 {
     slots.iter().position(|slot| slot.number == number)
 }
 
 /// How many messages are for the window.
-fn count_in(slots: &[Slot], w: Hwnd) -> usize
-    ensures { result ≡ count_by (λ s. s.hwnd.0 == w.0) slots.now }
+fn count_in(slots: &VecDeque<Slot>, w: Hwnd) -> usize
+    ensures { result ≡ count_by (λ s. s.hwnd.0 == w.0) slots.now.items }
 {
     slots.iter().filter(|slot| slot.hwnd.0 == w.0).count()
 }
 
 /// How many messages are for the window and have a number above `look`.
-fn count_after(slots: &[Slot], w: Hwnd, look: u32) -> usize
-    ensures { result ≡ count_by (λ s. (s.hwnd.0 == w.0) && nat_lt look s.number) slots.now }
+fn count_after(slots: &VecDeque<Slot>, w: Hwnd, look: u32) -> usize
+    ensures { result ≡ count_by (λ s. (s.hwnd.0 == w.0) && nat_lt look s.number) slots.now.items }
 {
     slots
         .iter()
@@ -80,7 +93,7 @@ impl Posts {
         ensures { result ≡ queue limit [] }
     {
         Posts {
-            slots: Vec::new(alloc),
+            slots: VecDeque::new(alloc),
             limit,
         }
     }
@@ -103,7 +116,7 @@ impl Posts {
             hwnd: msg.hwnd,
             sealed: Sealed::new(msg),
         };
-        match self.slots.push(slot) {
+        match self.slots.push_back(slot) {
             Ok(()) => {}
             Err(_) => return Err(Fault::Memory),
         }
@@ -119,7 +132,9 @@ impl Posts {
         steps: &mut Steps<L>,
     ) -> Option<(u32, Msg)>
         requires { F.IsAlwaysCallable pass }
-        ensures { FindsFirst (FnReturnsAt F.Fn pass) self.now.posted result steps.old steps.new }
+        ensures first { FindsFirst (FnReturnsAt F.Fn pass) self.now.posted result steps.old steps.new }
+        // where `pass` computes a test
+        ensures found { (test : Msg → Bool) → ((m : Msg) (b : Bool) → FnReturnsAt F.Fn pass m b → b ≡ test m) → result ≡ option_map pair_of (find (λ p. test p.msg) self.now.posted) }
     {
         first_in(&self.slots, pass, steps)
     }
@@ -130,7 +145,7 @@ impl Posts {
         ensures rest { self.new ≡ queue self.old.limit (without_number self.old.posted number) }
     {
         match place_of(&self.slots, number) {
-            Some(place) => Some(self.slots.remove(place).sealed.into_msg()),
+            Some(place) => Some(taken_from(&mut self.slots, place).sealed.into_msg()),
             None => None,
         }
     }
@@ -146,6 +161,21 @@ impl Posts {
         let fresh = count_after(&self.slots, w, look) as u32;
         self.slots.retain(|slot| slot.hwnd.0 != w.0);
         (count, fresh)
+    }
+
+    /// Takes out the messages whose window goes: those for which `goes` answers true.
+    pub fn purge_each<F: Fn(Hwnd) -> bool>(&mut self, goes: F)
+        requires { F.IsAlwaysCallable goes }
+        ensures { (test : ℕ → Bool) → ((w : Hwnd) (b : Bool) → F.post goes w b → b ≡ test w.0) → self.new ≡ queue self.old.limit (filter (λ p. not (test p.msg.hwnd.0)) self.old.posted) }
+    {
+        self.slots.retain(|slot| !goes(slot.hwnd));
+    }
+
+    /// Takes all messages out.
+    pub fn clear(&mut self)
+        ensures { self.new ≡ queue self.old.limit [] }
+    {
+        self.slots.clear();
     }
 
     /// How many messages the queue holds.

@@ -1,4 +1,9 @@
-pub mod Again
-pub mod Bodies
-pub mod OneTree
-pub mod Parsed
+pub mod NameLemmas
+pub mod LineLoops
+pub mod BuildLemmas
+pub mod Puts
+pub mod LimitLemmas
+pub mod WordsAgain
+pub mod TextsAgain
+pub mod LinesAgain
+pub mod PartsAgain

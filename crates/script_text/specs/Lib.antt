@@ -1,5 +1,9 @@
-pub mod Tree
+pub mod Lines
+pub mod Words
 pub mod Spelling
 pub mod Limits
 pub mod Reading
+pub mod Nesting
+pub mod Building
 pub mod Refusals
+pub mod Programs

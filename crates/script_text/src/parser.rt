@@ -1,184 +1,138 @@
-//! Taking a text apart, loosely: a number may have leading zeros, or stand still at 2^64 - 1. Whether
-//! the text is the spelling of what was found is seen by spelling it again.
+//! Taking a text apart, loosely: a number may have leading zeros, or be too large. Whether the text is
+//! the spelling of what was found is seen by spelling it again.
 
-ghost use Rattle.std.specs.Prelude.{◌≡◌, ◌+◌, length, option_map, IfOk, IfSome, Some};
-ghost use Rattle.std.specs.List.{AllByRecursion};
-ghost use Rattle.script_text.specs.Tree.{Tree};
-ghost use Rattle.script_text.specs.Spelling.{spelling};
-ghost use Rattle.script_text.specs.Limits.{IsStatement, IsScript};
-ghost use Rattle.script_text.specs.Reading.{strip, digits_at, operand_at, post_at, statement_at, body_at, bodies_at, head_parts, head_at};
+ghost use Rattle.std.specs.Prelude.{◌≡◌, ℕ, List, IfOk, IfSome, map, drop};
+ghost use Rattle.std.specs.List.{flat_map};
+ghost use Rattle.script_tree.specs.Tree.{Tree};
+ghost use Rattle.script_text.specs.declared.line.Line.{Line};
+ghost use Rattle.script_text.specs.Lines.{thread_lines};
+ghost use Rattle.script_text.specs.Words.{line_words};
+ghost use Rattle.script_text.specs.Spelling.{joined, spelling};
+ghost use Rattle.script_text.specs.Limits.{IsScript};
+ghost use Rattle.script_text.specs.Reading.{split_at, small_number_at, texts_of, width_at, height_at, budget_at, order_at};
+ghost use Rattle.script_text.specs.Programs.{IsProgram, Finds, IsFitting, FindsTree};
 
-use crate::limits::small;
-use crate::tree::{Body, Script, Statement};
+use crate::builder::build;
+use crate::limits::{are_in_order, fits};
+use crate::line_reader::{lines_at, split_at, word_at};
+use crate::operands::{NameTables, number_at};
+use script_tree::{Body, Name, Script};
 use std::alloc::{AllocError, Global};
 
-/// Takes a fixed text off the front.
-fn skip<'a>(bytes: &'a [u8], text: &[u8]) -> Option<&'a [u8]>
-    ensures { option_map (λ rest. rest.now) result ≡ strip text.now bytes.now }
+/// The lines of a text, without what stands behind the last line feed.
+#[tactic(auto, unfolding(crate::specs::Reading::texts_of))]
+fn texts_of<'a>(alloc: Global, bytes: &'a [u8]) -> Result<Vec<&'a [u8]>, AllocError>
+    ensures { IfOk result (λ v. map (λ w. w.now) v.items ≡ texts_of bytes.now) }
 {
-    let mut rest = bytes;
-    for wanted in text {
-        let [byte, after @ ..] = rest else {
-            return None;
-        };
-        if *byte != *wanted {
-            return None;
-        }
-        rest = after;
+    let mut texts = split_at(alloc, bytes, b'\n')?;
+    texts.pop();
+    Ok(texts)
+}
+
+/// A number, or the greatest that may stand there where it is too large.
+fn small_number_at(most: u64, word: &[u8]) -> u64
+    ensures { result ≡ small_number_at most word.now }
+{
+    number_at(word).min(most)
+}
+
+/// Small numbers, one for each word.
+fn small_numbers(alloc: Global, words: &[&[u8]]) -> Result<Vec<u8>, AllocError>
+    ensures { IfOk result (λ v. v.items ≡ map (small_number_at 255) (map (λ w. w.now) words.now)) }
+{
+    let mut numbers = Vec::new(alloc);
+    for word in words {
+        numbers.push(small_number_at(255, word) as u8)?;
     }
-    Some(rest)
+    Ok(numbers)
 }
 
-/// Takes digits off the front. A number that is too large stands still at the last value.
-fn digits(bytes: &[u8]) -> (u64, &[u8])
-    ensures { (result.0 ≡ (digits_at 0 bytes.now).0) × (result.1.now ≡ (digits_at 0 bytes.now).1) }
+/// The width and the height of the screen.
+#[tactic(auto, unfolding(crate::specs::Reading::width_at, crate::specs::Reading::height_at))]
+fn screen_at(alloc: Global, texts: &[&[u8]]) -> Result<(u16, u16), AllocError>
+    ensures width { IfOk result (λ screen. screen.0 ≡ width_at (map (λ w. w.now) texts.now)) }
+    ensures height { IfOk result (λ screen. screen.1 ≡ height_at (map (λ w. w.now) texts.now)) }
 {
-    let mut rest = bytes;
-    let mut value = 0u64;
-    while let [digit, after @ ..] = rest {
-        if !digit.is_ascii_digit() {
-            break;
-        }
-        value = value
-            .saturating_mul(10)
-            .saturating_add((*digit - b'0') as u64);
-        rest = after;
-    }
-    (value, rest)
+    let words = split_at(alloc, word_at(texts, 1), b' ')?;
+    let width = small_number_at(65535, word_at(&words, 1));
+    let height = small_number_at(65535, word_at(&words, 2));
+    Ok((width as u16, height as u16))
 }
 
-/// Takes a blank and digits off the front.
-#[tactic(auto, unfolding(crate::specs::Reading::operand_at))]
-fn operand(bytes: &[u8]) -> Option<(u64, &[u8])>
-    ensures { option_map (λ x. (x.0, x.1.now)) result ≡ operand_at bytes.now }
+/// The budget.
+#[tactic(auto, unfolding(crate::specs::Reading::budget_at))]
+fn budget_at(alloc: Global, texts: &[&[u8]]) -> Result<u32, AllocError>
+    ensures { IfOk result (λ budget. budget ≡ budget_at (map (λ w. w.now) texts.now)) }
 {
-    let rest = skip(bytes, b" ")?;
-    Some(digits(rest))
+    let words = split_at(alloc, word_at(texts, 2), b' ')?;
+    let budget = small_number_at(4294967295, word_at(&words, 1));
+    Ok(budget as u32)
 }
 
-/// Takes the line of a post off the front.
-#[tactic(auto, unfolding(crate::specs::Reading::post_at))]
-fn post(bytes: &[u8]) -> Option<(Statement, &[u8])>
-    ensures found { option_map (λ x. (x.0, x.1.now)) result ≡ post_at bytes.now }
-    ensures fits { IfSome result (λ x. IsStatement x.0) }
+/// The order list.
+#[tactic(auto, unfolding(crate::specs::Reading::order_at))]
+fn order_at(alloc: Global, texts: &[&[u8]]) -> Result<Vec<u8>, AllocError>
+    ensures { IfOk result (λ order. order.items ≡ order_at (map (λ w. w.now) texts.now)) }
 {
-    let rest = skip(bytes, b"post_thread")?;
-    let (to, rest) = operand(rest)?;
-    let (number, rest) = operand(rest)?;
-    let (wparam, rest) = operand(rest)?;
-    let (lparam, rest) = operand(rest)?;
-    let rest = skip(rest, b"\n")?;
-    let post = Statement::PostThread {
-        to,
-        number,
-        wparam,
-        lparam,
+    let words = split_at(alloc, word_at(texts, 3), b' ')?;
+    let [_, turns @ ..] = words.as_slice() else {
+        return Ok(Vec::new(alloc));
     };
-    Some((post, rest))
+    small_numbers(alloc, turns)
 }
 
-/// Takes the line of a statement off the front.
-#[tactic(auto, unfolding(crate::specs::Reading::statement_at))]
-fn statement(bytes: &[u8]) -> Option<(Statement, &[u8])>
-    ensures found { option_map (λ x. (x.0, x.1.now)) result ≡ statement_at bytes.now }
-    ensures fits { IfSome result (λ x. IsStatement x.0) }
+/// The names and the threads of a script.
+#[derive(Drop)]
+pub struct Program {
+    names: Vec<Name>,
+    threads: Vec<Body>,
+}
+
+/// The names and the threads that the lines may spell.
+fn program_at(
+    alloc: Global,
+    tables: &NameTables,
+    texts: &[&[u8]],
+) -> Result<Option<Program>, AllocError>
+    ensures fits { IfOk result (λ found. IfSome found (λ p. IsProgram p.names.items (flat_map thread_lines p.threads.items))) }
+    ensures again { IfOk result (λ found. (names : List (List ℕ)) (lines : List Line) → IsProgram names lines → map (λ w. w.now) texts.now ≡ map joined (map (line_words names) lines) → Finds found names lines) }
 {
-    match skip(bytes, b"get 0 0 0\n") {
-        Some(rest) => Some((Statement::Get, rest)),
-        None => post(bytes),
+    let mut names = Vec::new(alloc);
+    let Some(lines) = lines_at(alloc, tables, &mut names, texts)? else {
+        return Ok(None);
+    };
+    if !are_in_order(&lines, names.len()) {
+        return Ok(None);
     }
-}
-
-/// Takes the statements of a thread off the front, up to its end.
-fn body(alloc: Global, bytes: &[u8]) -> Result<Option<(Body, &[u8])>, AllocError>
-    ensures found { IfOk result (λ found. option_map (λ x. (x.0, x.1.now)) found ≡ body_at (length bytes.now + 1) bytes.now) }
-    ensures fits { IfOk result (λ found. IfSome found (λ x. AllByRecursion IsStatement x.0)) }
-{
-    let mut statements = Vec::new(alloc);
-    let mut rest = bytes;
-    for _ in 0..bytes.len() + 1 {
-        if let Some(after) = skip(rest, b"end\n") {
-            return Ok(Some((Body::new(statements), after)));
-        }
-        let Some((first, after)) = statement(rest) else {
-            return Ok(None);
-        };
-        statements.push(first)?;
-        rest = after;
-    }
-    Ok(None)
-}
-
-/// The threads that stand up to the end of the text.
-fn bodies(alloc: Global, bytes: &[u8]) -> Result<Option<Vec<Body>>, AllocError>
-    ensures found { IfOk result (λ found. option_map (λ x. x.items) found ≡ bodies_at (length bytes.now + 1) bytes.now) }
-    ensures fits { IfOk result (λ found. IfSome found (λ x. AllByRecursion (AllByRecursion IsStatement) x.items)) }
-{
-    let mut bodies = Vec::new(alloc);
-    let mut rest = bytes;
-    for _ in 0..bytes.len() + 1 {
-        if rest.is_empty() {
-            return Ok(Some(bodies));
-        }
-        let Some(after) = skip(rest, b"thread\n") else {
-            return Ok(None);
-        };
-        let Some((first, after)) = body(alloc, after)? else {
-            return Ok(None);
-        };
-        bodies.push(first)?;
-        rest = after;
-    }
-    Ok(None)
-}
-
-/// The numbers of the head of a script, and what follows it.
-#[derive(Clone, Copy)]
-struct Head<'a> {
-    width: u64,
-    height: u64,
-    budget: u64,
-    rest: &'a [u8],
-}
-
-/// Takes the lines before the threads off the front.
-#[tactic(auto, unfolding(crate::specs::Reading::head_at))]
-fn read_head(bytes: &[u8]) -> Option<Head<'_>>
-    ensures { option_map (λ x. head_parts x.width x.height x.budget x.rest.now) result ≡ head_at bytes.now }
-{
-    let rest = skip(bytes, b"user 1\nscreen")?;
-    let (width, rest) = operand(rest)?;
-    let (height, rest) = operand(rest)?;
-    let rest = skip(rest, b"\nbudget")?;
-    let (budget, rest) = operand(rest)?;
-    let rest = skip(rest, b"\norder\n")?;
-    Some(Head {
-        width,
-        height,
-        budget,
-        rest,
-    })
+    let Some(threads) = build(alloc, &lines)? else {
+        return Ok(None);
+    };
+    Ok(Some(Program { names, threads }))
 }
 
 /// The script that a text may spell.
-pub fn parse(alloc: Global, bytes: &[u8]) -> Result<Option<Script>, AllocError>
-    ensures again { IfOk result (λ found. (s : Tree) → IsScript s → bytes.now ≡ spelling s → found ≡ Some s) }
-    ensures fits { IfOk result (λ found. IfSome found (λ x. AllByRecursion (AllByRecursion IsStatement) x.threads)) }
+pub fn parse(
+    alloc: Global,
+    tables: &NameTables,
+    bytes: &[u8],
+) -> Result<Option<Script>, AllocError>
+    ensures fits { IfOk result (λ found. IfSome found IsFitting) }
+    ensures again { IfOk result (λ found. (s : Tree) → IsScript s → bytes.now ≡ spelling s → FindsTree found s) }
 {
-    let Some(head) = read_head(bytes) else {
+    let texts = texts_of(alloc, bytes)?;
+    let [_, _, _, _, lines @ ..] = texts.as_slice() else {
         return Ok(None);
     };
-    if !small(head.width, head.height, head.budget) {
+    let Some(program) = program_at(alloc, tables, lines)? else {
+        return Ok(None);
+    };
+    let (width, height) = screen_at(alloc, &texts)?;
+    let budget = budget_at(alloc, &texts)?;
+    let order = order_at(alloc, &texts)?;
+    let Program { names, threads } = program;
+    let script = Script::new(width, height, budget, order, names, threads);
+    if !fits(&script) {
         return Ok(None);
     }
-    let Some(bodies) = bodies(alloc, head.rest)? else {
-        return Ok(None);
-    };
-    let script = Script::new(
-        head.width as u16,
-        head.height as u16,
-        head.budget as u32,
-        bodies,
-    );
     Ok(Some(script))
 }

@@ -1,16 +1,17 @@
 //! Reading a script: its text is taken apart loosely, spelled again, and compared.
 
 ghost use Rattle.std.specs.Prelude.{◌≡◌, ◌↔◌, IsTrue, IfOk, IfErr};
-ghost use Rattle.script_text.specs.Tree.{Tree};
+ghost use Rattle.script_tree.specs.Tree.{Tree};
 ghost use Rattle.script_text.specs.Limits.{IsScript};
 ghost use Rattle.script_text.specs.Spelling.{spelling};
-ghost use Rattle.script_text.specs.Refusals.{HasCause};
+ghost use Rattle.script_text.specs.Refusals.{HasCause, IsSame};
 
 use crate::fault::{ReadFault, Reason, Refusal};
-use crate::limits::{SCRIPT_LIMIT, fits};
+use crate::limits::SCRIPT_LIMIT;
+use crate::operands::NameTables;
 use crate::parser::parse;
-use crate::tree::Script;
-use crate::writer::write;
+use crate::writer::write_with;
+use script_tree::Script;
 use std::alloc::Global;
 
 /// The refusal of every text that isn't a script.
@@ -28,7 +29,7 @@ fn same_text(a: &[u8], b: &[u8]) -> bool
 
 /// A text is that of one script at most.
 pub fn one_tree()
-    ensures { (s : Tree) (t : Tree) → IsScript s → IsScript t → spelling s ≡ spelling t → s ≡ t }
+    ensures { (s : Tree) (t : Tree) → IsScript s → IsScript t → spelling s ≡ spelling t → IsSame s t }
 {}
 
 /// The script whose text the bytes are. `Refused`, with line 0 and `Later`, comes exactly where no
@@ -41,13 +42,11 @@ pub fn read(alloc: Global, bytes: &[u8]) -> Result<Script, ReadFault>
     if bytes.len() > SCRIPT_LIMIT {
         return Err(REFUSED);
     }
-    let Some(script) = parse(alloc, bytes)? else {
+    let tables = NameTables::new();
+    let Some(script) = parse(alloc, &tables, bytes)? else {
         return Err(REFUSED);
     };
-    if !fits(&script) {
-        return Err(REFUSED);
-    }
-    let text = write(alloc, &script)?;
+    let text = write_with(alloc, &tables, &script)?;
     if !same_text(&text, bytes) {
         return Err(REFUSED);
     }

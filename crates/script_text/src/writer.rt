@@ -1,73 +1,268 @@
 //! Writing a script.
 
-ghost use Rattle.std.specs.Prelude.{◌≡◌, OnOk, IfOk};
-ghost use Rattle.user_io.specs.Text.{Adds};
+ghost use Rattle.std.specs.Prelude.{◌≡◌, ◌++◌, ◌∷◌, [], map, codes, decimal, unwrap_or, option_map, slice_index_or, OnOk, IfOk};
 ghost use Rattle.std.specs.List.{flat_map};
-ghost use Rattle.script_text.specs.Spelling.{statement_text, thread_text, spelling};
+ghost use Rattle.user_io.specs.Text.{Adds};
+ghost use Rattle.script_text.specs.Words.{operand_word, part_word, command_word, test_parts, line_words};
+ghost use Rattle.script_text.specs.declared.line.Line.TheVariants.{Call as CallLine};
+ghost use Rattle.script_text.specs.Spelling.{blank_word, line_text, head_text, spelling};
 
-use crate::tree::{Body, Script, Statement};
+use crate::flatten::flatten;
+use crate::line::{Command, Line, Part};
+use crate::operands::NameTables;
+use crate::words::{command_word, comparison_word, letter_word, operator_word, variable_word};
+use script_tree::{CallStatement, Name, Operand, Script, Test};
 use std::alloc::{AllocError, Global};
-use user_io::text::{put_operand, put_text};
+use user_io::text::{put_number, put_operand as put_decimal, put_text};
 
-/// Adds the line of a statement.
+/// Adds a blank and a word.
 #[tactic(auto, using(user_io::proofs::Texts::two))]
-fn put_statement(out: &mut Vec<u8>, statement: Statement) -> Result<(), AllocError>
-    ensures { OnOk result (Adds out.old.items out.new.items (statement_text statement)) }
+fn put_word(out: &mut Vec<u8>, word: &[u8]) -> Result<(), AllocError>
+    ensures { OnOk result (Adds out.old.items out.new.items (blank_word word.now)) }
 {
-    match statement {
-        Statement::PostThread {
-            to,
-            number,
-            wparam,
-            lparam,
-        } => {
-            put_text(out, b"post_thread")?;
-            put_operand(out, to)?;
-            put_operand(out, number)?;
-            put_operand(out, wparam)?;
-            put_operand(out, lparam)?;
-            put_text(out, b"\n")?;
+    put_text(out, b" ")?;
+    put_text(out, word)?;
+    Ok(())
+}
+
+/// Adds a blank and a number below 0.
+#[tactic(auto, using(user_io::proofs::Texts::two))]
+fn put_minus(out: &mut Vec<u8>, number: u64) -> Result<(), AllocError>
+    ensures { OnOk result (Adds out.old.items out.new.items (blank_word (45 ∷ decimal number))) }
+{
+    put_text(out, b" -")?;
+    put_number(out, number)?;
+    Ok(())
+}
+
+/// Adds a blank and a word, or only the blank.
+fn put_some_word(out: &mut Vec<u8>, word: Option<&[u8]>) -> Result<(), AllocError>
+    ensures { OnOk result (Adds out.old.items out.new.items (blank_word (unwrap_or (option_map (λ w. w.now) word.entry) []))) }
+{
+    match word {
+        Some(word) => put_word(out, word),
+        None => put_word(out, b""),
+    }
+}
+
+/// Adds a blank and an operand.
+fn put_operand(
+    out: &mut Vec<u8>,
+    tables: &NameTables,
+    operand: Operand,
+) -> Result<(), AllocError>
+    ensures { OnOk result (Adds out.old.items out.new.items (blank_word (operand_word operand))) }
+{
+    match operand {
+        Operand::Number(number) => put_decimal(out, number),
+        Operand::Minus(number) => put_minus(out, number),
+        Operand::Message(number) => put_some_word(out, tables.messages.name_of(number)),
+        Operand::Constant(ordinal) => put_some_word(out, tables.constants.name_of(ordinal)),
+        Operand::Variable(variable) => put_word(out, variable_word(variable)),
+    }
+}
+
+/// The name at a place, empty where there is none.
+fn name_at(names: &[Name], place: u32) -> &[u8]
+    ensures { result.now ≡ slice_index_or names.now place [] }
+{
+    match names.get(place as usize) {
+        Some(name) => name.text(),
+        None => b"",
+    }
+}
+
+/// Adds a blank and a part of a line.
+fn put_part(
+    out: &mut Vec<u8>,
+    tables: &NameTables,
+    names: &[Name],
+    part: Part,
+) -> Result<(), AllocError>
+    ensures { OnOk result (Adds out.old.items out.new.items (blank_word (part_word names.now part))) }
+{
+    match part {
+        Part::Letter(letter) => put_word(out, letter_word(letter)),
+        Part::Operand(operand) => put_operand(out, tables, operand),
+        Part::Operator(operator) => put_word(out, operator_word(operator)),
+        Part::Comparison(comparison) => put_word(out, comparison_word(comparison)),
+        Part::Name(place) => put_word(out, name_at(names, place)),
+    }
+}
+
+/// Adds the parts of a line.
+fn put_parts(
+    out: &mut Vec<u8>,
+    tables: &NameTables,
+    names: &[Name],
+    parts: &[Part],
+) -> Result<(), AllocError>
+    ensures { OnOk result (Adds out.old.items out.new.items (flat_map (λ p. blank_word (part_word names.now p)) parts.now)) }
+{
+    for part in parts {
+        put_part(out, tables, names, *part)?;
+    }
+    Ok(())
+}
+
+/// Adds a line.
+fn put_words(
+    out: &mut Vec<u8>,
+    tables: &NameTables,
+    names: &[Name],
+    command: Command,
+    parts: &[Part],
+) -> Result<(), AllocError>
+    ensures { OnOk result (Adds out.old.items out.new.items (line_text (command_word command ∷ map (part_word names.now) parts.now))) }
+{
+    put_text(out, command_word(command))?;
+    put_parts(out, tables, names, parts)?;
+    put_text(out, b"\n")?;
+    Ok(())
+}
+
+/// Adds a line of a test.
+fn put_test(
+    out: &mut Vec<u8>,
+    tables: &NameTables,
+    names: &[Name],
+    command: Command,
+    test: Test,
+) -> Result<(), AllocError>
+    ensures { OnOk result (Adds out.old.items out.new.items (line_text (command_word command ∷ map (part_word names.now) (test_parts test)))) }
+{
+    let parts = [
+        Part::Operand(test.left),
+        Part::Comparison(test.comparison),
+        Part::Operand(test.right),
+    ];
+    put_words(out, tables, names, command, &parts)
+}
+
+/// Adds the line of a call.
+fn put_call(
+    out: &mut Vec<u8>,
+    tables: &NameTables,
+    names: &[Name],
+    call: CallStatement,
+) -> Result<(), AllocError>
+    ensures { OnOk result (Adds out.old.items out.new.items (line_text (line_words names.now (CallLine call)))) }
+{
+    match call {
+        CallStatement::Peek(window, min, max, flags) => {
+            let parts = [Part::Operand(window), Part::Operand(min), Part::Operand(max), Part::Operand(flags)];
+            put_words(out, tables, names, Command::Peek, &parts)
         }
-        Statement::Get => put_text(out, b"get 0 0 0\n")?,
+        CallStatement::Get(window, min, max) => {
+            let parts = [Part::Operand(window), Part::Operand(min), Part::Operand(max)];
+            put_words(out, tables, names, Command::Get, &parts)
+        }
+        CallStatement::Post(window, message, wparam, lparam) => {
+            let parts = [Part::Operand(window), Part::Operand(message), Part::Operand(wparam), Part::Operand(lparam)];
+            put_words(out, tables, names, Command::Post, &parts)
+        }
+        CallStatement::PostThread(thread, message, wparam, lparam) => {
+            let parts = [Part::Operand(thread), Part::Operand(message), Part::Operand(wparam), Part::Operand(lparam)];
+            put_words(out, tables, names, Command::PostThread, &parts)
+        }
+        CallStatement::PostQuit(value) => {
+            put_words(out, tables, names, Command::PostQuit, &[Part::Operand(value)])
+        }
+        CallStatement::Message(place) => {
+            put_words(out, tables, names, Command::Message, &[Part::Name(place)])
+        }
+        CallStatement::Yield => put_words(out, tables, names, Command::Yield, &[]),
     }
-    Ok(())
 }
 
-/// Adds the lines of a thread.
-#[tactic(auto, using(user_io::proofs::Texts::two))]
-fn put_body(out: &mut Vec<u8>, body: &[Statement]) -> Result<(), AllocError>
-    ensures { OnOk result (Adds out.old.items out.new.items (thread_text body.now)) }
+/// Adds a line of a thread.
+fn put_line(
+    out: &mut Vec<u8>,
+    tables: &NameTables,
+    names: &[Name],
+    line: Line,
+) -> Result<(), AllocError>
+    ensures { OnOk result (Adds out.old.items out.new.items (line_text (line_words names.now line))) }
 {
-    put_text(out, b"thread\n")?;
-    for statement in body {
-        put_statement(out, *statement)?;
+    match line {
+        Line::Thread => put_words(out, tables, names, Command::Thread, &[]),
+        Line::Let(letter, value) => {
+            let parts = [Part::Letter(letter), Part::Operand(value)];
+            put_words(out, tables, names, Command::Let, &parts)
+        }
+        Line::Compute(letter, left, operator, right) => {
+            let parts = [Part::Letter(letter), Part::Operand(left), Part::Operator(operator), Part::Operand(right)];
+            put_words(out, tables, names, Command::Let, &parts)
+        }
+        Line::If(test) => put_test(out, tables, names, Command::If, test),
+        Line::Else => put_words(out, tables, names, Command::Else, &[]),
+        Line::While(test) => put_test(out, tables, names, Command::While, test),
+        Line::End => put_words(out, tables, names, Command::End, &[]),
+        Line::Call(call) => put_call(out, tables, names, call),
     }
-    put_text(out, b"end\n")?;
-    Ok(())
-}
-
-/// The one text of a script. Only want of memory is an error.
-#[tactic(auto, using(user_io::proofs::Texts::two), unfolding(crate::specs::Spelling::spelling))]
-pub fn write(alloc: Global, script: &Script) -> Result<Vec<u8>, AllocError>
-    ensures { IfOk result (λ text. text.items ≡ spelling script.now) }
-{
-    let mut out = Vec::new(alloc);
-    put_text(&mut out, b"user 1\nscreen")?;
-    put_operand(&mut out, u64::from(script.width()))?;
-    put_operand(&mut out, u64::from(script.height()))?;
-    put_text(&mut out, b"\nbudget")?;
-    put_operand(&mut out, u64::from(script.budget()))?;
-    put_text(&mut out, b"\norder\n")?;
-    put_bodies(&mut out, script.threads())?;
-    Ok(out)
 }
 
 /// Adds the lines of all threads.
-fn put_bodies(out: &mut Vec<u8>, bodies: &[Body]) -> Result<(), AllocError>
-    ensures { OnOk result (Adds out.old.items out.new.items (flat_map thread_text bodies.now)) }
+fn put_lines(
+    out: &mut Vec<u8>,
+    tables: &NameTables,
+    names: &[Name],
+    lines: &[Line],
+) -> Result<(), AllocError>
+    ensures { OnOk result (Adds out.old.items out.new.items (flat_map line_text (map (line_words names.now) lines.now))) }
 {
-    for body in bodies {
-        put_body(out, body.statements())?;
+    for line in lines {
+        put_line(out, tables, names, *line)?;
     }
     Ok(())
+}
+
+/// Adds the order list.
+fn put_order(out: &mut Vec<u8>, order: &[u8]) -> Result<(), AllocError>
+    ensures { OnOk result (Adds out.old.items out.new.items (flat_map blank_word (map decimal order.now))) }
+{
+    for turn in order {
+        put_decimal(out, u64::from(*turn))?;
+    }
+    Ok(())
+}
+
+/// Adds the lines before the threads.
+#[tactic(auto, using(user_io::proofs::Texts::two))]
+fn put_head(out: &mut Vec<u8>, script: &Script) -> Result<(), AllocError>
+    ensures { OnOk result (Adds out.old.items out.new.items (head_text script.now)) }
+{
+    put_text(out, b"user 1\nscreen")?;
+    put_decimal(out, u64::from(script.width()))?;
+    put_decimal(out, u64::from(script.height()))?;
+    put_text(out, b"\nbudget")?;
+    put_decimal(out, u64::from(script.budget()))?;
+    put_text(out, b"\norder")?;
+    put_order(out, script.order())?;
+    put_text(out, b"\n")?;
+    Ok(())
+}
+
+/// The one text of a script, by these tables.
+#[tactic(auto, using(user_io::proofs::Texts::two))]
+pub fn write_with(
+    alloc: Global,
+    tables: &NameTables,
+    script: &Script,
+) -> Result<Vec<u8>, AllocError>
+    ensures { IfOk result (λ text. text.items ≡ spelling script.now) }
+{
+    let lines = flatten(alloc, script.threads())?;
+    let mut out = Vec::new(alloc);
+    put_head(&mut out, script)?;
+    put_lines(&mut out, tables, script.names(), &lines)?;
+    Ok(out)
+}
+
+/// The one text of a script. Only want of memory is an error.
+pub fn write(alloc: Global, script: &Script) -> Result<Vec<u8>, AllocError>
+    ensures { IfOk result (λ text. text.items ≡ spelling script.now) }
+{
+    let tables = NameTables::new();
+    write_with(alloc, &tables, script)
 }

@@ -1,2 +1,4 @@
+pub mod Made
 pub mod Outcomes
+pub mod Requests
 pub mod Statuses

@@ -3,7 +3,7 @@ use Rattle.std.specs.Prelude.{◌≡◌, ℕ, ◌⊎◌, List, length, Option, c
 use Rattle.std.specs.Io.KnownBytes.{Appends, Consumes, Keeps, IsAtEnd}
 use Rattle.user_model.specs.Past.{Past}
 use Rattle.user_io.specs.Outside.{Rose, AppendsPart}
-use Rattle.script_text.specs.Tree.{Tree}
+use Rattle.script_tree.specs.Tree.{Tree}
 use Rattle.script_text.specs.Limits.{IsScript}
 use Rattle.script_text.specs.Refusals.{IsNoScript}
 use Rattle.script_text.specs.Spelling.{spelling}
@@ -11,7 +11,9 @@ use Rattle.log_text.specs.declared.end.End.{End}
 use Rattle.log_text.specs.declared.end.End.TheVariants as ends
 use Rattle.log_text.specs.Ends.{end_of}
 use Rattle.log_text.specs.Logs.{log}
+use Rattle.log_text.specs.Summaries.{summary}
 use Rattle.user_pool.specs.Runs.{IsListed}
+use Rattle.user_app.specs.Made.{IsMade}
 use Rattle.user_app.specs.declared.status.Status.{Status}
 use Rattle.user_app.specs.declared.status.Status.TheVariants as statuses
 
@@ -32,6 +34,7 @@ pub record LoggedPart (s : Tree) (holds holds' : Option (List ℕ)) : Type 0 whe
 abbrev pub RunEnds : Tree → Option (List ℕ) → Option (List ℕ) → ℕ → ℕ → Status → Type 0
 RunEnds s holds holds' faults faults' statuses.Done = Logged s holds holds' ends.Done
 RunEnds s holds holds' faults faults' statuses.Stuck = Logged s holds holds' ends.Stuck
+RunEnds s holds holds' faults faults' statuses.Spent = Logged s holds holds' ends.Spent
 RunEnds s holds holds' faults faults' statuses.WriteFault = LoggedPart s holds holds' × Rose faults faults'
 RunEnds s holds holds' faults faults' statuses.Memory = Keeps holds holds' ⊎ LoggedPart s holds holds'
 RunEnds s holds holds' faults faults' _ = ⊥
@@ -43,6 +46,32 @@ pub record Ran (left left' holds holds' : Option (List ℕ)) (faults faults' : �
   pub input : Consumes left left' (spelling script)
   pub read_out : IsAtEnd left'
   pub ends : RunEnds script holds holds' faults faults' status
+
+-- the summary of the one run of a script that is made from the number was written, and this is its end
+pub record Summed (n : ℕ) (holds holds' : Option (List ℕ)) (end : End) : Type 0 where
+  pub script : Tree
+  pub is_made : IsMade n script
+  pub history : Past
+  pub listed : IsListed script history
+  pub ended : end_of script history ≡ end
+  pub written : Appends holds holds' (summary n history end)
+
+-- a front of that summary was written
+pub record SummedPart (n : ℕ) (holds holds' : Option (List ℕ)) : Type 0 where
+  pub script : Tree
+  pub is_made : IsMade n script
+  pub history : Past
+  pub listed : IsListed script history
+  pub written : AppendsPart holds holds' (summary n history (end_of script history))
+
+-- how the run of the script that is made from a number may end
+abbrev pub MakeEnds : ℕ → Option (List ℕ) → Option (List ℕ) → ℕ → ℕ → Status → Type 0
+MakeEnds n holds holds' faults faults' statuses.Done = Summed n holds holds' ends.Done
+MakeEnds n holds holds' faults faults' statuses.Stuck = Summed n holds holds' ends.Stuck
+MakeEnds n holds holds' faults faults' statuses.Spent = Summed n holds holds' ends.Spent
+MakeEnds n holds holds' faults faults' statuses.WriteFault = SummedPart n holds holds' × Rose faults faults'
+MakeEnds n holds holds' faults faults' statuses.Memory = Keeps holds holds' ⊎ SummedPart n holds holds'
+MakeEnds n holds holds' faults faults' _ = ⊥
 
 -- the input was read to its end and is no script, or one byte more than a script may have was read
 pub record ReadNoScript (left left' : Option (List ℕ)) : Type 0 where

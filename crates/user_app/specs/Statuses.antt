@@ -21,3 +21,4 @@ abbrev pub status_of : End → Status
 status_of ends.Done = statuses.Done
 status_of ends.Stuck = statuses.Stuck
 status_of ends.Spent = statuses.Spent
+status_of ends.Cut = statuses.Spent

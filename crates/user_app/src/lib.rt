@@ -2,6 +2,8 @@
 #![tactic(auto)]
 
 mod app;
+mod made;
+mod request;
 mod status;
 
 pub use app::user_plain;

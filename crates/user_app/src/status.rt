@@ -1,6 +1,6 @@
 //! How the program ends.
 
-ghost use Rattle.std.specs.Prelude.{◌≡◌};
+ghost use Rattle.std.specs.Prelude.{◌≡◌, ◌≢◌};
 ghost use Rattle.user_app.specs.Statuses.{number_of, status_of};
 
 use log_text::End;
@@ -16,7 +16,7 @@ pub enum Status {
     Script,
     /// Some thread hasn't ended, and nothing can go on.
     Stuck,
-    /// The budgets are spent. No script of the present form comes to this.
+    /// Some thread could go on, and each such thread has used up its budget.
     Spent,
     /// The source failed.
     ReadFault,
@@ -44,13 +44,15 @@ impl Status {
     }
 }
 
-/// The status of a run whose log was written.
+/// The status of a run that is over, and whose text was written.
 pub fn end_status(end: End) -> Status
+    requires { end ≢ End.Cut }
     ensures { result ≡ status_of end }
 {
     match end {
         End::Done => Status::Done,
         End::Stuck => Status::Stuck,
         End::Spent => Status::Spent,
+        End::Cut => unreachable!(),
     }
 }

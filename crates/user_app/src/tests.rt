@@ -32,6 +32,23 @@ const REFUSALS: &[u8] =
 const REFUSALS_LOG: &[u8] =
     b"log 1\n1 post_thread 9 WM_USER 1 0 = refused 1444\n1 post_thread 1 70000 0 0 = refused 87\n1 end_thread = ended\nend done\nsends begun 0 entered 0 proc 0 reply 0 loss 0 timeout 0 open 0\n";
 
+/// The first two threads move as the order list says, and then all by turns.
+const ORDERED: &[u8] =
+    b"user 1\nscreen 8 4\nbudget 100\norder 2 2 1\nthread\npost_thread 3 1024 1 0\npost_thread 3 1025 2 0\nend\nthread\npost_thread 3 1024 3 0\nend\nthread\nget 0 0 0\nget 0 0 0\nget 0 0 0\nend\n";
+
+const ORDERED_LOG: &[u8] =
+    b"log 1\n2 post_thread 3 WM_USER 3 0 = posted 1\n2 end_thread = ended\n1 post_thread 3 WM_USER 1 0 = posted 2\n3 get 0 0 0 = got posted 1 0 WM_USER 3 0 0 0 0\n1 post_thread 3 1025 2 0 = posted 3\n3 get 0 0 0 = got posted 2 0 WM_USER 1 0 0 0 0\n1 end_thread = ended\n3 get 0 0 0 = got posted 3 0 1025 2 0 0 0 0\n3 end_thread = ended\nend done\nsends begun 0 entered 0 proc 0 reply 0 loss 0 timeout 0 open 0\n";
+
+/// A loop without calls.
+const LOOPS: &[u8] = b"user 1\nscreen 8 4\nbudget 3\norder\nthread\nwhile 1 = 1\nend\nend\n";
+
+const LOOPS_LOG: &[u8] =
+    b"log 1\n1 yield = ok\n1 yield = ok\n1 yield = ok\nend spent\nspent 1\nsends begun 0 entered 0 proc 0 reply 0 loss 0 timeout 0 open 0\n";
+
+/// What is written of the run that is made from 1000.
+const THOUSAND: &[u8] =
+    b"made 1000\nentries 2004\nclock 0\nend done\nsends begun 0 entered 0 proc 0 reply 0 loss 0 timeout 0 open 0\n";
+
 /// Calls the program with some words on a source that gives `piece` bytes a call and fails at the calls
 /// listed, and on a sink with `room`.
 fn call(
@@ -57,11 +74,13 @@ fn call(
 #[test]
 fn runs(rt: HostRuntime) -> Result<(), Fail> {
     let alloc: Global = rt.alloc();
-    let cases: [(&[u8], &[u8], Status, u8); 5] = [
+    let cases: [(&[u8], &[u8], Status, u8); 7] = [
         (ONE_END, ONE_END_LOG, Status::Done, 0),
         (POSTS, POSTS_LOG, Status::Done, 0),
         (WAITS, WAITS_LOG, Status::Stuck, 4),
         (REFUSALS, REFUSALS_LOG, Status::Done, 0),
+        (ORDERED, ORDERED_LOG, Status::Done, 0),
+        (LOOPS, LOOPS_LOG, Status::Spent, 5),
         (b"user 1\n", b"refused 0 later\n", Status::Script, 3),
     ];
     for (script, log, status, number) in cases {
@@ -76,12 +95,50 @@ fn runs(rt: HostRuntime) -> Result<(), Fail> {
 #[test]
 fn other_words(rt: HostRuntime) -> Result<(), Fail> {
     let alloc: Global = rt.alloc();
-    let cases: [&[&str]; 4] = [&[], &["run", "x"], &["Run"], &["--help"]];
+    let cases: [&[&str]; 12] = [
+        &[],
+        &["run", "x"],
+        &["Run"],
+        &["--help"],
+        &["make"],
+        &["make", "0"],
+        &["make", "01"],
+        &["make", "+1"],
+        &["make", "60001"],
+        &["make", "18446744073709551617"],
+        &["make", "1", "1"],
+        &["1", "make"],
+    ];
     for words in cases {
         let (status, sink) = call(alloc, words, ONE_END, 7, Vec::new(alloc), 10000)?;
         assert_eq!(rt; sink.bytes().len(), 0usize);
         assert_eq!(rt; status, Status::Words);
         assert_eq!(rt; status.number(), 2u8);
+    }
+    Ok(())
+}
+
+#[test]
+fn made_scripts(rt: HostRuntime) -> Result<(), Fail> {
+    let alloc: Global = rt.alloc();
+    let cases: [(&str, u32, &[u8], Status); 4] = [
+        ("1000", 1000, THOUSAND, Status::Done),
+        ("1000", 0, b"", Status::WriteFault),
+        ("1000", 22, b"made 1000\nentries 2004", Status::WriteFault),
+        (
+            "1",
+            1000,
+            b"made 1\nentries 6\nclock 0\nend done\nsends begun 0 entered 0 proc 0 reply 0 loss 0 timeout 0 open 0\n",
+            Status::Done,
+        ),
+    ];
+    for (number, room, written, status) in cases {
+        // The source fails at its first call, and isn't called.
+        let mut fail = Vec::new(alloc);
+        fail.push(0)?;
+        let (told, sink) = call(alloc, &["make", number], ONE_END, 10, fail, room)?;
+        assert_eq!(rt; sink.bytes(), written);
+        assert_eq!(rt; told, status);
     }
     Ok(())
 }

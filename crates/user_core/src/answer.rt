@@ -1,79 +1,63 @@
 //! What a call answers, from the state.
 
-ghost use Rattle.std.specs.Prelude.{◌≡◌, ◌<◌, ◌≤◌, true, false};
+ghost use Rattle.std.specs.Prelude.{◌≡◌, ◌<◌, ◌≤◌, false};
 ghost use Rattle.user_model.specs.Past.{is_full};
-ghost use Rattle.user_model.specs.Replies.{get_reply, post_thread_reply, row, thread_reply};
-ghost use Rattle.user_model.specs.Threads.{is_running};
+ghost use Rattle.user_model.specs.Replies.{row, thread_reply};
 ghost use Rattle.win_num.specs.declared.code.Code.TheVariants.{Full};
 ghost use Rattle.user_model.specs.Refusals.{refuse};
 ghost use Rattle.user_model.specs.Idle.{is_wait, is_idle, is_barred, first_busy, have_all_ended, clock_row, reply};
 
-use crate::state::State;
-use user_model::{Answer, Call, Origin, QUEUE_LIMIT};
-use win_num::{Code, Filter, Thread, names};
-
-/// A number is out of its range.
-const INVALID_PARAMETER: Code = Code::Win(87);
-
-/// No live window.
-const INVALID_WINDOW_HANDLE: Code = Code::Win(1400);
-
-/// No thread, or one that has ended.
-const INVALID_THREAD_ID: Code = Code::Win(1444);
-
-/// The queue of posted messages is full.
-const NOT_ENOUGH_QUOTA: Code = Code::Win(1816);
-
-fn get_answer(state: &State, thread: u8, filter: Filter) -> Answer
-    requires some { 0 < thread }
-    requires known { thread ≤ state.now.setup.threads }
-    ensures { result ≡ get_reply state.now.past thread filter.hwnd filter.min filter.max }
-{
-    if filter.hwnd != 0 && filter.hwnd != names::NO_WINDOW {
-        return Answer::Refused(INVALID_WINDOW_HANDLE);
-    }
-    match state.first_post(thread, filter) {
-        Some((number, msg)) => Answer::Got {
-            origin: Origin::Posted,
-            number: *number,
-            msg: *msg,
-        },
-        None => Answer::Wait,
-    }
-}
-
-fn post_thread_answer(state: &State, to: u64, number: u64) -> Answer
-    requires { is_full state.now.past ≡ false }
-    ensures { result ≡ post_thread_reply state.now.setup state.now.past to number }
-{
-    if number > 65535 {
-        return Answer::Refused(INVALID_PARAMETER);
-    }
-    if !state.is_running(to) {
-        return Answer::Refused(INVALID_THREAD_ID);
-    }
-    if state.queue_len(to) >= QUEUE_LIMIT {
-        return Answer::Refused(NOT_ENOUGH_QUOTA);
-    }
-    Answer::Posted(state.next_post_number())
-}
+use crate::delivery::{get_answer, peek_answer, post_answer, post_thread_answer};
+use crate::windows::{
+    Edges, Making, doom_answer, drop_answer, is_window_answer, message_answer, new_window_answer,
+    next_top_answer, parent_answer, register_answer, unmake_answer, unregister_answer,
+};
+use core_state::CoreState;
+use user_model::{Answer, Call};
+use win_num::{Code, Filter, Thread};
 
 /// The answer to a thread that hasn't ended.
-fn row_answer(state: &State, thread: u8, call: Call) -> Answer
+fn row_answer(state: &CoreState, thread: u8, call: Call) -> Answer
     requires room { is_full state.now.past ≡ false }
     requires some { 0 < thread }
     requires known { thread ≤ state.now.setup.threads }
     ensures { result ≡ row state.now.setup state.now.past thread call }
 {
     match call {
+        Call::Peek(hwnd, min, max, flags) => peek_answer(
+            state,
+            thread,
+            Filter { hwnd, min, max },
+            flags,
+        ),
         Call::Get(hwnd, min, max) => get_answer(state, thread, Filter { hwnd, min, max }),
+        Call::Post(w, number, _, _) => post_answer(state, thread, w, number),
         Call::PostThread(to, number, _, _) => post_thread_answer(state, to, number),
+        Call::Message(name) => message_answer(state, name),
+        Call::Register(name, _, colour) => register_answer(state, name, colour),
+        Call::Unregister(name) => unregister_answer(state, name),
+        Call::NewWindow(class, _, parent, style, ex, l, t, r, b) => {
+            let making = Making {
+                class,
+                parent,
+                style,
+                ex,
+            };
+            new_window_answer(state, thread, making, Edges { l, t, r, b })
+        }
+        Call::Doom(w) => doom_answer(state, thread, w),
+        Call::Unmake(w) => unmake_answer(state, thread, w),
+        Call::Drop(w) => drop_answer(state, thread, w),
+        Call::NextTop(w) => next_top_answer(state, w),
+        Call::IsWindow(w) => is_window_answer(state, w),
+        Call::Parent(w) => parent_answer(state, w),
+        Call::PostQuit(_) | Call::Yield => Answer::Okay,
         Call::EndThread => Answer::Ended,
         Call::Advance => Answer::Refused(Code::NotNow),
     }
 }
 
-fn thread_answer(state: &State, thread: u8, call: Call) -> Answer
+fn thread_answer(state: &CoreState, thread: u8, call: Call) -> Answer
     requires { is_full state.now.past ≡ false }
     ensures { result ≡ thread_reply state.now.setup state.now.past thread call }
 {
@@ -85,7 +69,7 @@ fn thread_answer(state: &State, thread: u8, call: Call) -> Answer
 
 /// Whether an actor other than the clock has no call to make now.
 #[tactic(auto, unfolding(user_model::specs::Idle::is_barred))]
-pub fn is_barred(state: &State, thread: u8) -> bool
+pub fn is_barred(state: &CoreState, thread: u8) -> bool
     requires { 0 < thread }
     ensures { result ≡ is_barred state.now.setup state.now.past thread }
 {
@@ -93,7 +77,7 @@ pub fn is_barred(state: &State, thread: u8) -> bool
 }
 
 /// Whether a thread has ended, or would wait again.
-fn is_idle(state: &State, thread: u8) -> bool
+fn is_idle(state: &CoreState, thread: u8) -> bool
     requires some { 0 < thread }
     requires known { thread ≤ state.now.setup.threads }
     ensures { result ≡ is_idle state.now.setup state.now.past thread }
@@ -108,14 +92,14 @@ fn is_idle(state: &State, thread: u8) -> bool
 }
 
 /// Whether a call would wait now.
-fn would_wait(state: &State, thread: u8, call: Call) -> bool
+fn would_wait(state: &CoreState, thread: u8, call: Call) -> bool
     ensures { result ≡ is_wait (refuse (is_full state.now.past) Full (thread_reply state.now.setup state.now.past thread call)) }
 {
     !state.is_full() && matches!(thread_answer(state, thread, call), Answer::Wait)
 }
 
 /// The lowest thread that isn't idle.
-fn first_busy(state: &State) -> Option<u8>
+fn first_busy(state: &CoreState) -> Option<u8>
     ensures { result ≡ first_busy state.now.setup state.now.past }
 {
     for thread in 0..state.thread_count() {
@@ -126,7 +110,7 @@ fn first_busy(state: &State) -> Option<u8>
     None
 }
 
-fn have_all_ended(state: &State) -> bool
+fn have_all_ended(state: &CoreState) -> bool
     ensures { result ≡ have_all_ended state.now.setup state.now.past }
 {
     for thread in 0..state.thread_count() {
@@ -139,14 +123,14 @@ fn have_all_ended(state: &State) -> bool
 
 /// Whether the clock has nothing to do: a thread isn't idle, all have ended, or nothing can go on.
 #[tactic(auto, unfolding(user_model::specs::Idle::is_barred))]
-pub fn is_clock_barred(state: &State) -> bool
+pub fn is_clock_barred(state: &CoreState) -> bool
     ensures { result ≡ is_barred state.now.setup state.now.past 0 }
 {
     first_busy(state).is_some() || have_all_ended(state) || state.ends_stuck()
 }
 
 #[tactic(auto, using(user_model::proofs::ClockLaws::never_soon))]
-fn clock_answer(state: &State, call: Call) -> Answer
+fn clock_answer(state: &CoreState, call: Call) -> Answer
     ensures { result ≡ clock_row state.now.setup state.now.past call }
 {
     match call {
@@ -160,7 +144,7 @@ fn clock_answer(state: &State, call: Call) -> Answer
 
 /// What a call answers.
 #[tactic(auto, unfolding(user_model::specs::Idle::reply))]
-pub fn answer(state: &State, who: Thread, call: Call) -> Answer
+pub fn answer(state: &CoreState, who: Thread, call: Call) -> Answer
     ensures { result ≡ reply state.now.setup state.now.past who.0 call }
 {
     if state.is_full() {

@@ -1,14 +1,14 @@
-//! The machine: it keeps its history, and beside it parts from which it answers the next call.
+//! The machine: it decides from the state what a call answers, and adds the entry to it.
 //!
-//! `State` is the history with its parts, and the one place where they change. `answer` decides from
-//! them what a call answers. `User` joins both.
+//! `delivery` decides posts and retrievals, `windows` the calls on classes and windows, `answer` all
+//! calls and who has none to make. `User` joins them with the state.
 #![tactic(auto)]
 
 mod answer;
-mod apply;
-mod state;
-mod thread_state;
+mod codes;
+mod delivery;
 mod user;
+mod windows;
 
 pub use user::User;
 

@@ -4,7 +4,7 @@ ghost use Rattle.std.specs.Prelude.{◌≡◌, [], IfOk};
 ghost use Rattle.user_model.specs.Setups.{IsSetup};
 
 use crate::answer::{answer, is_barred, is_clock_barred};
-use crate::state::State;
+use core_state::CoreState;
 use std::alloc::{AllocError, Global};
 use std::marker::Model;
 use user_model::{Answer, Call, Entry, Machine, Setup};
@@ -14,11 +14,11 @@ use win_num::Thread;
 /// definitions, found from kept parts; no step walks the history.
 #[derive(Drop)]
 pub struct User {
-    state: State,
+    state: CoreState,
 }
 
 impl Model for User {
-    ghost use Rattle.user_core.specs.States.{Seen};
+    ghost use Rattle.core_state.specs.States.{Seen};
 
     ghost Value = { Seen };
 
@@ -31,7 +31,7 @@ impl User {
         requires { IsSetup setup }
         ensures { IfOk result (λ user. user ≡ record { setup = setup; past = [] }) }
     {
-        let state = State::new(alloc, setup)?;
+        let state = CoreState::new(alloc, setup)?;
         Ok(User { state })
     }
 }

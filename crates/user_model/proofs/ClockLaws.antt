@@ -5,7 +5,6 @@ use Rattle.std.proofs.lemmas.List.{reverse-append}
 use Rattle.user_model.specs.declared.entry.Entry.{Entry}
 use Rattle.user_model.specs.declared.entry.Setup.{Setup}
 use Rattle.user_model.specs.declared.call.Call.{Call}
-use Rattle.user_model.specs.declared.call.Call.TheVariants.{Get, PostThread, EndThread, Advance}
 use Rattle.user_model.specs.Past.{Past, is_refused, or_else, unless_refused, last_of, first}
 use Rattle.user_model.specs.Places.{clock, if_clock, time_told, mine}
 use Rattle.user_model.specs.Threads.{from_each}
@@ -20,7 +19,7 @@ last_pick false (Some a) rest = refl
 pub last_of-next : {A : Type 0} (says : Entry → Past → Option A) (e : Entry) (past : Past) → last_of says (e ∷ past) ≡ or_else (unless_refused e (says e past)) (last_of says past)
 last_of-next says e past = last_pick (is_refused e) (says e past) (last_of says past)
 
-unwrap_or-or_else : {A : Type 0} (o p : Option A) (d : A) → unwrap_or (or_else o p) d ≡ unwrap_or o (unwrap_or p d)
+pub unwrap_or-or_else : {A : Type 0} (o p : Option A) (d : A) → unwrap_or (or_else o p) d ≡ unwrap_or o (unwrap_or p d)
 unwrap_or-or_else None p d = refl
 unwrap_or-or_else (Some a) p d = refl
 
@@ -41,10 +40,7 @@ pub past_more : (h : List Entry) (e : Entry) → reverse (h ++ e ∷ []) ≡ e �
 past_more h e = reverse-append h (e ∷ [])
 
 no_times : (call : Call) → times_of_call call ≡ []
-no_times (Get w min max) = refl
-no_times (PostThread t m p q) = refl
-no_times EndThread = refl
-no_times Advance = refl
+no_times call = refl
 
 no_times_of : (o : Option Entry) → times_of o ≡ []
 no_times_of None = refl

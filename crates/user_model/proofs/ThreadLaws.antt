@@ -35,15 +35,9 @@ one_end false false = refl
 pub has_ended-end : (e : Entry) (past : Past) (t : ℕ) → e.answer ≡ answers.Ended → has_ended (e ∷ past) t ≡ (eqb e.who.0 t || has_ended past t)
 has_ended-end e past t a = rw a (one_end (has_ended past t) (eqb e.who.0 t))
 
-end_is : (a : Answer) → is_end a ≡ true → a ≡ answers.Ended
+pub end_is : (a : Answer) → is_end a ≡ true → a ≡ answers.Ended
 end_is answers.Ended h = refl
-end_is answers.Wait h = absurd (false≢true h)
-end_is answers.Stuck h = absurd (false≢true h)
-end_is (answers.Posted k) h = absurd (false≢true h)
-end_is (answers.Advanced v) h = absurd (false≢true h)
-end_is (answers.Busy t) h = absurd (false≢true h)
-end_is (answers.Got o n m) h = absurd (false≢true h)
-end_is (answers.Refused c) h = absurd (false≢true h)
+end_is _ h = absurd (false≢true h)
 
 and_both : (a b : Bool) → (a && b) ≡ true → (a ≡ true) × (b ≡ true)
 and_both true b e = (refl, e)

@@ -6,7 +6,7 @@ use Rattle.user_model.specs.declared.entry.Entry.{Entry}
 use Rattle.user_model.specs.declared.entry.Answer.{Answer}
 use Rattle.user_model.specs.declared.entry.Answer.TheVariants.{Wait, Stuck, Busy, Advanced, Refused}
 use Rattle.user_model.specs.declared.call.Call.{Call}
-use Rattle.user_model.specs.declared.call.Call.TheVariants.{Get, PostThread, EndThread, Advance}
+use Rattle.user_model.specs.declared.call.Call.TheVariants.{Advance}
 use Rattle.user_model.specs.Past.{Past, is_full, first}
 use Rattle.user_model.specs.Places.{has_ended, mine}
 use Rattle.user_model.specs.Threads.{lowest, from_each}
@@ -43,12 +43,9 @@ is_quiet setup past = is_none (first_busy setup past)
 abbrev pub have_all_ended : Setup → Past → Bool
 have_all_ended setup past = is_none (lowest (λ t. not (has_ended past t)) setup.threads)
 
--- the times that a call waits for: a get waits for a post, and for no time
+-- the times that a call waits for: no call waits for a time
 abbrev pub times_of_call : Call → List ℕ
-times_of_call (Get w min max) = []
-times_of_call (PostThread t number wparam lparam) = []
-times_of_call EndThread = []
-times_of_call Advance = []
+times_of_call call = []
 
 -- the times that the thread's last entry waits for; one that was answered otherwise waits for none
 abbrev pub times_of : Option Entry → List ℕ

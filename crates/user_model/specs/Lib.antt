@@ -1,3 +1,5 @@
+pub mod Classes
+pub mod Destruction
 pub mod Filters
 pub mod Idle
 pub mod Legal
@@ -8,6 +10,9 @@ pub mod Places
 pub mod Posts
 pub mod Refusals
 pub mod Replies
+pub mod ReplyDelivery
+pub mod ReplyWindows
 pub mod Retrievals
 pub mod Setups
 pub mod Threads
+pub mod Windows

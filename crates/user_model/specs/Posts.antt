@@ -1,17 +1,18 @@
--- Posted messages.
-use Rattle.std.specs.Prelude.{if◌then◌else◌, ℕ, ◌==◌, Bool, ◌||◌, List, [], ◌∷◌, find, Option}
+-- Posted messages and quit.
+use Rattle.std.specs.Prelude.{if◌then◌else◌, ℕ, ◌==◌, Bool, ◌||◌, List, [], ◌∷◌, find, Option, Some, None, unwrap_or}
 use Rattle.win_num.specs.declared.message.Msg.{Msg}
 use Rattle.win_num.specs.declared.message.Filter.{Filter}
 use Rattle.win_num.specs.declared.shapes.Point.{Point}
 use Rattle.user_model.specs.declared.call.Call.{Call}
-use Rattle.user_model.specs.declared.call.Call.TheVariants.{PostThread}
+use Rattle.user_model.specs.declared.call.Call.TheVariants.{Post, PostThread, PostQuit}
 use Rattle.user_model.specs.declared.entry.Entry.{Entry}
 use Rattle.user_model.specs.declared.entry.Answer.{Answer}
 use Rattle.user_model.specs.declared.entry.Answer.TheVariants.{Posted}
-use Rattle.user_model.specs.Past.{Past, standing, each_of}
+use Rattle.user_model.specs.Past.{Past, last_of, standing, each_of}
 use Rattle.user_model.specs.Places.{clock, cursor, ends_thread}
+use Rattle.user_model.specs.Windows.{thread_of, drops_window}
 use Rattle.user_model.specs.Filters.{passes_posted}
-use Rattle.user_model.specs.Retrievals.{takes_post}
+use Rattle.user_model.specs.Retrievals.{takes_post, takes_quit}
 
 -- a message from its parts
 abbrev pub message : ℕ → ℕ → ℕ → ℕ → ℕ → Point → Msg
@@ -30,27 +31,50 @@ number_of_post _ = []
 abbrev pub posts : Past → List ℕ
 posts past = each_of (λ e before. number_of_post e.answer) past
 
--- what a call posts to t; it carries the clock and the cursor of its posting
-abbrev pub posts_by : ℕ → Answer → Call → Past → List PostedMsg
-posts_by t (Posted k) (PostThread to number wparam lparam) before = if to == t then (k, message 0 number wparam lparam (clock before) (cursor before)) ∷ [] else []
-posts_by t _ _ before = []
+-- the thread of the window, or for no window the caller
+abbrev pub queue_of : Past → ℕ → ℕ → ℕ
+queue_of past who w = if w == 0 then who else thread_of past w
+
+-- the message, where it goes to t; it carries the clock and the cursor of its posting
+abbrev pub message_to : ℕ → ℕ → ℕ → ℕ → ℕ → ℕ → ℕ → Past → List PostedMsg
+message_to t k to w number wparam lparam before = if to == t then (k, message w number wparam lparam (clock before) (cursor before)) ∷ [] else []
+
+-- what a call posts to t
+abbrev pub posts_by : ℕ → ℕ → Answer → Call → Past → List PostedMsg
+posts_by t who (Posted k) (Post w number wparam lparam) before = message_to t k (queue_of before who w) w number wparam lparam before
+posts_by t who (Posted k) (PostThread to number wparam lparam) before = message_to t k to 0 number wparam lparam before
+posts_by t who _ _ before = []
 
 -- the post that an entry makes to t
 abbrev pub posts_to : ℕ → Entry → Past → List PostedMsg
-posts_to t e before = posts_by t e.answer e.call before
+posts_to t e before = posts_by t e.who.0 e.answer e.call before
 
--- a post to t ends where a retrieval removes it or t ends
+-- a post to t ends where a retrieval removes it, its window is dropped or t ends
 abbrev pub ends_post : ℕ → Entry → Past → PostedMsg → Bool
-ends_post t e before x = takes_post e x.0 || ends_thread e t
+ends_post t e before x = takes_post e x.0 || drops_window e before x.1.hwnd.0 || ends_thread e t
 
 -- the posts to t that nothing ended, in posted order
 abbrev pub posted : Past → ℕ → List PostedMsg
 posted past t = standing (posts_to t) (ends_post t) past
 
 -- whether a filter lets a posted message pass
-abbrev pub passes : Filter → PostedMsg → Bool
-passes f x = passes_posted f x.1.hwnd.0 x.1.number
+abbrev pub passes : Past → Filter → PostedMsg → Bool
+passes past f x = passes_posted past f x.1.hwnd.0 x.1.number
 
 -- the first of them that the filter lets pass
 abbrev pub first_post : Past → ℕ → Filter → Option PostedMsg
-first_post past t f = find (passes f) (posted past t)
+first_post past t f = find (passes past f) (posted past t)
+
+-- the code that a call posts quit with; none where the entry removes it
+abbrev pub quits : Entry → Call → Option (Option ℕ)
+quits e (PostQuit code) = Some (Some code)
+quits e _ = if takes_quit e then Some None else None
+
+-- what is said, where t says it
+abbrev pub if_by : {A : Type 0} → ℕ → ℕ → Option A → Option A
+if_by t who None = None
+if_by t who (Some a) = if who == t then Some a else None
+
+-- the code of t's last posting of quit, where no removal of quit is later
+abbrev pub quit : Past → ℕ → Option ℕ
+quit past t = unwrap_or (last_of (λ e before. if_by t e.who.0 (quits e e.call)) past) None

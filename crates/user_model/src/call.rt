@@ -1,17 +1,54 @@
 //! The calls of the machine.
 
-/// A call of the machine, with its arguments in the order in which scripts and logs write them.
+/// A call of the machine, with its arguments in the order in which scripts and logs write them. Windows,
+/// threads and message numbers are 64-bit numbers as they were written, which no call narrows before it
+/// has tested them.
 #[derive(Clone, Copy, Debug, PartialEq, Eq)]
 pub enum Call {
-    /// Takes the first message that a filter lets pass, or waits for one: the window (0 for all, minus
-    /// one for messages without a window), the least and the greatest number, where 0 and 0 let every
-    /// number pass (Microsoft, GetMessage function).
+    /// Looks for the first message that a filter lets pass: the window (0 for all, minus one for messages
+    /// without a window), the least and the greatest number, where 0 and 0 let every number pass, and
+    /// flags, of which bit 0 removes the message (Microsoft, PeekMessage function).
+    Peek(u64, u64, u64, u64),
+    /// Takes the first message that a filter lets pass, or waits for one: the window, the least and the
+    /// greatest number (Microsoft, GetMessage function).
     Get(u64, u64, u64),
+    /// Posts a message to a window, or for window 0 to the caller: the window, the message's number,
+    /// wParam and lParam (Microsoft, PostMessage function).
+    Post(u64, u64, u64, u64),
     /// Posts a message without a window to a thread, and goes on: the thread, the message's number,
     /// wParam and lParam (Microsoft, PostThreadMessage function).
     PostThread(u64, u64, u64, u64),
-    /// Ends the thread that makes it.
+    /// Posts quit to the caller, with its code (Microsoft, PostQuitMessage function).
+    PostQuit(u64),
+    /// The number of the registered message of this name, which is a place in the script's list of names
+    /// (Microsoft, RegisterWindowMessage function).
+    Message(u32),
+    /// Registers a class: its name, a place in the script's list of names; the number of its procedure;
+    /// its colour, 0 to 15 (Microsoft, RegisterClass function).
+    Register(u32, u32, u64),
+    /// Takes the class of this name back (Microsoft, UnregisterClass function).
+    Unregister(u32),
+    /// Makes a window: the names of its class and its title, its parent or owner or 0, style, extended
+    /// style, and the left, top, right and bottom edge in pixels from its parent's or the screen's left
+    /// top corner (Microsoft, CreateWindowEx function).
+    NewWindow(u32, u32, u64, u64, u64, i64, i64, i64, i64),
+    /// Marks a window for destruction, with all below it and owned by it (Microsoft, DestroyWindow
+    /// function, whose steps these three calls are).
+    Doom(u64),
+    /// The next step of the destruction of a marked window.
+    Unmake(u64),
+    /// Takes a window away at the end of its destruction, with all below it and owned by it.
+    Drop(u64),
+    /// The top-level window of least number above this one.
+    NextTop(u64),
+    /// Whether this is a live window (Microsoft, IsWindow function).
+    IsWindow(u64),
+    /// The window's parent, or its owner (Microsoft, GetParent function).
+    Parent(u64),
+    /// Ends the thread that makes it, and drops its windows.
     EndThread,
+    /// Does nothing, and lets others go on.
+    Yield,
     /// Lets the clock go on where every thread waits. Actor 0 alone makes it.
     Advance,
 }

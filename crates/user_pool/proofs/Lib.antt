@@ -1,10 +1,10 @@
+pub mod Choices
 pub mod Ended
-pub mod Programs
-pub mod Turns
-pub mod Moves
-pub mod Waiting
-pub mod AllEnded
-pub mod OneRun
+pub mod NeverCut
 pub mod NeverFull
-pub mod NeverSpent
+pub mod OneRun
+pub mod Places
+pub mod Programs
+pub mod Seating
+pub mod Turns
 pub mod Replays

@@ -1,34 +1,22 @@
 -- A run never fills the history.
-use Rattle.std.proofs.Common.{◌≡◌, ◌≢◌, ℕ, zero, suc, ◌+◌, ◌*◌, ◌<◌, ◌≤◌, Bool, true, false, not, cond, eqb, List, [], ◌∷◌, length, Option, Some, None, refl, ap, ◌∙◌, sym, subst, inl, inr, ◌⊎◌, arith, mul-le-mul_left}
-use Rattle.std.specs.Prelude.{◌&&◌, ◌||◌, nat_lt, is_none, unwrap_or, option_map, find}
+use Rattle.std.proofs.Common.{◌≡◌, ◌≢◌, ℕ, zero, suc, ◌+◌, ◌*◌, ◌<◌, ◌≤◌, Bool, true, false, not, cond, eqb, [], ◌∷◌, length, Option, Some, None, refl, ap, ◌∙◌, sym, inl, inr, arith, mul-le-mul_left}
+use Rattle.std.specs.Prelude.{◌||◌, is_none}
 use Rattle.std.proofs.Math.Dec.{leb}
 use Rattle.std.proofs.lemmas.Bool.{cases_Bool, cases_lt, false≢true}
 use Rattle.std.proofs.lemmas.Bool.Decides.{nat_tests, eqb_tells}
-use Rattle.win_num.specs.declared.code.Code.TheVariants.{NotNow, Full}
+use Rattle.win_num.specs.declared.code.Code.TheVariants.{Full}
 use Rattle.user_model.specs.declared.call.Call.{Call}
-use Rattle.user_model.specs.declared.call.Call.TheVariants as calls
-use Rattle.user_model.specs.declared.entry.Answer.{Answer}
+use Rattle.user_model.specs.declared.call.Call.TheVariants.{Advance}
 use Rattle.user_model.specs.declared.entry.Answer.TheVariants as answers
 use Rattle.user_model.specs.declared.entry.Entry.{Entry}
 use Rattle.user_model.specs.declared.entry.Setup.{Setup}
 use Rattle.user_model.specs.Past.{Past, or_else, is_full}
-use Rattle.user_model.specs.Places.{has_ended, is_end}
-use Rattle.user_model.specs.Filters.{filter_of, is_no_filter_window}
-use Rattle.user_model.specs.Posts.{PostedMsg, posted, passes}
-use Rattle.user_model.specs.Next.{got_posted}
-use Rattle.user_model.specs.Refusals.{refuse, is_no_message, invalid_parameter, invalid_window_handle, invalid_thread_id, not_enough_quota}
-use Rattle.user_model.specs.Replies.{row, next_post_number}
-use Rattle.user_model.specs.Threads.{lowest, is_thread, is_running}
-use Rattle.user_model.specs.Idle.{reply, is_wait, is_idle, is_barred, first_busy, have_all_ended, ends_stuck, advance_reply, busy_or, advanced, soonest}
+use Rattle.user_model.specs.Idle.{reply, is_barred, first_busy, have_all_ended, ends_stuck, advance_reply, busy_or, advanced, soonest}
 use Rattle.user_model.proofs.ClockLaws.{never_soon}
-use Rattle.user_model.proofs.ThreadLaws.{has_ended-same}
-use Rattle.user_model.proofs.PostLaws.{is_plain, posted-plain}
-use Rattle.script_text.specs.Tree.{Tree}
-use Rattle.script_text.specs.Limits.{IsScript}
-use Rattle.log_text.specs.Ends.{setup_of}
-use Rattle.user_pool.specs.Runs.{used, next_call, is_runnable, last_thread, first_above, choice, IsMove, IsRun}
-use Rattle.user_pool.proofs.Turns.{chosen_can_move, used_own, used_other, refuse_not, barred_is_idle}
-use Rattle.user_pool.proofs.Waiting.{waiting, would_wait, idle_is, waiting_other}
+use Rattle.script_tree.specs.Tree.{Tree}
+use Rattle.log_text.specs.Ends.{setup_of, used}
+use Rattle.user_pool.specs.Runs.{is_runnable, left, listed, in_turn, choice, ComesNext, IsMove, IsRun}
+use Rattle.user_pool.proofs.Turns.{found_passes, turn_runs, runnable_can, thread_positive, chosen_can_move, thread_within, used_own, used_other, used_within, refuse_not}
 
 -- ---- how many entries there are
 
@@ -55,60 +43,16 @@ total_own (suc n) e past positive within =
       | inr x ↦ omega (arith, total_own n e past positive (omega (arith, x.1)), used_more e past (suc n))
     ]
 
-used_within : (s : Tree) (past : Past) (t : ℕ) → IsRun s past → 0 < t → used past t ≤ s.budget
-used_within s [] t run positive = omega arith
-used_within s (e ∷ past) t run positive =
-    elim (eqb_tells e.who.0 t) [
-      | inl x ↦ omega (arith, used_own e past t x.0, subst (λ u. used past u < s.budget) x.1 (chosen_can_move s past e.who.0 run.0.actor (omega (arith, x.1))).left)
-      | inr x ↦ omega (arith, used_other e past t x.0, used_within s past t run.1 positive)
-    ]
-
 total_within : (s : Tree) (past : Past) (n : ℕ) → IsRun s past → total n past ≤ n * s.budget
 total_within s past zero run = omega arith
 total_within s past (suc n) run =
     let product : suc n * s.budget ≡ n * s.budget + s.budget = omega arith in
     omega (arith, total_within s past n run, used_within s past (suc n) run (omega arith), product)
 
-length_is : (s : Tree) (past : Past) → IsRun s past → length past ≤ used past 0 + total (length s.threads) past
-length_is s [] run = omega arith
-length_is s (e ∷ past) run =
-    elim (cases_lt 0 e.who.0) [
-      | inl positive ↦ omega (arith, length_is s past run.1, used_more e past 0, total_own (length s.threads) e past positive (chosen_can_move s past e.who.0 run.0.actor positive).within)
-      | inr le ↦
-          let hit : eqb e.who.0 0 ≡ true = grind (arith, nat_tests, le) in
-          omega (arith, length_is s past run.1, used_own e past 0 hit, total_more (length s.threads) e past)
-    ]
+-- ---- the clock moves only where all are idle, and then all is stuck
 
--- ---- the clock moves only where all are idle
-
-none_parts : (o : Option ℕ) (b : Bool) (k : ℕ) → or_else o (cond b (Some k) None) ≡ None → (o ≡ None) × (b ≡ false)
-none_parts (Some i) b k e = absurd cc
-none_parts None true k e = absurd cc
-none_parts None false k e = (refl, refl)
-
--- where none is found, none passes
-pub lowest_all : (test : ℕ → Bool) (n t : ℕ) → lowest test n ≡ None → 0 < t → t ≤ n → test t ≡ false
-lowest_all test zero t e positive within = absurd (omega arith)
-lowest_all test (suc n) t e positive within =
-    let parts = none_parts (lowest test n) (test (suc n)) (suc n) e in
-    elim (cases_lt n t) [
-      | inl above ↦ let same : suc n ≡ t = omega (arith, above) in subst (λ k. test k ≡ false) same parts.1
-      | inr le ↦ lowest_all test n t parts.0 positive le
-    ]
-
--- where none passes, none is found
-pub lowest_nobody : (test : ℕ → Bool) (n : ℕ) → ((t : ℕ) → 0 < t → t ≤ n → test t ≡ false) → lowest test n ≡ None
-lowest_nobody test zero h = refl
-lowest_nobody test (suc n) h = rw (lowest_nobody test n (λ t p w. h t p (omega (arith, w))), h (suc n) (omega arith) (omega arith)) refl
-
-lowest_positive : (test : ℕ → Bool) (n : ℕ) → lowest test n ≢ Some 0
-lowest_positive test zero e = absurd cc
-lowest_positive test (suc n) e = more (lowest test n) (test (suc n)) (lowest_positive test n) e
-  where
-    more : (o : Option ℕ) (b : Bool) → o ≢ Some 0 → or_else o (cond b (Some (suc n)) None) ≢ Some 0
-    more (Some i) b f e = f e
-    more None true f e = absurd cc
-    more None false f e = absurd cc
+never_zero : (s : Tree) (past : Past) (o : Option ℕ) → ((t : ℕ) → o ≡ Some t → is_runnable s past t ≡ true) → o ≢ Some 0
+never_zero s past o runs e = absurd (omega (arith, thread_positive s 0 (runnable_can s past 0 (runs 0 e)).known))
 
 -- what the choice of the clock tells
 clock_chosen : (a b : Option ℕ) (barred : Bool) → a ≢ Some 0 → b ≢ Some 0 → or_else a (or_else b (cond barred None (Some 0))) ≡ Some 0 → barred ≡ false
@@ -117,146 +61,93 @@ clock_chosen None (Some j) x f g e = absurd (g e)
 clock_chosen None None true f g e = absurd cc
 clock_chosen None None false f g e = refl
 
-not_barred : (busy : Option ℕ) (ended stuck : Bool) → (not (is_none busy) || ended || stuck) ≡ false → busy ≡ None
+clock_free : (s : Tree) (past : Past) → choice s past ≡ Some 0 → is_barred (setup_of s) past 0 ≡ false
+clock_free s past chosen = clock_chosen (listed s past) (in_turn s past) (is_barred (setup_of s) past 0)
+    (never_zero s past (listed s past) (λ t e. found_passes (is_runnable s past) (left s past) t e))
+    (never_zero s past (in_turn s past) (λ t e. turn_runs s past t e)) chosen
+
+not_barred : (busy : Option ℕ) (ended stuck : Bool) → (not (is_none busy) || ended || stuck) ≡ false → (busy ≡ None) × (stuck ≡ false)
 not_barred (Some t) ended stuck e = absurd (false≢true (sym e))
-not_barred None ended stuck e = refl
+not_barred None true stuck e = absurd (false≢true (sym e))
+not_barred None false stuck e = (refl, e)
 
-nobody_busy : (s : Tree) (past : Past) → choice s past ≡ Some 0 → first_busy (setup_of s) past ≡ None
+quiet : (setup : Setup) (past : Past) → is_barred setup past 0 ≡ false → (first_busy setup past ≡ None) × (ends_stuck past ≡ false)
 unfolding is_barred
-nobody_busy s past chosen =
-    not_barred (first_busy (setup_of s) past) (have_all_ended (setup_of s) past) (ends_stuck past)
-    (clock_chosen (first_above s past (last_thread past)) (first_above s past 0) (is_barred (setup_of s) past 0) (lowest_positive (λ x. nat_lt (last_thread past) x && is_runnable s past x) (length s.threads)) (lowest_positive (λ x. nat_lt 0 x && is_runnable s past x) (length s.threads)) chosen)
+quiet setup past free = not_barred (first_busy setup past) (have_all_ended setup past) (ends_stuck past) free
 
-not_false : (b : Bool) → not b ≡ false → b ≡ true
-not_false true e = refl
-not_false false e = absurd (false≢true (sym e))
-
-all_idle : (s : Tree) (past : Past) (t : ℕ) → choice s past ≡ Some 0 → 0 < t → t ≤ length s.threads → is_idle (setup_of s) past t ≡ true
-all_idle s past t chosen positive within = not_false (is_idle (setup_of s) past t) (lowest_all (λ x. not (is_idle (setup_of s) past x)) (length s.threads) t (nobody_busy s past chosen) positive within)
-
-advance_is : (setup : Setup) (past : Past) → is_full past ≡ false → reply setup past 0 calls.Advance ≡ advance_reply setup past
+advance_is : (setup : Setup) (past : Past) → is_full past ≡ false → reply setup past 0 Advance ≡ advance_reply setup past
 unfolding reply
 advance_is setup past room = refuse_not (is_full past) Full (advance_reply setup past) room
+
+chosen_clock : (s : Tree) (past : Past) (e : Entry) → IsMove s past e → e.who.0 ≡ 0 → choice s past ≡ Some 0
+chosen_clock s past e move zero_is = move.actor ∙ ap (λ (w : ℕ). let o : Option ℕ = Some w in o) zero_is
+
+clock_call : (s : Tree) (past : Past) (who : ℕ) (call : Call) → who ≡ 0 → ComesNext s past who call → call ≡ Advance
+clock_call s past zero call zero_is next = next
+clock_call s past (suc n) call zero_is next = absurd (omega (arith, zero_is))
 
 -- the clock's entry says that nothing can go on
 clock_answer : (s : Tree) (past : Past) (e : Entry) → IsMove s past e → e.who.0 ≡ 0 → e.answer ≡ answers.Stuck
 clock_answer s past e move zero_is =
-    let chosen : choice s past ≡ Some 0 = move.actor ∙ ap (λ (w : ℕ). let o : Option ℕ = Some w in o) zero_is in
-    let call : Some calls.Advance ≡ Some e.call = ap (next_call s past) (sym zero_is) ∙ move.call in
-    let same : calls.Advance ≡ e.call = cc in
-    move.answer ∙ ap (λ (w : ℕ). reply (setup_of s) past w e.call) zero_is ∙ ap (reply (setup_of s) past 0) (sym same)
+    move.answer ∙ ap (λ (w : ℕ). reply (setup_of s) past w e.call) zero_is ∙ ap (reply (setup_of s) past 0) (clock_call s past e.who.0 e.call zero_is move.call)
     ∙ advance_is (setup_of s) past move.room
-    ∙ ap (λ o. busy_or o (advanced (soonest (setup_of s) past))) (nobody_busy s past chosen)
+    ∙ ap (λ o. busy_or o (advanced (soonest (setup_of s) past))) (quiet (setup_of s) past (clock_free s past (chosen_clock s past e move zero_is))).0
     ∙ ap advanced (never_soon (setup_of s) past)
 
--- ---- whoever is idle stays so over the clock's entry
+-- so it doesn't move twice in a row
+clock_stays : (s : Tree) (past : Past) (e f : Entry) → IsMove s past e → e.who.0 ≡ 0 → IsMove s (e ∷ past) f → 0 < f.who.0
+clock_stays s past e f move zero_is next = elim (cases_lt 0 f.who.0) [
+  | inl positive ↦ positive
+  | inr le ↦
+      let a = clock_answer s past e move zero_is in
+      let stuck : ends_stuck (e ∷ past) ≡ true = rw (zero_is, a) refl in
+      let free = quiet (setup_of s) (e ∷ past) (clock_free s (e ∷ past) (chosen_clock s (e ∷ past) f next (omega (arith, le)))) in
+      absurd (false≢true (sym free.1 ∙ stuck))
+]
 
-ended_stays : (e : Entry) (past : Past) (t : ℕ) → e.answer ≡ answers.Stuck → has_ended (e ∷ past) t ≡ has_ended past t
-ended_stays e past t a = has_ended-same e past t (ap is_end a)
+-- one where the last entry is the clock's
+abbrev by_clock : Past → ℕ
+by_clock [] = 0
+by_clock (e ∷ past) = cond (eqb e.who.0 0) 1 0
 
-waiting_stays : (e : Entry) (past : Past) (t : ℕ) → e.who.0 ≡ 0 → 0 < t → waiting (e ∷ past) t ≡ waiting past t
-waiting_stays e past t zero_is positive = waiting_other e past t (grind (arith, nat_tests, zero_is))
+one_by_clock : (e : Entry) (past : Past) → eqb e.who.0 0 ≡ true → by_clock (e ∷ past) ≡ 1
+one_by_clock e past hit = ap (λ b. cond {A = ℕ} b 1 0) hit
 
-post_no_wait : (big lives full : Bool) (n : ℕ) → is_wait (refuse big invalid_parameter (refuse (not lives) invalid_thread_id (refuse full not_enough_quota (answers.Posted n)))) ≡ false
-post_no_wait true lives full n = refl
-post_no_wait false false full n = refl
-post_no_wait false true true n = refl
-post_no_wait false true false n = refl
+by_clock_most : (past : Past) → by_clock past ≤ 1
+by_clock_most [] = omega arith
+by_clock_most (e ∷ past) = pick (eqb e.who.0 0)
+  where
+    pick : (b : Bool) → cond b 1 0 ≤ 1
+    pick true = omega arith
+    pick false = omega arith
 
-row_stays : (setup : Setup) (e : Entry) (past : Past) (t : ℕ) (call : Call) → e.answer ≡ answers.Stuck → is_wait (row setup past t call) ≡ true → is_wait (row setup (e ∷ past) t call) ≡ true
-row_stays setup e past t (calls.PostThread to m p q) a w = absurd (false≢true (sym (post_no_wait (is_no_message m) (is_running setup past to) (leb 10000 (length (posted past to))) (next_post_number past)) ∙ w))
-row_stays setup e past t (calls.Get v x y) a w =
-    ap (λ (l : List PostedMsg). is_wait (refuse (is_no_filter_window v) invalid_window_handle (unwrap_or (option_map got_posted (find (passes (filter_of v x y)) l)) answers.Wait))) (posted-plain e past t (ap is_plain a)) ∙ w
-row_stays setup e past t calls.EndThread a w = w
-row_stays setup e past t calls.Advance a w = w
-
-reply_waits : (full running : Bool) (z : Answer) → is_wait (refuse full Full (refuse (not running) NotNow z)) ≡ true → (running ≡ true) × (is_wait z ≡ true)
-reply_waits true running z w = absurd (false≢true w)
-reply_waits false true z w = (refl, w)
-reply_waits false false z w = absurd (false≢true w)
-
-reply_goes : (full running : Bool) (z : Answer) → full ≡ false → running ≡ true → is_wait z ≡ true → is_wait (refuse full Full (refuse (not running) NotNow z)) ≡ true
-reply_goes true running z f r w = absurd (false≢true (sym f))
-reply_goes false true z f r w = w
-reply_goes false false z f r w = absurd (false≢true r)
-
-wait_stays : (setup : Setup) (e : Entry) (past : Past) (t : ℕ) (o : Option Call) → e.answer ≡ answers.Stuck → is_full (e ∷ past) ≡ false → would_wait setup past t o ≡ true → would_wait setup (e ∷ past) t o ≡ true
-wait_stays setup e past t None a room w = absurd (false≢true w)
-wait_stays setup e past t (Some call) a room w =
-    let parts = reply_waits (is_full past) (is_running setup past t) (row setup past t call) w in
-    let running : is_running setup (e ∷ past) t ≡ true = ap (λ b. is_thread setup t && not b) (ended_stays e past t a) ∙ parts.0 in
-    reply_goes (is_full (e ∷ past)) (is_running setup (e ∷ past) t) (row setup (e ∷ past) t call) room running (row_stays setup e past t call a parts.1)
-
-idle_or : (ended waits : Bool) → cond ended true waits ≡ true → (ended ≡ true) ⊎ (waits ≡ true)
-idle_or true waits e = inl refl
-idle_or false waits e = inr e
-
-or_idle : (ended waits : Bool) → (ended ≡ true) ⊎ (waits ≡ true) → cond ended true waits ≡ true
-or_idle true waits e = refl
-or_idle false waits (inl e) = absurd (false≢true e)
-or_idle false waits (inr e) = e
-
-idle_stays : (setup : Setup) (e : Entry) (past : Past) (t : ℕ) → e.who.0 ≡ 0 → e.answer ≡ answers.Stuck → is_full (e ∷ past) ≡ false → 0 < t → is_idle setup past t ≡ true → is_idle setup (e ∷ past) t ≡ true
-idle_stays setup e past t zero_is a room positive idle =
-    idle_is setup (e ∷ past) t
-    ∙ or_idle (has_ended (e ∷ past) t) (would_wait setup (e ∷ past) t (waiting (e ∷ past) t)) (elim (idle_or (has_ended past t) (would_wait setup past t (waiting past t)) (sym (idle_is setup past t) ∙ idle)) [
-      | inl x ↦ inl (ended_stays e past t a ∙ x)
-      | inr x ↦ inr (ap (would_wait setup (e ∷ past) t) (waiting_stays e past t zero_is positive) ∙ wait_stays setup e past t (waiting past t) a room x)
-    ])
-
-and_false : (a b : Bool) → b ≡ false → (a && b) ≡ false
-and_false true b e = e
-and_false false b e = refl
-
-or_right : (a b : Bool) → b ≡ true → (a || b) ≡ true
-or_right true b e = refl
-or_right false b e = e
-
-stuck_bars : (setup : Setup) (past : Past) → ends_stuck past ≡ true → is_barred setup past 0 ≡ true
-unfolding is_barred
-stuck_bars setup past stuck = or_right (not (is_none (first_busy setup past)) || have_all_ended setup past) (ends_stuck past) stuck
-
-idle_runs_not : (s : Tree) (past : Past) (t : ℕ) → 0 < t → is_idle (setup_of s) past t ≡ true → is_runnable s past t ≡ false
-idle_runs_not s past t positive idle = ap (λ b. not b && nat_lt (used past t) s.budget) (barred_is_idle (setup_of s) past t positive ∙ idle)
-
--- so nobody is chosen after it
-nobody_after : (s : Tree) (past : Past) (e : Entry) → IsMove s past e → e.who.0 ≡ 0 → is_full (e ∷ past) ≡ false → choice s (e ∷ past) ≡ None
-nobody_after s past e move zero_is room =
-    let chosen : choice s past ≡ Some 0 = move.actor ∙ ap (λ (w : ℕ). let o : Option ℕ = Some w in o) zero_is in
-    let a = clock_answer s past e move zero_is in
-    let none : (low : ℕ) → first_above s (e ∷ past) low ≡ None = λ low. lowest_nobody (λ x. nat_lt low x && is_runnable s (e ∷ past) x) (length s.threads) (λ t p w.
-    and_false (nat_lt low t) (is_runnable s (e ∷ past) t) (idle_runs_not s (e ∷ past) t p (idle_stays (setup_of s) e past t zero_is a room p (all_idle s past t chosen p w)))) in
-    let stuck : ends_stuck (e ∷ past) ≡ true = rw (zero_is, a) refl in
-    rw (none (last_thread (e ∷ past)), none 0, stuck_bars (setup_of s) (e ∷ past) stuck) refl
-
--- the clock has moved before no entry
-clock_first : (s : Tree) (x : Entry) (past : Past) → IsRun s (x ∷ past) → used past 0 ≡ 0
-clock_first s x [] run = refl
-clock_first s x (e ∷ past) run =
+clock_then : (s : Tree) (past : Past) (f : Entry) → IsRun s past → IsMove s past f → f.who.0 ≡ 0 → by_clock past ≡ 0
+clock_then s [] f run next zero_is = refl
+clock_then s (e ∷ past) f run next zero_is =
     elim (eqb_tells e.who.0 0) [
-      | inl z ↦
-          let clash : None ≡ Some x.who.0 = sym (nobody_after s past e run.1.0 z.1 run.0.room) ∙ run.0.actor in
-          absurd cc
-      | inr z ↦ used_other e past 0 z.0 ∙ clock_first s e past run.1
+      | inl x ↦ absurd (omega (arith, clock_stays s past e f run.0 x.1 next, zero_is))
+      | inr x ↦ ap (λ b. cond {A = ℕ} b 1 0) x.0
     ]
 
-clock_once : (s : Tree) (past : Past) → IsRun s past → used past 0 ≤ 1
-clock_once s [] run = omega arith
-clock_once s (e ∷ past) run =
+-- each entry is a thread's, or the clock's behind one of a thread
+length_is : (s : Tree) (past : Past) → IsRun s past → length past ≤ 2 * total (length s.threads) past + by_clock past
+length_is s [] run = omega arith
+length_is s (e ∷ past) run =
     elim (eqb_tells e.who.0 0) [
-      | inl z ↦ omega (arith, used_own e past 0 z.0, clock_first s e past run)
-      | inr z ↦ omega (arith, used_other e past 0 z.0, clock_first s e past run)
+      | inl x ↦ omega (arith, length_is s past run.1, total_more (length s.threads) e past, clock_then s past e run.1 run.0 x.1, one_by_clock e past x.0)
+      | inr x ↦ let positive : 0 < e.who.0 = omega (arith, x.1) in
+          omega (arith, length_is s past run.1, by_clock_most past, total_own (length s.threads) e past positive (thread_within s e.who.0 (chosen_can_move s past e.who.0 run.0.actor positive).known))
     ]
 
 mul_most : (a b : ℕ) → a ≤ 15 → b ≤ 65536 → a * b ≤ 983040
 mul_most a b p q = omega (arith, mul-le-mul_left a q, p)
 
--- 15 threads with a budget of 65,536 entries each, and one entry of the clock
-pub run_short : (s : Tree) (past : Past) → IsScript s → IsRun s past → length past ≤ 983041
-run_short s past script run = omega (arith, length_is s past run, clock_once s past run, total_within s past (length s.threads) run, mul_most (length s.threads) s.budget script.threads.1 script.budget.1)
+-- 15 threads with a budget of 65,536 entries each, and an entry of the clock behind each and before all
+pub run_short : (s : Tree) (past : Past) → length s.threads ≤ 15 → s.budget ≤ 65536 → IsRun s past → length past ≤ 1966081
+run_short s past few small run = omega (arith, length_is s past run, by_clock_most past, total_within s past (length s.threads) run, mul_most (length s.threads) s.budget few small)
 
-pub has_room : (s : Tree) (past : Past) → IsScript s → IsRun s past → is_full past ≡ false
-has_room s past script run = le_false 2097152 (length past) (omega (arith, run_short s past script run))
+pub has_room : (s : Tree) (past : Past) → length s.threads ≤ 15 → s.budget ≤ 65536 → IsRun s past → is_full past ≡ false
+has_room s past few small run = le_false 2097152 (length past) (omega (arith, run_short s past few small run))
   where
     le_false : (a b : ℕ) → b < a → leb a b ≡ false
     le_false a b lt = grind (arith, nat_tests, lt)

@@ -7,18 +7,25 @@ use Rattle.user_model.specs.declared.entry.Answer.{Answer}
 use Rattle.user_model.specs.declared.entry.Entry.{Entry}
 use Rattle.user_model.specs.Idle.{reply}
 use Rattle.user_model.specs.Legal.{IsLawful}
-use Rattle.script_text.specs.Tree.{Tree}
+use Rattle.script_tree.specs.Tree.{Tree}
+use Rattle.script_tree.specs.Pieces.{Cut}
+use Rattle.script_tree.proofs.TraceLaws.{one_end}
 use Rattle.log_text.specs.Ends.{setup_of}
-use Rattle.user_pool.specs.Runs.{next_call, choice, IsMove, IsRun, IsListed}
+use Rattle.user_pool.specs.Runs.{ComesNext, choice, IsMove, IsRun, IsListed}
 
 some_is : {X : Type 0} (o : Option X) (x y : X) → o ≡ Some x → o ≡ Some y → x ≡ y
 some_is o x y e f = let both : Some x ≡ Some y = sym e ∙ f in cc
+
+-- one call comes next
+next_same : (s : Tree) (past : List Entry) (who : ℕ) (c d : Call) → ComesNext s past who c → ComesNext s past who d → c ≡ d
+next_same s past zero c d a b = a ∙ sym b
+next_same s past (suc n) c d a b = let same : Cut c ≡ Cut d = one_end s a b in cc
 
 -- two moves after the same past are the same
 move_same : (s : Tree) (h : List Entry) (e f : Entry) → IsMove s h e → IsMove s h f → e ≡ f
 move_same s h e f a b =
     let who : e.who.0 ≡ f.who.0 = some_is (choice s h) e.who.0 f.who.0 a.actor b.actor in
-    let call : e.call ≡ f.call = some_is (next_call s h e.who.0) e.call f.call a.call (ap (next_call s h) who ∙ b.call) in
+    let call : e.call ≡ f.call = next_same s h e.who.0 e.call f.call a.call (subst (λ w. ComesNext s h w f.call) (sym who) b.call) in
     let answer : e.answer ≡ f.answer = a.answer ∙ ap (λ (w : ℕ). reply (setup_of s) h w e.call) who ∙ ap (reply (setup_of s) h f.who.0) call ∙ sym b.answer in
     ap (λ (w : ℕ). let x : Entry = record { who = record { 0 = w }; call = e.call; answer = e.answer } in x) who
     ∙ ap (λ (c : Call). let x : Entry = record { who = f.who; call = c; answer = e.answer } in x) call

@@ -1,44 +1,33 @@
--- The run of a script by round robin.
-use Rattle.std.specs.Prelude.{if◌then◌else◌, ◌≡◌, ℕ, zero, suc, ◌==◌, nat_lt, Bool, false, not, ◌&&◌, List, [], ◌∷◌, length, filter, Option, Some, None}
+-- The run of a script by its order list, and then by round robin.
+use Rattle.std.specs.Prelude.{if◌then◌else◌, ◌≡◌, ℕ, zero, suc, ◌==◌, nat_lt, Bool, false, not, ◌&&◌, List, [], ◌∷◌, length, find, Option, Some, None}
 use Rattle.user_model.specs.declared.call.Call.{Call}
-use Rattle.user_model.specs.declared.call.Call.TheVariants as calls
+use Rattle.user_model.specs.declared.call.Call.TheVariants.{Advance}
 use Rattle.user_model.specs.declared.entry.Entry.{Entry}
 use Rattle.user_model.specs.Past.{Past, or_else, is_full}
-use Rattle.user_model.specs.Places.{mine}
-use Rattle.user_model.specs.Threads.{lowest}
-use Rattle.user_model.specs.Idle.{reply, is_barred, is_wait}
-use Rattle.script_text.specs.declared.tree.Statement.{Statement}
-use Rattle.script_text.specs.declared.tree.Statement.TheVariants.{PostThread, Get}
-use Rattle.script_text.specs.Tree.{Tree, body_of}
-use Rattle.log_text.specs.Ends.{setup_of}
+use Rattle.user_model.specs.Threads.{lowest, is_thread}
+use Rattle.user_model.specs.Idle.{reply, is_idle, is_barred}
+use Rattle.script_tree.specs.Tree.{Tree}
+use Rattle.script_tree.specs.Pieces.{Cut}
+use Rattle.script_tree.specs.Traces.{IsTrace, trace_of}
+use Rattle.log_text.specs.Ends.{setup_of, used}
 
--- the call that a statement makes
-abbrev pub call_of : Statement → Call
-call_of (PostThread to number wparam lparam) = calls.PostThread to number wparam lparam
-call_of Get = calls.Get 0 0 0
-
--- the call of a program after so many statements that are done: the next statement's; after the last one the thread ends
-abbrev pub call_at : List Statement → ℕ → Option Call
-call_at [] zero = Some calls.EndThread
-call_at [] (suc n) = None
-call_at (statement ∷ rest) zero = Some (call_of statement)
-call_at (statement ∷ rest) (suc n) = call_at rest n
-
--- how many entries an actor has made
-abbrev pub used : Past → ℕ → ℕ
-used past t = length (mine past t)
-
--- how many calls of its program are done: one that waits is made again
-abbrev pub done : Past → ℕ → ℕ
-done past t = length (filter (λ e. not (is_wait e.answer)) (mine past t))
-
--- the call that an actor makes next: the clock goes on, and a thread follows its program
-abbrev pub next_call : Tree → Past → ℕ → Option Call
-next_call s past who = if who == 0 then Some calls.Advance else call_at (body_of s who) (done past who)
-
--- whether a thread can move: it isn't barred, and has some of its budget left
+-- whether a number is a thread's that can move: it isn't idle, and has some of its budget left
 abbrev pub is_runnable : Tree → Past → ℕ → Bool
-is_runnable s past t = not (is_barred (setup_of s) past t) && nat_lt (used past t) s.budget
+is_runnable s past t = is_thread (setup_of s) t && (not (is_idle (setup_of s) past t) && nat_lt (used past t) s.budget)
+
+-- the numbers behind the first that passes; where none does, none are left
+abbrev pub behind_first : (ℕ → Bool) → List ℕ → List ℕ
+behind_first test [] = []
+behind_first test (t ∷ ts) = if test t then ts else behind_first test ts
+
+-- the numbers of the order list that are left: each entry of a thread uses them up to the first that can move
+abbrev pub left : Tree → Past → List ℕ
+left s [] = s.order
+left s (e ∷ past) = if e.who.0 == 0 then left s past else behind_first (is_runnable s past) (left s past)
+
+-- the first thread of the numbers left that can move
+abbrev pub listed : Tree → Past → Option ℕ
+listed s past = find (is_runnable s past) (left s past)
 
 -- the thread that moved last, or 0 before the first
 abbrev pub last_thread : Past → ℕ
@@ -49,18 +38,27 @@ last_thread (e ∷ past) = if e.who.0 == 0 then last_thread past else e.who.0
 abbrev pub first_above : Tree → Past → ℕ → Option ℕ
 first_above s past low = lowest (λ t. nat_lt low t && is_runnable s past t) (length s.threads)
 
+-- the least thread above the last one that can move; where there is none, the least that can
+abbrev pub in_turn : Tree → Past → Option ℕ
+in_turn s past = or_else (first_above s past (last_thread past)) (first_above s past 0)
+
 -- the clock, unless it is barred
 abbrev pub clock_move : Tree → Past → Option ℕ
 clock_move s past = if is_barred (setup_of s) past 0 then None else Some 0
 
--- who moves next: the next thread in turn after the last one that can move; where none can, the clock
+-- who moves next: by the order list, else the next thread in turn; where none can move, the clock
 abbrev pub choice : Tree → Past → Option ℕ
-choice s past = or_else (first_above s past (last_thread past)) (or_else (first_above s past 0) (clock_move s past))
+choice s past = or_else (listed s past) (or_else (in_turn s past) (clock_move s past))
 
--- an entry is made by the actor that is chosen, is the call that it makes next, and has the answer that the past gives it
+-- the call that an actor makes next: the clock goes on, and a thread goes on with its trace
+abbrev pub ComesNext : Tree → Past → ℕ → Call → Type 0
+ComesNext s past zero call = call ≡ Advance
+ComesNext s past (suc n) call = IsTrace s (suc n) (trace_of past (suc n)) (Cut call)
+
+-- an entry is made by the actor that is chosen, is the call that comes next, and has the answer that the past gives it
 pub record IsMove (s : Tree) (past : Past) (e : Entry) : Type 0 where
   pub actor : choice s past ≡ Some e.who.0
-  pub call : next_call s past e.who.0 ≡ Some e.call
+  pub call : ComesNext s past e.who.0 e.call
   pub answer : e.answer ≡ reply (setup_of s) past e.who.0 e.call
   pub room : is_full past ≡ false
 

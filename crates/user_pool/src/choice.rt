@@ -1,77 +1,142 @@
 //! Who moves next.
 
-ghost use Rattle.std.specs.Prelude.{◌≡◌, ◌<◌, ◌≤◌, ◌&&◌, nat_lt, length};
-ghost use Rattle.user_pool.specs.Runs.{is_runnable, first_above, last_thread, choice};
-ghost use Rattle.user_pool.specs.Workers.{WorkersStand};
+ghost use Rattle.std.specs.Prelude.{◌≡◌, ◌<◌, ◌≤◌, ◌&&◌, nat_lt, length, drop, IsNone, IfSome, None};
+ghost use Rattle.user_pool.specs.Runs.{is_runnable, first_above, last_thread, left, choice};
+ghost use Rattle.user_pool.specs.Moves.{IsNextPlace, left_after};
+ghost use Rattle.user_pool.specs.Seats.{SeatsStand};
 ghost use Rattle.log_text.specs.Ends.{setup_of};
 
-use crate::worker::Worker;
-use script_text::Script;
+use crate::seat::Seat;
+use script_tree::Script;
 use user_model::Machine;
 use win_num::Thread;
 
-/// Whether a thread can move: it isn't barred, and has some of its budget left.
-fn runnable<M: Machine>(script: &Script, machine: &M, workers: &[Worker], thread: u8) -> bool
-    requires thread { 0 < thread }
-    requires known { thread ≤ length script.now.threads }
+/// An actor that moves next, and the place at which the order list goes on behind its move.
+#[derive(Clone, Copy)]
+pub struct Choice {
+    pub actor: u8,
+    pub place: usize,
+}
+
+/// Whether a number is a thread's that can move: it isn't idle, and has some of its budget left.
+fn runnable<M: Machine>(script: &Script, machine: &M, seats: &[Seat], number: u8) -> bool
     requires setup { M.setup machine.now ≡ setup_of script.now }
-    requires workers { WorkersStand script.now (M.past machine.now) workers.now }
-    ensures { result ≡ is_runnable script.now (M.past machine.now) thread }
+    requires seats { SeatsStand script.now (M.past machine.now) seats.now }
+    ensures { result ≡ is_runnable script.now (M.past machine.now) number }
 {
-    !machine.barred(Thread(thread)) && workers[(thread - 1) as usize].used < script.budget()
+    if number == 0 || number as usize > seats.len() {
+        return false;
+    }
+    !machine.barred(Thread(number)) && seats[(number - 1) as usize].worker.used() < script.budget()
 }
 
 /// Whether a thread is above a number and can move.
 fn runnable_above<M: Machine>(
     script: &Script,
     machine: &M,
-    workers: &[Worker],
+    seats: &[Seat],
     low: u8,
     thread: u8,
 ) -> bool
-    requires thread { 0 < thread }
-    requires known { thread ≤ length script.now.threads }
     requires setup { M.setup machine.now ≡ setup_of script.now }
-    requires workers { WorkersStand script.now (M.past machine.now) workers.now }
+    requires seats { SeatsStand script.now (M.past machine.now) seats.now }
     ensures { result ≡ (nat_lt low thread && is_runnable script.now (M.past machine.now) thread) }
 {
-    low < thread && runnable(script, machine, workers, thread)
+    low < thread && runnable(script, machine, seats, thread)
 }
 
 /// The least thread above a number that can move.
-fn first_above<M: Machine>(script: &Script, machine: &M, workers: &[Worker], low: u8) -> Option<u8>
-    requires few { length script.now.threads < 16 }
+fn first_above<M: Machine>(script: &Script, machine: &M, seats: &[Seat], low: u8) -> Option<u8>
+    requires few { length script.now.threads ≤ 15 }
     requires setup { M.setup machine.now ≡ setup_of script.now }
-    requires workers { WorkersStand script.now (M.past machine.now) workers.now }
+    requires seats { SeatsStand script.now (M.past machine.now) seats.now }
     ensures { result ≡ first_above script.now (M.past machine.now) low }
 {
     let threads = script.thread_count();
     for thread in 0..threads {
-        if runnable_above(script, machine, workers, low, thread + 1) {
+        if runnable_above(script, machine, seats, low, thread + 1) {
             return Some(thread + 1);
         }
     }
     None
 }
 
-/// Who moves next, where `last` is the thread that moved last, or 0: a thread, 0 for the clock, or
-/// nobody.
-pub fn choose<M: Machine>(script: &Script, machine: &M, workers: &[Worker], last: u8) -> Option<u8>
-    requires few { length script.now.threads < 16 }
+/// The first place of the order list, from a place on, of a thread that can move; the list's end where
+/// there is none.
+fn next_place<M: Machine>(script: &Script, machine: &M, seats: &[Seat], from: usize) -> usize
+    requires from { from ≤ length script.now.order }
     requires setup { M.setup machine.now ≡ setup_of script.now }
-    requires workers { WorkersStand script.now (M.past machine.now) workers.now }
-    requires last { last ≡ last_thread (M.past machine.now) }
-    ensures { result ≡ choice script.now (M.past machine.now) }
+    requires seats { SeatsStand script.now (M.past machine.now) seats.now }
+    ensures { IsNextPlace (is_runnable script.now (M.past machine.now)) script.now.order from result }
 {
-    if let Some(thread) = first_above(script, machine, workers, last) {
-        return Some(thread);
+    let order = script.order();
+    for place in from..order.len() {
+        if runnable(script, machine, seats, order[place]) {
+            return place;
+        }
     }
-    if let Some(thread) = first_above(script, machine, workers, 0) {
-        return Some(thread);
+    order.len()
+}
+
+/// Who moves next where some thread can: `lowest` is the least one that can.
+fn choose_thread<M: Machine>(
+    script: &Script,
+    machine: &M,
+    seats: &[Seat],
+    lowest: u8,
+    last: u8,
+    from: usize,
+) -> Choice
+    requires few { length script.now.threads ≤ 15 }
+    requires setup { M.setup machine.now ≡ setup_of script.now }
+    requires seats { SeatsStand script.now (M.past machine.now) seats.now }
+    requires last { last ≡ last_thread (M.past machine.now) }
+    requires from { from ≤ length script.now.order }
+    requires left { left script.now (M.past machine.now) ≡ drop from script.now.order }
+    requires lowest { first_above script.now (M.past machine.now) 0 ≡ Some lowest }
+    ensures chosen { choice script.now (M.past machine.now) ≡ Some result.actor }
+    ensures within { result.place ≤ length script.now.order }
+    ensures left { left_after script.now (M.past machine.now) result.actor ≡ drop result.place script.now.order }
+{
+    let place = next_place(script, machine, seats, from);
+    if let Some(actor) = script.order().get(place) {
+        return Choice {
+            actor: *actor,
+            place: place + 1,
+        };
+    }
+    let actor = first_above(script, machine, seats, last).unwrap_or(lowest);
+    Choice { actor, place }
+}
+
+/// Who moves next, where `last` is the thread that moved last, or 0, and the order list goes on from a
+/// place: a thread, 0 for the clock, or nobody.
+pub fn choose<M: Machine>(
+    script: &Script,
+    machine: &M,
+    seats: &[Seat],
+    last: u8,
+    from: usize,
+) -> Option<Choice>
+    requires few { length script.now.threads ≤ 15 }
+    requires setup { M.setup machine.now ≡ setup_of script.now }
+    requires seats { SeatsStand script.now (M.past machine.now) seats.now }
+    requires last { last ≡ last_thread (M.past machine.now) }
+    requires from { from ≤ length script.now.order }
+    requires left { left script.now (M.past machine.now) ≡ drop from script.now.order }
+    ensures none { IsNone result → choice script.now (M.past machine.now) ≡ None }
+    ensures chosen { IfSome result (λ c. choice script.now (M.past machine.now) ≡ Some c.actor) }
+    ensures within { IfSome result (λ c. c.place ≤ length script.now.order) }
+    ensures left { IfSome result (λ c. left_after script.now (M.past machine.now) c.actor ≡ drop c.place script.now.order) }
+{
+    if let Some(lowest) = first_above(script, machine, seats, 0) {
+        return Some(choose_thread(script, machine, seats, lowest, last, from));
     }
     if machine.barred(Thread(0)) {
-        None
-    } else {
-        Some(0)
+        return None;
     }
+    Some(Choice {
+        actor: 0,
+        place: from,
+    })
 }

@@ -3,8 +3,7 @@
 ghost use Rattle.std.specs.Prelude.{◌≡◌, ◌≢◌, ◌≤◌, List, length};
 ghost use Rattle.user_model.specs.declared.entry.Entry.{Entry};
 ghost use Rattle.user_model.specs.Legal.{IsLawful};
-ghost use Rattle.script_text.specs.Tree.{Tree};
-ghost use Rattle.script_text.specs.Limits.{IsScript};
+ghost use Rattle.script_tree.specs.Tree.{Tree};
 ghost use Rattle.log_text.specs.declared.end.End.{End};
 ghost use Rattle.log_text.specs.Ends.{setup_of, end_of};
 ghost use Rattle.user_pool.specs.Runs.{IsRun, IsListed};
@@ -19,12 +18,13 @@ pub fn runs_are_lawful()
     ensures { (s : Tree) (past : List Entry) → IsRun s past → IsLawful (setup_of s) past }
 {}
 
-/// No run fills the history: it has at most 983,041 of 2,097,152 entries.
+/// No run fills the history: it has at most 1,966,081 of 2,097,152 entries.
 pub fn runs_are_short()
-    ensures { (s : Tree) (past : List Entry) → IsScript s → IsRun s past → length past ≤ 983041 }
+    ensures { (s : Tree) (past : List Entry) → length s.threads ≤ 15 → s.budget ≤ 65536 → IsRun s past → length past ≤ 1966081 }
 {}
 
-/// No listed run of a script is spent: either all threads have ended, or nothing can go on.
-pub fn runs_are_not_spent()
-    ensures { (s : Tree) (past : List Entry) → IsScript s → IsListed s past → end_of s past ≢ End.Spent }
+/// A listed run is never cut: it goes on until all threads have ended, nothing can go on, or each
+/// thread that could go on has used up its budget.
+pub fn runs_are_not_cut()
+    ensures { (s : Tree) (past : List Entry) → IsListed s past → end_of s past ≢ End.Cut }
 {}

@@ -1,6 +1,6 @@
 //! The table of window classes and registered messages.
 
-ghost use Rattle.std.specs.Prelude.{◌≡◌, ◌+◌, ◌↔◌, Some, IfOk, OnOk, OnErr};
+ghost use Rattle.std.specs.Prelude.{◌≡◌, ◌+◌, ◌↔◌, length, Some, IfOk, OnOk, OnErr};
 ghost use Rattle.win_num.specs.declared.code.Code.{Code};
 ghost use Rattle.win_class.specs.ClassTable.{class_in, message_refusal, no_classes, number_in, register_refusal, unregister_refusal, with_class, with_message, without_class};
 
@@ -116,6 +116,37 @@ impl Classes {
         ensures { result ≡ class_in self.now name }
     {
         self.classes.get(&name).copied()
+    }
+
+    /// How many classes are registered, 64 at most.
+    pub fn len(&self) -> usize
+        ensures { result ≡ length self.now.classes }
+    {
+        self.classes.len()
+    }
+
+    /// How many classes were ever registered, which is the atom of the last.
+    pub fn registered(&self) -> u32
+        ensures { result ≡ self.now.registered }
+    {
+        self.registered
+    }
+
+    /// The number of the registered message of this name. None comes exactly where no message has it.
+    pub fn number_of(&self, name: u32) -> Option<u32>
+        ensures { result ≡ number_in self.now name }
+    {
+        match self.messages.get_index_of(&name) {
+            Some(place) => Some(FIRST_MESSAGE + place as u32),
+            None => None,
+        }
+    }
+
+    /// How many messages are registered, 16,384 at most.
+    pub fn message_count(&self) -> usize
+        ensures { result ≡ length self.now.messages }
+    {
+        self.messages.len()
     }
 
     /// The number of the message of this name, which is registered if it isn't (Microsoft,

@@ -5,3 +5,4 @@ pub mod Numbers
 pub mod Ordered
 pub mod Searches
 pub mod Walks
+pub mod ThreadDrops

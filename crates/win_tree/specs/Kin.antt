@@ -97,6 +97,18 @@ doom_refusal ws w = if is_live ws w && not (is_marked ws w) then None else Some 
 abbrev pub dropped : List Window → ℕ → List Window
 dropped ws w = filter (λ x. not (is_kin ws w x.number.0)) ws
 
+-- without the windows of a thread
+abbrev pub without_thread : List Window → ℕ → List Window
+without_thread ws t = filter (λ x. not (x.row.thread.0 == t)) ws
+
+-- whether w is a window of another thread
+abbrev pub is_of_other : List Window → ℕ → ℕ → Bool
+is_of_other ws t w = elim (window_of ws w) [ Some x ↦ not (x.row.thread.0 == t) | None ↦ false ]
+
+-- whether a window has the class
+abbrev pub has_class : List Window → ℕ → Bool
+has_class ws class = list_any (λ x. x.row.class == class) ws
+
 -- why a window can't be dropped
 abbrev pub drop_refusal : List Window → ℕ → Option Code
 drop_refusal ws w = if is_live ws w then (if is_ended ws w then None else Some (Win 87)) else Some (Win 1400)

@@ -113,6 +113,28 @@ fn rows_and_walks(rt: HostRuntime) -> Result<(), Fail> {
 }
 
 #[test]
+fn the_windows_of_a_thread(rt: HostRuntime) -> Result<(), Fail> {
+    let mut tree = Tree::new(rt.alloc());
+    family(&mut tree)?;
+    let other = WindowRow {
+        thread: Thread(2),
+        class: 7,
+        ..row(0, 0, 0)?
+    };
+    assert_eq!(rt; tree.add(other), Ok(Hwnd(21)));
+    assert!(rt; tree.has_class(7) && tree.has_class(2) && !tree.has_class(3));
+    assert!(rt; tree.is_kin(Hwnd(16), Hwnd(19)) && !tree.is_kin(Hwnd(17), Hwnd(16)));
+    assert_eq!(rt; tree.find(21), Some(Hwnd(21)));
+    assert_eq!(rt; tree.find(4294967317), None);
+    tree.drop_thread(Thread(1));
+    assert_eq!(rt; tree.windows(), [Hwnd(21)].as_slice());
+    assert!(rt; !tree.has_class(2));
+    assert_eq!(rt; tree.last(), 21);
+    assert_eq!(rt; tree.next_step(Hwnd(21)), Unmade::NotDoomed);
+    Ok(())
+}
+
+#[test]
 fn a_thousand_windows(rt: HostRuntime) -> Result<(), Fail> {
     let mut tree = Tree::new(rt.alloc());
     for number in 16..1040u32 {

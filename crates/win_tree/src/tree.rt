@@ -1,9 +1,9 @@
 //! The table of windows.
 
-ghost use Rattle.std.specs.Prelude.{◌≡◌, ◌+◌, ◌<◌, ◌++◌, ◌∷◌, [], List, length, map, not, IsTrue, IfOk, OnOk, OnErr, MatchResult, Option, Some, None, IfNone, ◌^◌, ◌==◌, option_copied, option_map};
+ghost use Rattle.std.specs.Prelude.{◌≡◌, ◌+◌, ◌<◌, ◌++◌, ◌∷◌, [], List, length, map, not, IsTrue, IfOk, OnOk, OnErr, MatchResult, Option, Some, None, IfNone, IfSome, ◌^◌, ◌==◌, option_copied, option_map};
 ghost use Rattle.std.specs.List.{filter, list_any};
 ghost use Rattle.win_tree.specs.Windows.{IsOrdered, no_windows, number_of, window_of, is_live, is_marked, is_ended, told_if, ended_if, set_if, next_top, up, marked_if};
-ghost use Rattle.win_tree.specs.Kin.{IsFaultFor, is_bad, refusal, next_number, settled, with_window, doomed, doom_refusal, dropped, drop_refusal, is_below, is_alone};
+ghost use Rattle.win_tree.specs.Kin.{IsFaultFor, is_bad, refusal, next_number, settled, with_window, doomed, doom_refusal, dropped, drop_refusal, is_below, is_alone, is_kin, is_of_other, without_thread, has_class};
 ghost use Rattle.win_tree.specs.Destruction.{unmade, given};
 
 use crate::destruction::first_left;
@@ -13,7 +13,7 @@ use crate::window::Window;
 use std::alloc::{AllocError, Global};
 use std::marker::Model;
 use win_num::names::WS_CHILD;
-use win_num::{Code, Fault, Hwnd, Rect};
+use win_num::{Code, Fault, Hwnd, Rect, Thread};
 
 /// How many windows may be live.
 const LIVE: usize = 1024;
@@ -161,8 +161,8 @@ impl Tree {
         step
     }
 
-    /// What `unmake` answers.
-    fn next_step(&self, w: Hwnd) -> Unmade
+    /// What `unmake` would answer.
+    pub fn next_step(&self, w: Hwnd) -> Unmade
         ensures { result ≡ unmade self.now.live w.0 }
     {
         let Some(x) = window_of(&self.windows, w) else {
@@ -224,6 +224,42 @@ impl Tree {
         self.windows.retain(|x| has(numbers, x.number));
     }
 
+    /// Takes out all windows of a thread. Takes no memory.
+    pub fn drop_thread(&mut self, thread: Thread)
+        ensures { self.new ≡ record self.old { live = without_thread self.old.live thread.0 } }
+    {
+        let windows = &self.windows;
+        self.numbers.retain(|w| is_of_other(windows, thread, *w));
+        self.windows.retain(|x| x.row.thread != thread);
+    }
+
+    /// Whether a live window has the class.
+    pub fn has_class(&self, class: u32) -> bool
+        ensures { result ≡ has_class self.now.live class }
+    {
+        self.windows.iter().any(|x| x.row.class == class)
+    }
+
+    /// The live window of a number of 64 bits, which is compared as it was written. None comes exactly
+    /// where no live window has it.
+    pub fn find(&self, w: u64) -> Option<Hwnd>
+        ensures window { result ≡ option_map number_of (window_of self.now.live w) }
+        ensures same { IfSome result (λ window. window.0 ≡ w) }
+    {
+        let found = self.windows.iter().find(|x| u64::from(x.number.0) == w);
+        match found {
+            Some(x) => Some(x.number),
+            None => None,
+        }
+    }
+
+    /// The number that was given last, 15 before the first.
+    pub fn last(&self) -> u32
+        ensures { result ≡ self.now.last }
+    {
+        self.last
+    }
+
     /// Whether the window is live and marked.
     pub fn marked(&self, w: Hwnd) -> bool
         ensures { result ≡ is_marked self.now.live w.0 }
@@ -259,6 +295,13 @@ impl Tree {
         is_below(&self.windows, above, w)
     }
 
+    /// Whether w is `above`, or stands below it or is owned by it, by however many steps.
+    pub fn is_kin(&self, above: Hwnd, w: Hwnd) -> bool
+        ensures { result ≡ is_kin self.now.live above.0 w.0 }
+    {
+        is_kin(&self.windows, above, w)
+    }
+
     /// The top-level window of least number above w, or 0 where there is none. w is any number.
     pub fn next_top(&self, w: Hwnd) -> Hwnd
         ensures { result ≡ next_top self.now.live w.0 }
@@ -284,6 +327,16 @@ fn is_bad(windows: &[Window], w: Hwnd) -> bool
     match window_of(windows, w) {
         Some(x) => x.marked,
         None => true,
+    }
+}
+
+/// Whether the window is live and of another thread.
+fn is_of_other(windows: &[Window], thread: Thread, w: Hwnd) -> bool
+    ensures { result ≡ is_of_other windows.now thread.0 w.0 }
+{
+    match window_of(windows, w) {
+        Some(x) => x.row.thread != thread,
+        None => false,
     }
 }
 

@@ -4,4 +4,4 @@ use Rattle.log_text.specs.Endings.{extra}
 use Rattle.log_text.proofs.ending.put_extras.Given as goal
 
 abbrev pub invariant-loop-thread : goal.invariant-loop-thread
-invariant-loop-thread g l = Adds l.fn.out.items l.out.items (from_each (extra l.script (g.M.Machine.past l.machine) l.end) l.thread)
+invariant-loop-thread g l = Adds l.fn.out.items l.out.items (from_each (extra l.words.script.now (g.M.Machine.past l.machine) l.end) l.thread)

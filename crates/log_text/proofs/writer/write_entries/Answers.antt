@@ -1,6 +1,6 @@
 use Rattle.std.proofs.Common.{arith}
-use Rattle.user_model.specs.declared.call.Call.TheVariants.{Get}
-use Rattle.user_model.specs.declared.entry.Answer.TheVariants.{Ended}
+use Rattle.user_model.specs.declared.call.Call.TheVariants.{Peek}
+use Rattle.user_model.specs.declared.entry.Answer.TheVariants.{Okay}
 use Rattle.user_io.proofs.Written.{keep_err}
 use Rattle.log_text.specs.Entries.{entry_text}
 use Rattle.log_text.proofs.Passed.{part_of_pieces_passed, pieces_passed}
@@ -9,10 +9,10 @@ use Rattle.log_text.proofs.writer.write_entries.Goals as goal
 pub returns-in_err-write_entry-clause-err : goal.returns-in_err-write_entry-clause-err
 returns-in_err-write_entry-clause-err g c =
     keep_err c.from_residual.result
-    (part_of_pieces_passed _ _ _ _ _ entry_text c.args.history.now c.loop-entry.entry-index (record { who = record { 0 = 0 }; call = Get 0 0 0; answer = Ended }) c.loop-entry-test.true c.loop-entry.invariant.passed c.in_err-write_entry.ensures.err)
+    (part_of_pieces_passed _ _ _ _ _ (entry_text c.args.words.now.script.now) c.args.history.now c.loop-entry.entry-index (record { who = record { 0 = 0 }; call = Peek 0 0 0 0; answer = Okay }) c.loop-entry-test.true c.loop-entry.invariant.passed c.in_err-write_entry.ensures.err)
 
 pub loop-entry-preserved : goal.loop-entry-preserved
 loop-entry-preserved g c = record {
-  passed = pieces_passed _ _ _ _ _ _ entry_text c.args.history.now c.loop-entry.entry-index (record { who = record { 0 = 0 }; call = Get 0 0 0; answer = Ended }) c.loop-entry-test.true c.loop-entry.invariant.passed c.in_ok-write_entry.ensures.ok;
+  passed = pieces_passed _ _ _ _ _ _ (entry_text c.args.words.now.script.now) c.args.history.now c.loop-entry.entry-index (record { who = record { 0 = 0 }; call = Peek 0 0 0 0; answer = Okay }) c.loop-entry-test.true c.loop-entry.invariant.passed c.in_ok-write_entry.ensures.ok;
   faults = omega (arith, c.loop-entry.invariant.faults, c.write_entry.ensures.faults);
 }

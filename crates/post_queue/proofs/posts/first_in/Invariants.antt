@@ -4,5 +4,5 @@ use Rattle.std.specs.Fn.{FnReturnsAt}
 use Rattle.post_queue.specs.Slots.{posted_in}
 use Rattle.post_queue.proofs.posts.first_in.Given as goal
 
-abbrev pub invariant-loop-slot : goal.invariant-loop-slot
-invariant-loop-slot g l = All (λ q. FnReturnsAt g.F.Fn l.pass q.msg false) (take l.slot-index (posted_in l.slots)) × (l.steps ≡ l.initial.steps + l.slot-index)
+abbrev pub invariant-loop-i : goal.invariant-loop-i
+invariant-loop-i g l = All (λ q. FnReturnsAt g.F.Fn l.pass q.msg false) (take l.i (posted_in l.slots.items)) × (l.steps ≡ l.initial.steps + l.i)

@@ -1,4 +1,4 @@
-use Rattle.script_text.proofs.OneTree.{one_tree}
+use Rattle.script_text.proofs.PartsAgain.{one_tree}
 use Rattle.script_text.proofs.reader.one_tree.Goals as goal
 
 pub returns : goal.returns

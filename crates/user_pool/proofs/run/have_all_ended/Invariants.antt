@@ -4,5 +4,5 @@ use Rattle.user_model.specs.Threads.{lowest}
 use Rattle.user_pool.proofs.run.have_all_ended.Given as goal
 
 -- each thread before this one has ended
-abbrev pub invariant-loop-worker : goal.invariant-loop-worker
-invariant-loop-worker g l = lowest (λ t. not (has_ended (g.M.Machine.past l.machine) t)) l.worker-index ≡ None
+abbrev pub invariant-loop-seat : goal.invariant-loop-seat
+invariant-loop-seat g l = lowest (λ t. not (has_ended (g.M.Machine.past l.machine) t)) l.seat-index ≡ None

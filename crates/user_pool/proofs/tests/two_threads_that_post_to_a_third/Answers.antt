@@ -1,4 +1,4 @@
-use Rattle.std.proofs.Common.{◌≡◌, ◌<◌, ◌≤◌, ℕ, zero, suc, true, false, [], ◌∷◌, List, refl, ap, ◌∙◌, sym, subst, arith, pos}
+use Rattle.std.proofs.Common.{◌≡◌, ◌<◌, ◌≤◌, ℕ, zero, suc, true, false, [], ◌∷◌, List, refl, arith, pos}
 use Rattle.std.specs.Prelude.{slice_index_or}
 use Rattle.user_model.specs.declared.call.Call.TheVariants as calls
 use Rattle.user_model.specs.declared.entry.Answer.{Answer}
@@ -11,11 +11,8 @@ use Rattle.user_model.specs.Posts.{message}
 use Rattle.user_model.specs.Idle.{reply, is_barred}
 use Rattle.user_model.specs.Legal.{IsLawful}
 use Rattle.user_model.specs.Machines.{entry_of}
-use Rattle.script_text.specs.declared.tree.Statement.{Statement}
-use Rattle.script_text.specs.declared.tree.Statement.TheVariants as statements
-use Rattle.script_text.specs.Limits.{IsScript}
 use Rattle.user_pool.specs.Replays.{Bars, IsPlayable, bar_of, past_at}
-use Rattle.user_pool.proofs.Replays.{all_bars, small_script, small_tree}
+use Rattle.user_pool.proofs.Replays.{all_bars}
 use Rattle.user_pool.proofs.tests.two_threads_that_post_to_a_third.Goals as goal
 
 -- the setup, the history, and who is barred at each of its places
@@ -67,17 +64,3 @@ playable = record { short = omega arith; each = refl; answers = answered; told =
 
 pub invariant_of-machine : goal.invariant_of-machine
 invariant_of-machine g c = record { playable = playable; within = omega arith }
-
--- the bodies of the script
-abbrev bodies : List (List Statement)
-bodies = (statements.PostThread 3 1024 1 0 ∷ statements.PostThread 3 1025 2 0 ∷ []) ∷ (statements.PostThread 3 1024 3 0 ∷ []) ∷ (statements.Get ∷ statements.Get ∷ statements.Get ∷ []) ∷ []
-
-pub run_listed-requires-clause-script : goal.run_listed-requires-clause-script
-run_listed-requires-clause-script g c =
-    let same : c.in_ok-threads.threads.items ≡ bodies =
-    c.in_ok-threads.ensures.items
-    ∙ ap (λ (b : List Statement). b ∷ c.new-2.result ∷ c.new-3.result ∷ []) (c.new.ensures ∙ c.in_ok-first.ensures.items)
-    ∙ ap (λ (b : List Statement). (statements.PostThread 3 1024 1 0 ∷ statements.PostThread 3 1025 2 0 ∷ []) ∷ b ∷ c.new-3.result ∷ []) (c.new-2.ensures ∙ c.in_ok-second.ensures.items)
-    ∙ ap (λ (b : List Statement). (statements.PostThread 3 1024 1 0 ∷ statements.PostThread 3 1025 2 0 ∷ []) ∷ (statements.PostThread 3 1024 3 0 ∷ []) ∷ b ∷ []) (c.new-3.ensures ∙ c.in_ok-third.ensures.items) in
-    subst IsScript (sym (c.new-script.ensures ∙ ap small_tree same)) (small_script bodies
-    (record { statements = ((omega arith, omega arith, omega arith, omega arith), ((omega arith, omega arith, omega arith, omega arith), tt)); budget_serves = omega arith }, (record { statements = ((omega arith, omega arith, omega arith, omega arith), tt); budget_serves = omega arith }, (record { statements = (tt, (tt, (tt, tt))); budget_serves = omega arith }, tt))) (omega arith) (omega arith) (omega arith))

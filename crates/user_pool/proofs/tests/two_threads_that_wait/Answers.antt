@@ -1,4 +1,4 @@
-use Rattle.std.proofs.Common.{◌≡◌, ◌<◌, ◌≤◌, ℕ, zero, suc, true, false, [], ◌∷◌, List, refl, ap, ◌∙◌, sym, subst, arith}
+use Rattle.std.proofs.Common.{◌≡◌, ◌<◌, ◌≤◌, ℕ, zero, suc, true, false, [], ◌∷◌, List, refl, arith}
 use Rattle.std.specs.Prelude.{slice_index_or}
 use Rattle.user_model.specs.declared.call.Call.TheVariants as calls
 use Rattle.user_model.specs.declared.entry.Answer.TheVariants as answers
@@ -8,11 +8,8 @@ use Rattle.user_model.specs.Setups.{setup_from}
 use Rattle.user_model.specs.Idle.{reply, is_barred}
 use Rattle.user_model.specs.Legal.{IsLawful}
 use Rattle.user_model.specs.Machines.{entry_of}
-use Rattle.script_text.specs.declared.tree.Statement.{Statement}
-use Rattle.script_text.specs.declared.tree.Statement.TheVariants as statements
-use Rattle.script_text.specs.Limits.{IsScript}
 use Rattle.user_pool.specs.Replays.{Bars, IsPlayable, bar_of, past_at}
-use Rattle.user_pool.proofs.Replays.{all_bars, small_script, small_tree}
+use Rattle.user_pool.proofs.Replays.{all_bars}
 use Rattle.user_pool.proofs.tests.two_threads_that_wait.Goals as goal
 
 -- the setup, the history, and who is barred at each of its places
@@ -49,15 +46,3 @@ playable = record { short = omega arith; each = refl; answers = answered; told =
 
 pub invariant_of-machine : goal.invariant_of-machine
 invariant_of-machine g c = record { playable = playable; within = omega arith }
-
--- the bodies of the script
-abbrev bodies : List (List Statement)
-bodies = (statements.Get ∷ []) ∷ (statements.Get ∷ []) ∷ []
-
-pub run_listed-requires-clause-script : goal.run_listed-requires-clause-script
-run_listed-requires-clause-script g c =
-    let same : c.in_ok-threads.threads.items ≡ bodies =
-    c.in_ok-threads.ensures.items
-    ∙ ap (λ (b : List Statement). b ∷ c.new-2.result ∷ []) (c.new.ensures ∙ c.in_ok-first.ensures.items)
-    ∙ ap (λ (b : List Statement). (statements.Get ∷ []) ∷ b ∷ []) (c.new-2.ensures ∙ c.in_ok-second.ensures.items) in
-    subst IsScript (sym (c.new-script.ensures ∙ ap small_tree same)) (small_script bodies (record { statements = (tt, tt); budget_serves = omega arith }, (record { statements = (tt, tt); budget_serves = omega arith }, tt)) (omega arith) (omega arith) (omega arith))

@@ -15,7 +15,6 @@ invariant_of-self c =
 pub returns-clause-count : goal.returns-clause-count
 returns-clause-count c =
     c.count_in-count.ensures
-    ∙ ap (count_by (λ (s : Slot). s.hwnd.0 == c.args.w.0)) c.deref.ensures.value
     ∙ count-for c.args.w.0 c.self.inside.slots.items
     ∙ ap (λ (q : Queue). count_for q.posted c.args.w.0) c.self.view_is
 

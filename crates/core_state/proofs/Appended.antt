@@ -1,0 +1,113 @@
+-- What the parts stand for after an entry, and what the change of an entry needs.
+use Rattle.std.proofs.Common.{◌≡◌, ℕ, ◌+◌, ◌≤◌, ◌<◌, Bool, true, false, List, ◌∷◌, length, Option, Some, None, refl, ap, ◌∙◌, sym, subst, arith}
+use Rattle.std.proofs.lemmas.Bool.Decides.{nat_tests}
+use Rattle.win_num.specs.declared.message.Thread.{Thread}
+use Rattle.win_class.specs.ClassTable.{ClassTable, unregister_refusal}
+use Rattle.win_tree.specs.Windows.{Windows}
+use Rattle.win_tree.specs.Kin.{doom_refusal, drop_refusal}
+use Rattle.user_model.specs.declared.call.Call.{Call}
+use Rattle.user_model.specs.declared.call.Call.TheVariants as calls
+use Rattle.user_model.specs.declared.entry.Answer.{Answer}
+use Rattle.user_model.specs.declared.entry.Answer.TheVariants as answers
+use Rattle.user_model.specs.declared.entry.Entry.{Entry}
+use Rattle.user_model.specs.declared.entry.Setup.{Setup}
+use Rattle.user_model.specs.Past.{Past, is_full}
+use Rattle.user_model.specs.Idle.{reply}
+use Rattle.user_model.specs.Threads.{is_running}
+use Rattle.user_model.proofs.DeliveryReplies.{post_told}
+use Rattle.user_model.proofs.ReplyLaws.{by_row}
+use Rattle.core_state.specs.Changes.{Change, changed, change_by, change_of, noted, count_kept, time_kept}
+use Rattle.core_state.specs.ClassTables.{classes_at}
+use Rattle.core_state.specs.Deliveries.{growth_in, settling_in}
+use Rattle.core_state.specs.Effects.{IsGrownBy, grown_classes, settled_classes, settled_tree}
+use Rattle.core_state.specs.Needs.{FitsCarrying, FitsGrowth, FitsNaming, FitsSettling, FitsUnmaking, IsOne}
+use Rattle.core_state.specs.Queues.{ThreadView, thread_at}
+use Rattle.core_state.specs.States.{EachBy, EachThread, Parts, Stands, parts}
+use Rattle.core_state.specs.Trees.{IsTreeAt}
+use Rattle.core_state.proofs.ClassSteps.{classes_after, fits_naming, fits_unregister}
+use Rattle.core_state.proofs.Deliveries.{both_changes, fits_post, fits_posting, running_is_one}
+use Rattle.core_state.proofs.NewWindows.{doom_not_refused, drop_not_refused}
+use Rattle.core_state.proofs.ThreadChanges.{thread-next, count_kept-next, time_kept-next}
+use Rattle.core_state.proofs.TreeNeeds.{fits_making, fits_unmaking}
+use Rattle.core_state.proofs.TreeSteps.{tree_after}
+
+-- ---- what a change needs
+
+growth_by : (setup : Setup) (past : Past) (p : Parts) (who : Thread) (a : Answer) (call : Call) → Stands setup past p → a ≡ reply setup past who.0 call → FitsGrowth p.classes p.tree p.threads p.time who.0 a call
+growth_by setup past p who (answers.Posted k) call st right =
+    let row = by_row setup past who.0 call (answers.Posted k) (sym right) refl in
+    let post = post_told setup past who.0 call k row.is_row in
+    (fits_post setup past p.tree.live who.0 k call post st.tree.windows, fits_posting setup past p.threads p.tree.live p.time who.0 k call post st.lawful st.count st.each row.running st.tree.windows st.clock)
+growth_by setup past p who (answers.Value n) call st right = subst (λ (t : ClassTable). FitsNaming t call) (sym st.classes) (fits_naming setup past who.0 n call (sym right))
+growth_by setup past p who (answers.Window w) call st right = fits_making setup past p.tree who w call st.lawful st.tree (sym right)
+growth_by setup past p who _ call st right = tt
+
+pub growth_fits : (setup : Setup) (past : Past) (p : Parts) (e : Entry) → Stands setup past p → e.answer ≡ reply setup past e.who.0 e.call → FitsGrowth p.classes p.tree p.threads p.time e.who.0 e.answer e.call
+growth_fits setup past p e st right = growth_by setup past p e.who e.answer e.call st right
+
+-- a thread that runs, after a change that keeps the count of threads
+one_of : (setup : Setup) (past : Past) (p : Parts) (threads : List ThreadView) (t : ℕ) → Stands setup past p → length threads ≡ length p.threads → is_running setup past t ≡ true → IsOne threads t
+one_of setup past p threads t st same running = running_is_one setup past threads t (same ∙ st.count) running
+
+carrying_by : (setup : Setup) (past : Past) (p : Parts) (classes : ClassTable) (tree : Windows) (threads : List ThreadView) (who : Thread) (call : Call) → Stands setup past p → answers.Okay ≡ reply setup past who.0 call → classes ≡ p.classes → tree ≡ p.tree → length threads ≡ length p.threads → FitsCarrying classes tree threads who.0 call
+carrying_by setup past p classes tree threads who (calls.PostQuit code) st right same_classes same_tree same = one_of setup past p threads who.0 st same (by_row setup past who.0 (calls.PostQuit code) answers.Okay (sym right) refl).running
+carrying_by setup past p classes tree threads who (calls.Unregister name) st right same_classes same_tree same =
+    ap (λ (t : ClassTable). unregister_refusal t name false) (same_classes ∙ st.classes) ∙ fits_unregister setup past who.0 name (sym right)
+carrying_by setup past p classes tree threads who (calls.Doom w) st right same_classes same_tree same = ap (λ (t : Windows). doom_refusal t.live w) same_tree ∙ doom_not_refused setup past p.tree who.0 w st.tree (sym right)
+carrying_by setup past p classes tree threads who (calls.Drop w) st right same_classes same_tree same =
+    (one_of setup past p threads who.0 st same (by_row setup past who.0 (calls.Drop w) answers.Okay (sym right) refl).running, ap (λ (t : Windows). drop_refusal t.live w) same_tree ∙ drop_not_refused setup past p.tree who.0 w st.tree (sym right))
+carrying_by setup past p classes tree threads who _ st right same_classes same_tree same = tt
+
+settling_by : (setup : Setup) (past : Past) (p : Parts) (classes : ClassTable) (tree : Windows) (threads : List ThreadView) (who : Thread) (a : Answer) (call : Call) → Stands setup past p → a ≡ reply setup past who.0 call → classes ≡ grown_classes a call p.classes → IsGrownBy who.0 a call p.tree tree → length threads ≡ length p.threads → FitsSettling classes tree threads who.0 a call
+settling_by setup past p classes tree threads who answers.Okay call st right grown made same = carrying_by setup past p classes tree threads who call st right grown made same
+settling_by setup past p classes tree threads who (answers.Tell v) call st right grown made same = subst (λ (t : Windows). FitsUnmaking t call) (sym made) (fits_unmaking setup past p.tree who (answers.Tell v) call st.tree (sym right) refl)
+settling_by setup past p classes tree threads who (answers.Last v) call st right grown made same = subst (λ (t : Windows). FitsUnmaking t call) (sym made) (fits_unmaking setup past p.tree who (answers.Last v) call st.tree (sym right) refl)
+settling_by setup past p classes tree threads who (answers.Got o n m) call st right grown made same = one_of setup past p threads who.0 st same (by_row setup past who.0 call (answers.Got o n m) (sym right) refl).running
+settling_by setup past p classes tree threads who answers.Ended call st right grown made same = one_of setup past p threads who.0 st same (by_row setup past who.0 call answers.Ended (sym right) refl).running
+settling_by setup past p classes tree threads who _ call st right grown made same = tt
+
+pub settling_fits : (setup : Setup) (past : Past) (p : Parts) (e : Entry) (classes : ClassTable) (tree : Windows) (threads : List ThreadView) → Stands setup past p → e.answer ≡ reply setup past e.who.0 e.call → classes ≡ grown_classes e.answer e.call p.classes → IsGrownBy e.who.0 e.answer e.call p.tree tree → length threads ≡ length p.threads → FitsSettling classes tree threads e.who.0 e.answer e.call
+settling_fits setup past p e classes tree threads st right grown made same = settling_by setup past p classes tree threads e.who e.answer e.call st right grown made same
+
+-- ---- the parts after an entry
+
+-- an answer that makes a window changes nothing else
+same_settling : (who : ℕ) (a : Answer) (call : Call) (old new : Windows) → IsGrownBy who a call old new → settling_in new.live who a call ≡ settling_in old.live who a call
+same_settling who (answers.Window w) call old new made = refl
+same_settling who a call old new made = ap (λ (t : Windows). settling_in t.live who a call) made
+
+-- what is kept of a thread follows the past
+thread_step : (setup : Setup) (past : Past) (p : Parts) (e : Entry) (tree : Windows) (t : ℕ) → Stands setup past p → e.answer ≡ reply setup past e.who.0 e.call → IsGrownBy e.who.0 e.answer e.call p.tree tree
+    → noted t e (changed t (settling_in tree.live e.who.0 e.answer e.call) (changed t (growth_in p.tree.live p.time e.who.0 e.answer e.call) (thread_at past t))) ≡ thread_at (e ∷ past) t
+thread_step setup past p e tree t st right made =
+    ap (λ (c : Change). noted t e (changed t c (changed t (growth_in p.tree.live p.time e.who.0 e.answer e.call) (thread_at past t)))) (same_settling e.who.0 e.answer e.call p.tree tree made)
+    ∙ ap (noted t e) (both_changes past p.tree.live p.time t e.who.0 e.answer e.call (thread_at past t) st.tree.windows st.clock)
+    ∙ thread-next setup past t e st.lawful right
+
+-- the parts that were brought up to date stand for the past with the entry
+pub stands_step : (setup : Setup) (past : Past) (p : Parts) (e : Entry) (classes1 classes2 : ClassTable) (tree1 tree2 : Windows) (threads1 threads2 threads3 : List ThreadView)
+    → is_full past ≡ false → e.answer ≡ reply setup past e.who.0 e.call → Stands setup past p
+    → classes1 ≡ grown_classes e.answer e.call p.classes → classes2 ≡ settled_classes e.answer e.call classes1
+    → IsGrownBy e.who.0 e.answer e.call p.tree tree1 → tree2 ≡ settled_tree e.who.0 e.answer e.call tree1
+    → EachBy (λ t. changed t (growth_in p.tree.live p.time e.who.0 e.answer e.call)) p.threads threads1
+    → EachBy (λ t. changed t (settling_in tree1.live e.who.0 e.answer e.call)) threads1 threads2
+    → EachBy (λ t. noted t e) threads2 threads3
+    → Stands setup (e ∷ past) (parts tree2 classes2 threads3 (count_kept e.answer p.post_count) (time_kept e p.time))
+stands_step setup past p e classes1 classes2 tree1 tree2 threads1 threads2 threads3 room right st grown settled made given first second note = record {
+  lawful = (st.lawful, right);
+  short = grind (arith, nat_tests, room);
+  tree = tree_after setup past e p.tree tree1 tree2 st.lawful st.tree right made given;
+  classes = settled ∙ ap (settled_classes e.answer e.call) (grown ∙ ap (grown_classes e.answer e.call) st.classes) ∙ sym (classes_after setup past e right);
+  count = note.same_length ∙ second.same_length ∙ first.same_length ∙ st.count;
+  each = record {
+    at = λ i d lt.
+        let lt2 : i < length threads2 = omega (arith, lt, note.same_length) in
+        let lt1 : i < length threads1 = omega (arith, lt2, second.same_length) in
+        let lt0 : i < length p.threads = omega (arith, lt1, first.same_length) in
+        note.at i d lt2
+        ∙ ap (noted (i + 1) e) (second.at i d lt1 ∙ ap (changed (i + 1) (settling_in tree1.live e.who.0 e.answer e.call)) (first.at i d lt0 ∙ ap (changed (i + 1) (growth_in p.tree.live p.time e.who.0 e.answer e.call)) (st.each.at i d lt0)))
+        ∙ thread_step setup past p e tree1 (i + 1) st right made;
+  };
+  posts = ap (count_kept e.answer) st.posts ∙ count_kept-next setup past e right;
+  clock = ap (time_kept e) st.clock ∙ time_kept-next e past;
+}

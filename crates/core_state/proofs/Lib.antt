@@ -1,0 +1,17 @@
+pub mod Appended
+pub mod Bridges
+pub mod ClassLaws
+pub mod ClassSteps
+pub mod Deliveries
+pub mod Destructions
+pub mod KinLists
+pub mod Lookups
+pub mod NewWindows
+pub mod Outcomes
+pub mod QueueLists
+pub mod ThreadChanges
+pub mod TreeAnswers
+pub mod TreeFacts
+pub mod TreeLaws
+pub mod TreeNeeds
+pub mod TreeSteps

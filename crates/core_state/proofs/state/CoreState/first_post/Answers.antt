@@ -1,0 +1,24 @@
+use Rattle.std.proofs.Common.{◌≡◌, ◌≤◌, ◌<◌, ◌+◌, length, arith, reverse, subst, ap, sym, ◌∙◌}
+use Rattle.std.specs.Prelude.{find, option_map}
+use Rattle.post_queue.specs.Queue.{pair_of}
+use Rattle.user_model.specs.Past.{Past}
+use Rattle.user_model.specs.Posts.{first_post}
+use Rattle.core_state.specs.Deliveries.{passes_in}
+use Rattle.core_state.specs.Queues.{ThreadView, thread_at}
+use Rattle.core_state.specs.States.{Seen}
+use Rattle.core_state.proofs.Deliveries.{first_kept}
+use Rattle.core_state.proofs.state.CoreState.first_post.Goals as goal
+
+pub returns : goal.returns
+returns c =
+    let s = c.self.inside in
+    let past : Past = reverse s.history.items in
+    let t = c.args.thread in
+    let known : t ≤ s.setup.threads = subst (λ (v : Seen). t ≤ v.setup.threads) (sym c.self.view_is) c.requires.known in
+    let within : c.from.result < length s.threads.items = omega (arith, known, c.requires.some, c.from.ensures, c.self.invariant.count) in
+    let place : c.from.result + 1 ≡ t = omega (arith, c.requires.some, c.from.ensures) in
+    let kept : c.index.result.now ≡ thread_at past t = c.index.ensures ∙ c.self.invariant.each.at c.from.result c.index.result.now within ∙ ap (thread_at past) place in
+    c.first.ensures
+    ∙ ap (λ (v : ThreadView). option_map pair_of (find (passes_in s.tree.live c.args.filter) v.queue.posted)) kept
+    ∙ first_kept past s.tree.live t c.args.filter c.self.invariant.tree.windows
+    ∙ ap (λ (v : Seen). first_post v.past t c.args.filter) c.self.view_is

@@ -1,0 +1,87 @@
+-- Which messages a filter lets pass, and what a call posts, among the windows of a table.
+use Rattle.std.specs.Prelude.{if◌then◌else◌, ℕ, ◌≤◌, ◌==◌, ◌&&◌, ◌||◌, Bool, true, List, map, filter, Option, Some, None, IsTrue, unwrap_or, option_map, pos}
+use Rattle.win_num.specs.declared.message.Msg.{Msg}
+use Rattle.win_num.specs.declared.message.Filter.{Filter}
+use Rattle.win_num.specs.declared.shapes.Point.{Point}
+use Rattle.win_num.specs.Numbers.{passes_range}
+use Rattle.win_num.specs.declared.names.TheConstants.{NO_WINDOW, WM_QUIT}
+use Rattle.post_queue.specs.Queue.{Posted}
+use Rattle.win_tree.specs.declared.window.Window.{Window}
+use Rattle.win_tree.specs.Windows.{is_live, window_of}
+use Rattle.win_tree.specs.Kin.{is_below, is_kin}
+use Rattle.user_model.specs.declared.call.Call.{Call}
+use Rattle.user_model.specs.declared.call.Call.TheVariants.{Post, PostThread, PostQuit, Drop}
+use Rattle.user_model.specs.declared.entry.Answer.{Answer}
+use Rattle.user_model.specs.declared.entry.Answer.TheVariants.{Okay, Ended, Posted as PostMade, Got}
+use Rattle.user_model.specs.declared.entry.Origin.{Origin}
+use Rattle.user_model.specs.declared.entry.Origin.TheVariants.{Posted as FromPosted, Quit as FromQuit}
+use Rattle.user_model.specs.Posts.{message}
+use Rattle.core_state.specs.Changes.{Change, posts, takes, quits, purges, ends, none, taken_if}
+
+-- the thread of a window of these, or 0
+abbrev pub thread_in : List Window → ℕ → ℕ
+thread_in ws w = unwrap_or (option_map (λ x. x.row.thread.0) (window_of ws w)) 0
+
+-- whether a filter's window lets a window pass, among these
+abbrev pub passes_window_in : List Window → ℕ → ℕ → Bool
+passes_window_in ws wanted w = (wanted == 0) || (wanted == NO_WINDOW) && (w == 0) || is_live ws wanted && ((w == wanted) || is_below ws wanted w)
+
+-- whether a filter lets a message pass
+abbrev pub passes_here : List Window → Filter → Msg → Bool
+passes_here ws f msg = (passes_range f.min f.max msg.number || (msg.number == WM_QUIT)) && passes_window_in ws f.hwnd msg.hwnd.0
+
+-- the same of a queued message
+abbrev pub passes_in : List Window → Filter → Posted → Bool
+passes_in ws f p = passes_here ws f p.msg
+
+-- the left top corner of the screen
+abbrev pub origin : Point
+origin = record { x = pos 0; y = pos 0 }
+
+-- the thread that a call posts to, and the message
+abbrev pub posting : List Window → ℕ → ℕ → Call → Option (ℕ × Msg)
+posting ws time who (Post w number wparam lparam) = Some ((if w == 0 then who else thread_in ws w), message w number wparam lparam time origin)
+posting ws time who (PostThread to number wparam lparam) = Some (to, message 0 number wparam lparam time origin)
+posting ws time who _ = None
+
+-- a posted number is a message's, and a window that is posted to is live
+abbrev pub FitsPost : List Window → Call → Type 0
+FitsPost ws (Post w number wparam lparam) = IsTrue ((w == 0) || is_live ws w) × (number ≤ 65535)
+FitsPost ws (PostThread to number wparam lparam) = number ≤ 65535
+FitsPost ws _ = Unit {0}
+
+-- the numbers of the windows that go with v
+abbrev pub kin_in : List Window → ℕ → List ℕ
+kin_in ws v = map (λ x. x.number.0) (filter (λ x. is_kin ws v x.number.0) ws)
+
+-- whether w is live, and goes with v
+abbrev pub goes_with : List Window → ℕ → ℕ → Bool
+goes_with ws v w = is_live ws w && is_kin ws v w
+
+-- the change of a post
+abbrev pub change_of_post : ℕ → Option (ℕ × Msg) → Change
+change_of_post k None = none
+change_of_post k (Some p) = posts p.0 k p.1
+
+-- the change of an answer that takes memory
+abbrev pub growth_in : List Window → ℕ → ℕ → Answer → Call → Change
+growth_in ws time who (PostMade k) call = change_of_post k (posting ws time who call)
+growth_in ws time who _ call = none
+
+-- the change of a call that was answered by ok
+abbrev pub carried_in : List Window → ℕ → Call → Change
+carried_in ws who (PostQuit code) = quits who (Some code)
+carried_in ws who (Drop v) = purges who (kin_in ws v)
+carried_in ws who _ = none
+
+-- the change of a retrieval that removes
+abbrev pub removal : ℕ → Origin → ℕ → Change
+removal who FromPosted n = takes who n
+removal who FromQuit n = quits who None
+
+-- the change of an answer that takes no memory
+abbrev pub settling_in : List Window → ℕ → Answer → Call → Change
+settling_in ws who Okay call = carried_in ws who call
+settling_in ws who (Got o n m) call = taken_if call (removal who o n)
+settling_in ws who Ended call = ends who
+settling_in ws who _ call = none

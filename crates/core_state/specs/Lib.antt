@@ -1,0 +1,9 @@
+pub mod Changes
+pub mod ClassTables
+pub mod Deliveries
+pub mod Effects
+pub mod Needs
+pub mod Queues
+pub mod States
+pub mod Steps
+pub mod Trees

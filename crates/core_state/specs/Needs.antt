@@ -1,0 +1,80 @@
+-- What the change of an entry needs of the parts.
+use Rattle.std.specs.Prelude.{◌≡◌, ℕ, ◌+◌, ◌-◌, ◌<◌, ◌≤◌, ◌==◌, ◌||◌, true, false, List, length, All, slice_index_or, Option, Some, None, Result, Ok, Err, IsTrue}
+use Rattle.win_num.specs.PixelSets.{is_bad_rect}
+use Rattle.win_num.specs.declared.message.Msg.{Msg}
+use Rattle.win_num.specs.declared.code.Fault.{Fault}
+use Rattle.win_num.specs.declared.code.Fault.TheVariants.{Refused, Memory}
+use Rattle.win_class.specs.ClassTable.{ClassTable, register_refusal, message_refusal, unregister_refusal}
+use Rattle.win_tree.specs.declared.row.WindowRow.{WindowRow}
+use Rattle.win_tree.specs.Windows.{Windows, is_live}
+use Rattle.win_tree.specs.Kin.{doom_refusal, drop_refusal, refusal}
+use Rattle.user_model.specs.declared.call.Call.{Call}
+use Rattle.user_model.specs.declared.call.Call.TheVariants.{Register, Message, Unregister, NewWindow, Doom, Unmake, Drop, PostQuit}
+use Rattle.user_model.specs.declared.entry.Answer.{Answer}
+use Rattle.user_model.specs.declared.entry.Answer.TheVariants.{Okay, Ended, Value, Window, Posted as PostMade, Tell, Last, Got}
+use Rattle.core_state.specs.Deliveries.{posting, FitsPost}
+use Rattle.core_state.specs.Effects.{IsRowOf}
+use Rattle.core_state.specs.Queues.{ThreadView}
+
+-- it is the number of a thread
+pub record IsOne (threads : List ThreadView) (t : ℕ) : Type 0 where
+  pub some : 0 < t
+  pub known : t ≤ length threads
+
+-- no refusal
+abbrev pub IsAnswered : {A : Type 0} → Result A Fault → Type 0
+IsAnswered (Ok a) = Unit {0}
+IsAnswered (Err Memory) = Unit {0}
+IsAnswered (Err (Refused code)) = ⊥
+
+-- what a call registers can be registered
+abbrev pub FitsNaming : ClassTable → Call → Type 0
+FitsNaming t (Register name proc_no colour) = (register_refusal t name ≡ None) × (colour ≤ 15)
+FitsNaming t (Message name) = message_refusal t name ≡ None
+FitsNaming t _ = Unit {0}
+
+-- the window that a call makes can be made
+abbrev pub FitsMaking : ℕ → Call → Windows → Type 0
+FitsMaking who (NewWindow class title parent style ex l t r b) tree =
+    (is_bad_rect l t r b ≡ false) × IsTrue ((parent == 0) || is_live tree.live parent) × (style < 4294967296) × (ex < 4294967296)
+    × ((row : WindowRow) → IsRowOf who class title parent style ex row → refusal tree row ≡ None)
+FitsMaking who _ tree = Unit {0}
+
+-- a post goes to a thread that has room for it, under a number above all that it has
+pub record HasRoom (threads : List ThreadView) (t k : ℕ) : Type 0 where
+  pub is_one : IsOne threads t
+  pub rises : (d : ThreadView) → All (λ p. p.number < k) (slice_index_or threads (t - 1) d).queue.posted
+  pub short : (d : ThreadView) → length (slice_index_or threads (t - 1) d).queue.posted < (slice_index_or threads (t - 1) d).queue.limit
+
+abbrev pub FitsPosting : List ThreadView → ℕ → Option (ℕ × Msg) → Type 0
+FitsPosting threads k None = Unit {0}
+FitsPosting threads k (Some p) = HasRoom threads p.0 k
+
+-- what an answer that takes memory needs
+abbrev pub FitsGrowth : ClassTable → Windows → List ThreadView → ℕ → ℕ → Answer → Call → Type 0
+FitsGrowth classes tree threads time who (PostMade k) call = FitsPost tree.live call × FitsPosting threads k (posting tree.live time who call)
+FitsGrowth classes tree threads time who (Value v) call = FitsNaming classes call
+FitsGrowth classes tree threads time who (Window w) call = FitsMaking who call tree
+FitsGrowth classes tree threads time who _ call = Unit {0}
+
+-- what a call needs that is answered by ok
+abbrev pub FitsCarrying : ClassTable → Windows → List ThreadView → ℕ → Call → Type 0
+FitsCarrying classes tree threads who (PostQuit code) = IsOne threads who
+FitsCarrying classes tree threads who (Unregister name) = unregister_refusal classes name false ≡ None
+FitsCarrying classes tree threads who (Doom w) = doom_refusal tree.live w ≡ None
+FitsCarrying classes tree threads who (Drop w) = IsOne threads who × (drop_refusal tree.live w ≡ None)
+FitsCarrying classes tree threads who _ = Unit {0}
+
+-- the window of a destruction is live
+abbrev pub FitsUnmaking : Windows → Call → Type 0
+FitsUnmaking tree (Unmake w) = is_live tree.live w ≡ true
+FitsUnmaking tree _ = Unit {0}
+
+-- what an answer that takes no memory needs
+abbrev pub FitsSettling : ClassTable → Windows → List ThreadView → ℕ → Answer → Call → Type 0
+FitsSettling classes tree threads who Okay call = FitsCarrying classes tree threads who call
+FitsSettling classes tree threads who (Tell v) call = FitsUnmaking tree call
+FitsSettling classes tree threads who (Last v) call = FitsUnmaking tree call
+FitsSettling classes tree threads who (Got o n m) call = IsOne threads who
+FitsSettling classes tree threads who Ended call = IsOne threads who
+FitsSettling classes tree threads who _ call = Unit {0}

@@ -1,0 +1,49 @@
+-- What a machine's state is seen as, and what its parts stand for.
+use Rattle.std.specs.Prelude.{◌≡◌, ℕ, ◌+◌, ◌<◌, ◌≤◌, List, length, slice_index_or}
+use Rattle.user_model.specs.declared.entry.Setup.{Setup}
+use Rattle.user_model.specs.Past.{Past}
+use Rattle.user_model.specs.Places.{clock}
+use Rattle.user_model.specs.Posts.{posts}
+use Rattle.user_model.specs.Legal.{IsLawful}
+use Rattle.win_tree.specs.Windows.{Windows}
+use Rattle.win_class.specs.ClassTable.{ClassTable}
+use Rattle.core_state.specs.ClassTables.{classes_at}
+use Rattle.core_state.specs.Queues.{ThreadView, thread_at}
+use Rattle.core_state.specs.Trees.{IsTreeAt}
+
+-- its setup and its past
+pub record Seen : Type 0 where
+  pub setup : Setup
+  pub past : Past
+
+-- the parts beside the history
+pub record Parts : Type 0 where
+  pub tree : Windows
+  pub classes : ClassTable
+  pub threads : List ThreadView
+  pub post_count : ℕ
+  pub time : ℕ
+
+-- the parts from their values
+abbrev pub parts : Windows → ClassTable → List ThreadView → ℕ → ℕ → Parts
+parts tree classes threads post_count time = record { tree = tree; classes = classes; threads = threads; post_count = post_count; time = time }
+
+-- each thread's part is what the past says of the thread
+pub record EachThread (past : Past) (threads : List ThreadView) : Type 0 where
+  pub at : (i : ℕ) (d : ThreadView) → i < length threads → slice_index_or threads i d ≡ thread_at past (i + 1)
+
+-- each thread's part is changed so; threads are numbered from 1
+pub record EachBy (change : ℕ → ThreadView → ThreadView) (old new : List ThreadView) : Type 0 where
+  pub same_length : length new ≡ length old
+  pub at : (i : ℕ) (d : ThreadView) → i < length old → slice_index_or new i d ≡ change (i + 1) (slice_index_or old i d)
+
+-- the past is lawful and no longer than allowed, and each part is what the past says
+pub record Stands (setup : Setup) (past : Past) (p : Parts) : Type 0 where
+  pub lawful : IsLawful setup past
+  pub short : length past ≤ 2097152
+  pub tree : IsTreeAt past p.tree
+  pub classes : p.classes ≡ classes_at past
+  pub count : length p.threads ≡ setup.threads
+  pub each : EachThread past p.threads
+  pub posts : p.post_count ≡ length (posts past)
+  pub clock : p.time ≡ clock past

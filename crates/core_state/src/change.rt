@@ -1,0 +1,87 @@
+//! What one more entry does to the parts. First comes the one change that may want memory, then what
+//! can't fail.
+
+ghost use Rattle.std.specs.Prelude.{◌≡◌, OnOk, OnErr};
+ghost use Rattle.core_state.specs.Changes.{changed};
+ghost use Rattle.core_state.specs.Deliveries.{carried_in, growth_in, settling_in};
+ghost use Rattle.core_state.specs.Effects.{IsGrownBy, carried_classes, carried_tree, grown_classes, settled_classes, settled_tree};
+ghost use Rattle.core_state.specs.Needs.{FitsCarrying, FitsGrowth, FitsSettling};
+ghost use Rattle.core_state.specs.States.{EachBy};
+
+use crate::delivery::{posting, window_or_none};
+use crate::queues::{end, post, purge_kin, set_quit, take};
+use crate::tables::{doom, drop_window, make, name, unmake, unregister};
+use crate::thread_state::ThreadState;
+use std::alloc::AllocError;
+use user_model::{Answer, Call, Entry};
+use win_class::Classes;
+use win_num::Thread;
+use win_tree::Tree;
+
+/// Adds a post, a class, a message's name or a window, as the answer says. After want of memory nothing
+/// has changed.
+pub fn grow(
+    classes: &mut Classes,
+    tree: &mut Tree,
+    threads: &mut Vec<ThreadState>,
+    time: u64,
+    entry: Entry,
+) -> Result<(), AllocError>
+    requires { FitsGrowth classes.old tree.old threads.old.items time entry.who.0 entry.answer entry.call }
+    ensures classes { OnOk result (classes.new ≡ grown_classes entry.answer entry.call classes.old) }
+    ensures tree { OnOk result (IsGrownBy entry.who.0 entry.answer entry.call tree.old tree.new) }
+    ensures threads { OnOk result (EachBy (λ t. changed t (growth_in tree.old.live time entry.who.0 entry.answer entry.call)) threads.old.items threads.new.items) }
+    ensures classes_stay { OnErr result (classes.new ≡ classes.old) }
+    ensures tree_stays { OnErr result (tree.new ≡ tree.old) }
+    ensures threads_stay { OnErr result (threads.new.items ≡ threads.old.items) }
+{
+    match entry.answer {
+        Answer::Posted(number) => match posting(tree, time, entry) {
+            Some((to, msg)) => post(threads, to, number, msg),
+            None => Ok(()),
+        },
+        Answer::Value(_) => name(classes, entry.call),
+        Answer::Window(_) => make(tree, entry.who, entry.call),
+        _ => Ok(()),
+    }
+}
+
+/// Does what takes no memory: takes out a message or quit, posts quit, takes a class back, marks windows,
+/// gives a step of a destruction, drops windows with their messages, or ends a thread.
+pub fn settle(classes: &mut Classes, tree: &mut Tree, threads: &mut Vec<ThreadState>, entry: Entry)
+    requires { FitsSettling classes.old tree.old threads.old.items entry.who.0 entry.answer entry.call }
+    ensures classes { classes.new ≡ settled_classes entry.answer entry.call classes.old }
+    ensures tree { tree.new ≡ settled_tree entry.who.0 entry.answer entry.call tree.old }
+    ensures threads { EachBy (λ t. changed t (settling_in tree.old.live entry.who.0 entry.answer entry.call)) threads.old.items threads.new.items }
+{
+    match entry.answer {
+        Answer::Okay => carry_out(classes, tree, threads, entry),
+        Answer::Tell(_) | Answer::Last(_) => unmake(tree, entry.call),
+        Answer::Got { origin, number, .. } => take(threads, entry, origin, number),
+        Answer::Ended => {
+            end(threads, entry.who);
+            tree.drop_thread(entry.who);
+        }
+        _ => {}
+    }
+}
+
+/// Does what a call says that was answered by ok.
+fn carry_out(classes: &mut Classes, tree: &mut Tree, threads: &mut Vec<ThreadState>, entry: Entry)
+    requires { FitsCarrying classes.old tree.old threads.old.items entry.who.0 entry.call }
+    ensures classes { classes.new ≡ carried_classes entry.call classes.old }
+    ensures tree { tree.new ≡ carried_tree entry.call tree.old }
+    ensures threads { EachBy (λ t. changed t (carried_in tree.old.live entry.who.0 entry.call)) threads.old.items threads.new.items }
+{
+    match entry.call {
+        Call::PostQuit(code) => set_quit(threads, entry.who, Some(code)),
+        Call::Unregister(name) => unregister(classes, name),
+        Call::Doom(w) => doom(tree, w),
+        Call::Drop(w) => {
+            let window = window_or_none(tree, w);
+            purge_kin(threads, tree, entry.who, window);
+            drop_window(tree, window);
+        }
+        _ => {}
+    }
+}

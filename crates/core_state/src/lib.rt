@@ -1,0 +1,18 @@
+//! The history of the machine, and the parts that stand for it: the windows, the classes, what is
+//! kept of each thread, the count of posts and the clock.
+//!
+//! `CoreState` tells by its accessors what the definitions say of the past, without a walk through the
+//! history, and adds entries. No crate above names a part.
+#![tactic(auto)]
+
+mod change;
+mod delivery;
+mod queues;
+mod state;
+mod tables;
+mod thread_state;
+
+pub use state::CoreState;
+
+#[cfg(test)]
+mod tests;

@@ -1,0 +1,155 @@
+//! What is kept of one thread.
+
+ghost use Rattle.std.specs.Prelude.{◌≡◌, ◌<◌, ◌==◌, ℕ, [], ◌∷◌, ◌++◌, All, Bool, true, filter, find, length, not, option_map, OnOk, OnErr};
+ghost use Rattle.post_queue.specs.Queue.{pair_of, post_of, queue, without_number};
+ghost use Rattle.win_num.specs.declared.message.Hwnd.{Hwnd};
+ghost use Rattle.core_state.specs.Deliveries.{passes_here, passes_in};
+ghost use Rattle.core_state.specs.Queues.{fresh_thread};
+
+use crate::delivery::passes;
+use post_queue::{Posts, Steps};
+use std::alloc::{AllocError, Global};
+use std::marker::{Brand, Model};
+use std::sync::ledger::{Blank, Ledger};
+use user_model::{Call, QUEUE_LIMIT};
+use win_num::{Fault, Filter, Hwnd, Msg};
+use win_tree::Tree;
+
+/// A thread's posted messages and quit, and what its last entry said.
+#[derive(Drop)]
+pub struct ThreadState {
+    /// The posted messages that stand.
+    posts: Posts,
+    /// The code of quit, where it was posted and not taken since.
+    quit: Option<u64>,
+    ended: bool,
+    /// The call of the last entry, where that waited.
+    waiting: Option<Call>,
+}
+
+impl Model for ThreadState {
+    ghost use Rattle.core_state.specs.Queues.{ThreadView};
+
+    ghost Value = { ThreadView };
+
+    ghost view = { λ s. record { queue = s.posts; quit = s.quit; ended = s.ended; waiting = s.waiting } };
+}
+
+impl ThreadState {
+    /// A thread without messages and entries.
+    pub fn new(alloc: Global) -> ThreadState
+        ensures { result ≡ fresh_thread }
+    {
+        ThreadState {
+            posts: Posts::new(alloc, QUEUE_LIMIT as u32),
+            quit: None,
+            ended: false,
+            waiting: None,
+        }
+    }
+
+    /// How many posted messages stand.
+    pub fn len(&self) -> u32
+        ensures { result ≡ length self.now.queue.posted }
+    {
+        self.posts.len()
+    }
+
+    /// Whether the thread has ended.
+    pub fn has_ended(&self) -> bool
+        ensures { result ≡ self.now.ended }
+    {
+        self.ended
+    }
+
+    /// The code of quit, where it stands.
+    pub fn quit(&self) -> Option<u64>
+        ensures { result ≡ self.now.quit }
+    {
+        self.quit
+    }
+
+    /// The call that the thread waits with.
+    pub fn waiting(&self) -> Option<Call>
+        ensures { result ≡ self.now.waiting }
+    {
+        self.waiting
+    }
+
+    /// The first posted message that a filter lets pass, with its number.
+    pub fn first(&self, tree: &Tree, filter: Filter) -> Option<(u32, Msg)>
+        ensures { result ≡ option_map pair_of (find (passes_in tree.now.live filter) self.now.queue.posted) }
+    {
+        first_in::<Brand>(Blank::new(1), &self.posts, tree, filter)
+    }
+
+    /// Puts a message at the end.
+    pub fn post(&mut self, number: u32, msg: Msg) -> Result<(), AllocError>
+        requires rises { All (λ p. p.number < number) self.old.queue.posted }
+        requires room { length self.old.queue.posted < self.old.queue.limit }
+        ensures ok { OnOk result (self.new ≡ record self.old { queue = queue self.old.queue.limit (self.old.queue.posted ++ post_of number msg ∷ []) }) }
+        ensures err { OnErr result (self.new ≡ self.old) }
+    {
+        match self.posts.post(number, msg) {
+            Ok(()) => Ok(()),
+            Err(Fault::Memory) => Err(AllocError),
+            Err(Fault::Refused(_)) => unreachable!(),
+        }
+    }
+
+    /// Takes out the message with a number, where it stands.
+    pub fn take(&mut self, number: u32)
+        ensures { self.new ≡ record self.old { queue = queue self.old.queue.limit (without_number self.old.queue.posted number) } }
+    {
+        let _taken = self.posts.remove(number);
+    }
+
+    /// Takes out the messages for windows that go.
+    pub fn purge<F: Fn(Hwnd) -> bool>(&mut self, goes: F)
+        requires { F.IsAlwaysCallable goes }
+        ensures { (test : ℕ → Bool) → ((w : Hwnd) (b : Bool) → F.post goes w b → b ≡ test w.0) → self.new ≡ record self.old { queue = queue self.old.queue.limit (filter (λ p. not (test p.msg.hwnd.0)) self.old.queue.posted) } }
+    {
+        self.posts.purge_each(goes);
+    }
+
+    /// Keeps the code of quit, or that there is none.
+    pub fn set_quit(&mut self, quit: Option<u64>)
+        ensures { self.new ≡ record self.old { quit = quit } }
+    {
+        self.quit = quit;
+    }
+
+    /// Ends the thread, and with it its messages.
+    pub fn end(&mut self)
+        ensures { self.new ≡ record self.old { queue = queue self.old.queue.limit []; ended = true } }
+    {
+        self.posts.clear();
+        self.ended = true;
+    }
+
+    /// Keeps whether the thread waits, and with which call.
+    pub fn note(&mut self, waiting: Option<Call>)
+        ensures { self.new ≡ record self.old { waiting = waiting } }
+    {
+        self.waiting = waiting;
+    }
+}
+
+/// The first message that a filter lets pass, with its number.
+fn first_in<L: Ledger>(
+    blank: Blank,
+    posts: &Posts,
+    tree: &Tree,
+    filter: Filter,
+) -> Option<(u32, Msg)>
+    requires name { blank.name ≡ L.name }
+    requires parts { blank.parts ≡ L.parts }
+    requires one { blank.parts ≡ 1 }
+    ensures { result ≡ option_map pair_of (find (passes_in tree.now.live filter) posts.now.posted) }
+{
+    let mut steps = Steps::<L>::new(blank);
+    let pass = |msg: &Msg| -> bool
+        ensures { result ≡ passes_here tree.entry.now.live filter msg.now }
+    { passes(tree, filter, msg) };
+    posts.first(pass, &mut steps)
+}

@@ -1,0 +1,27 @@
+-- Numbers that are beyond all rows of a table.
+use Rattle.std.proofs.Common.{◌≡◌, ℕ, ◌≤◌, Bool, true, false, eqb, ltb, List, [], ◌∷◌, Some, None, refl, ap, ◌∙◌, arith, cond}
+use Rattle.std.specs.Prelude.{find, ◌==◌, option_map}
+use Rattle.std.proofs.lemmas.Bool.{false≢true}
+use Rattle.std.proofs.lemmas.Bool.Decides.{nat_tests}
+use Rattle.name_table.specs.Rows.{Named, name_in}
+use Rattle.name_table.specs.Messages.{message_rows}
+
+-- whether all rows have numbers of 16 bits
+abbrev are_small : List Named → Bool
+are_small [] = true
+are_small (r ∷ rows) = cond (ltb r.number 65536) (are_small rows) false
+
+below : (small rest : Bool) → cond small rest false ≡ true → (small ≡ true) × (rest ≡ true)
+below true rest h = (refl, h)
+below false rest h = absurd (false≢true h)
+
+all_below : (rows : List Named) (n : ℕ) → are_small rows ≡ true → 65536 ≤ n → find (λ r. r.number == n) rows ≡ None
+all_below [] n h above = refl
+all_below (r ∷ rows) n h above =
+    let parts = below (ltb r.number 65536) (are_small rows) h in
+    let miss : eqb r.number n ≡ false = grind (arith, nat_tests, parts.0) in
+    ap (λ b. cond b (Some r) (find (λ x. x.number == n) rows)) miss ∙ all_below rows n parts.1 above
+
+-- no message has so large a number
+pub no_message : (n : ℕ) → 65536 ≤ n → name_in message_rows n ≡ None
+no_message n above = ap (option_map (λ (r : Named). r.name)) (all_below message_rows n refl above)

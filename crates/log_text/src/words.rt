@@ -1,0 +1,67 @@
+//! What is printed by a name.
+
+ghost use Rattle.std.specs.Prelude.{◌≡◌, ◌≤◌, ◌^◌, option_map, slice_get, OnOk};
+ghost use Rattle.name_table.specs.Rows.{name_in};
+ghost use Rattle.name_table.specs.Messages.{message_rows};
+ghost use Rattle.user_io.specs.Text.{Adds};
+ghost use Rattle.log_text.specs.Entries.{message_text, name_text};
+
+use name_table::{NameTable, messages};
+use script_tree::{Name, Script};
+use std::alloc::AllocError;
+use user_io::text::{put_number, put_text};
+
+/// The names of messages, which are those of Windows (Microsoft, About Messages and Message Queues),
+/// and the names of a script.
+#[derive(Drop)]
+pub struct Words<'s> {
+    messages: NameTable,
+    pub script: &'s Script,
+    ghost known: { messages ≡ message_rows },
+}
+
+impl<'s> Words<'s> {
+    /// The names of messages and of this script.
+    pub fn new(script: &'s Script) -> Words<'s>
+        ensures { result.script.now ≡ script.now }
+    {
+        Words {
+            messages: messages(),
+            script,
+        }
+    }
+
+    /// The name of a message, where it has one.
+    fn message(&self, number: u64) -> Option<&'static [u8]>
+        ensures { option_map (λ s. s.now) result ≡ name_in message_rows number }
+    {
+        match u32::try_from(number) {
+            Ok(number) => self.messages.name_of(number),
+            Err(_) => None,
+        }
+    }
+
+    /// Adds a blank and a message, by its name where it has one.
+    pub fn put_message(&self, out: &mut Vec<u8>, number: u64) -> Result<(), AllocError>
+        ensures { OnOk result (Adds out.old.items out.new.items (message_text number)) }
+    {
+        put_text(out, b" ")?;
+        match self.message(number) {
+            Some(name) => put_text(out, name)?,
+            None => put_number(out, number)?,
+        }
+        Ok(())
+    }
+
+    /// Adds a blank and a name of the script, by its text where the list of names has it.
+    pub fn put_name(&self, out: &mut Vec<u8>, name: u32) -> Result<(), AllocError>
+        ensures { OnOk result (Adds out.old.items out.new.items (name_text self.now.script.now name)) }
+    {
+        put_text(out, b" ")?;
+        match self.script.names().get(name as usize) {
+            Some(name) => put_text(out, name.text())?,
+            None => put_number(out, u64::from(name))?,
+        }
+        Ok(())
+    }
+}

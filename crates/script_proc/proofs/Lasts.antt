@@ -1,0 +1,37 @@
+-- The last of a list of items.
+use Rattle.std.proofs.Common.{◌≡◌, ℕ, ◌-◌, List, [], ◌∷◌, ◌++◌, length, take, refl, ap, ◌∙◌, arith, append_assoc, length-append}
+use Rattle.std.specs.Prelude.{slice_set}
+
+set_seam : {A : Type 0} (below : List A) (item : A) (rest : List A) (a : A) → slice_set (below ++ item ∷ rest) (length below) a ≡ below ++ a ∷ rest
+set_seam [] item rest a = refl
+set_seam (x ∷ below) item rest a = ap (λ xs. x ∷ xs) (set_seam below item rest a)
+
+-- the last replaced, with more on top of it
+pub set_last : {A : Type 0} (xs below : List A) (item : A) (rest : List A) (a : A) (n : ℕ) → xs ≡ below ++ item ∷ [] → n ≡ length xs → slice_set (xs ++ rest) (n - 1) a ≡ below ++ a ∷ rest
+set_last xs below item rest a n e h =
+    let place : n - 1 ≡ length below = omega (arith, ap length e, length-append below (item ∷ [])) in
+    ap (λ ys. slice_set (ys ++ rest) (n - 1) a) e ∙ ap (λ ys. slice_set ys (n - 1) a) (append_assoc below (item ∷ []) rest) ∙ ap (λ k. slice_set (below ++ item ∷ rest) k a) place ∙ set_seam below item rest a
+
+pub set_only : {A : Type 0} (xs below : List A) (item a : A) (n : ℕ) → xs ≡ below ++ item ∷ [] → n ≡ length xs → slice_set xs (n - 1) a ≡ below ++ a ∷ []
+set_only xs below item a n e h =
+    let place : n - 1 ≡ length below = omega (arith, ap length e, length-append below (item ∷ [])) in
+    ap (λ ys. slice_set ys (n - 1) a) e ∙ ap (λ k. slice_set (below ++ item ∷ []) k a) place ∙ set_seam below item [] a
+
+-- a list that isn't empty has a last element
+pub last_of : {A : Type 0} (xs : List A) → (xs ≡ [] → ⊥) → (below : List A) × (item : A) × (xs ≡ below ++ item ∷ [])
+last_of [] h = absurd (h refl)
+last_of (x ∷ []) h = ([], x, refl)
+last_of (x ∷ y ∷ xs) h = let r = last_of (y ∷ xs) (λ e. absurd cc) in (x ∷ r.0, r.1, ap (λ ys. x ∷ ys) r.2)
+
+take_all : {A : Type 0} (xs ys : List A) → take (length xs) (xs ++ ys) ≡ xs
+take_all [] ys = refl
+take_all (x ∷ xs) ys = ap (λ zs. x ∷ zs) (take_all xs ys)
+
+-- all but the last
+pub before_last : {A : Type 0} (xs below : List A) (item : A) (n : ℕ) → xs ≡ below ++ item ∷ [] → n ≡ length xs → take (n - 1) xs ≡ below
+before_last xs below item n e h =
+    let place : n - 1 ≡ length below = omega (arith, ap length e, length-append below (item ∷ [])) in
+    ap (λ ys. take (n - 1) ys) e ∙ ap (λ k. take k (below ++ item ∷ [])) place ∙ take_all below (item ∷ [])
+
+pub before_last_of : {A : Type 0} (xs ys below : List A) (item : A) (n : ℕ) → xs ≡ below ++ item ∷ [] → ys ≡ xs → n ≡ length xs → take (n - 1) ys ≡ below
+before_last_of xs ys below item n e f h = ap (λ zs. take (n - 1) zs) f ∙ before_last xs below item n e h

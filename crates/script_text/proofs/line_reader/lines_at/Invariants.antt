@@ -1,0 +1,14 @@
+use Rattle.std.proofs.Common.{◌≡◌, drop}
+use Rattle.std.specs.Prelude.{map}
+use Rattle.std.specs.List.{AllByRecursion}
+use Rattle.script_text.specs.Limits.{AreNames, IsLine}
+use Rattle.script_text.specs.Reading.{lines_at}
+use Rattle.script_text.proofs.LineLoops.{with_front}
+use Rattle.script_text.proofs.line_reader.lines_at.Given as goal
+
+abbrev pub invariant-loop-text : goal.invariant-loop-text
+invariant-loop-text l = record {
+  so_far : with_front l.lines.items (lines_at l.names.items (map (λ w. w.now) (drop l.text-index l.texts))) ≡ lines_at l.initial.names.items (map (λ w. w.now) l.texts);
+  kept : AreNames l.names.items;
+  fits : AllByRecursion IsLine l.lines.items;
+}

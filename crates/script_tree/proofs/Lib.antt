@@ -1,0 +1,4 @@
+pub mod EndLaws
+pub mod Falls
+pub mod PastLaws
+pub mod TraceLaws

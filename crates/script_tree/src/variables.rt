@@ -1,0 +1,149 @@
+//! The variables of a thread.
+
+ghost use Rattle.std.specs.Prelude.{◌≡◌};
+ghost use Rattle.script_tree.specs.Values.{start as start_of, variable_value, assigned, received, settled, refused_result};
+
+use crate::operand::{Letter, Variable};
+use user_model::{Answer, Call};
+use win_num::{Hwnd, Msg, Point, names};
+
+/// The variables that a script sets.
+#[derive(Clone, Copy, Debug, PartialEq, Eq)]
+pub struct Letters {
+    pub a: u64,
+    pub b: u64,
+    pub c: u64,
+    pub d: u64,
+    pub e: u64,
+    pub f: u64,
+    pub g: u64,
+    pub h: u64,
+}
+
+/// The variables of a thread outside of procedures, where `hwnd`, `msg`, `wp` and `lp` are 0.
+#[derive(Clone, Copy, Debug, PartialEq, Eq)]
+pub struct Variables {
+    /// `a` to `h`.
+    pub letters: Letters,
+    /// `r`.
+    pub last_result: u64,
+    /// `err`.
+    pub last_error: u16,
+    /// The last message got, for `ghwnd`, `gmsg`, `gwp`, `glp` and `gtime`; zeros before the first.
+    pub got: Msg,
+}
+
+impl Variables {
+    /// The variables at a thread's start: all are 0.
+    pub fn start() -> Variables
+        ensures { result ≡ start_of }
+    {
+        let letters = Letters {
+            a: 0,
+            b: 0,
+            c: 0,
+            d: 0,
+            e: 0,
+            f: 0,
+            g: 0,
+            h: 0,
+        };
+        let got = Msg {
+            hwnd: Hwnd(0),
+            number: 0,
+            wparam: 0,
+            lparam: 0,
+            time: 0,
+            point: Point { x: 0, y: 0 },
+        };
+        Variables {
+            letters,
+            last_result: 0,
+            last_error: 0,
+            got,
+        }
+    }
+
+    /// The value of a variable.
+    pub fn get(&self, variable: Variable) -> u64
+        ensures { result ≡ variable_value variable self.now }
+    {
+        match variable {
+            Variable::Letter(letter) => self.letter(letter),
+            Variable::Result => self.last_result,
+            Variable::Error => u64::from(self.last_error),
+            Variable::GotWindow => u64::from(self.got.hwnd.0),
+            Variable::GotMessage => u64::from(self.got.number),
+            Variable::GotWparam => self.got.wparam,
+            Variable::GotLparam => self.got.lparam,
+            Variable::GotTime => self.got.time,
+            Variable::Window | Variable::Message | Variable::Wparam | Variable::Lparam => 0,
+        }
+    }
+
+    fn letter(&self, letter: Letter) -> u64
+        ensures { result ≡ variable_value (Variable.Letter letter) self.now }
+    {
+        match letter {
+            Letter::A => self.letters.a,
+            Letter::B => self.letters.b,
+            Letter::C => self.letters.c,
+            Letter::D => self.letters.d,
+            Letter::E => self.letters.e,
+            Letter::F => self.letters.f,
+            Letter::G => self.letters.g,
+            Letter::H => self.letters.h,
+        }
+    }
+
+    /// Sets one letter and nothing else, as `let` does.
+    pub fn assign(&mut self, letter: Letter, value: u64)
+        ensures { self.new ≡ assigned self.old letter value }
+    {
+        match letter {
+            Letter::A => self.letters.a = value,
+            Letter::B => self.letters.b = value,
+            Letter::C => self.letters.c = value,
+            Letter::D => self.letters.d = value,
+            Letter::E => self.letters.e = value,
+            Letter::F => self.letters.f = value,
+            Letter::G => self.letters.g = value,
+            Letter::H => self.letters.h = value,
+        }
+    }
+
+    /// A call is answered: a message that was got is the last message got at once.
+    pub fn receive(&mut self, answer: &Answer)
+        ensures { self.new ≡ received self.old answer.now }
+    {
+        if let Answer::Got { msg, .. } = answer {
+            self.got = *msg;
+        }
+    }
+
+    /// A statement that made this call is over: its answer sets `r` and `err`.
+    pub fn settle(&mut self, call: &Call, answer: &Answer)
+        ensures { self.new ≡ settled self.old call.now answer.now }
+    {
+        let (last_result, last_error) = match answer {
+            Answer::Refused(code) => (refused(call), code.number()),
+            Answer::Value(value) => (*value, 0),
+            Answer::Window(window) => (u64::from(window.0), 0),
+            Answer::Got { msg, .. } => (u64::from(msg.number != names::WM_QUIT), 0),
+            Answer::Nothing => (0, 0),
+            _ => (1, 0),
+        };
+        self.last_result = last_result;
+        self.last_error = last_error;
+    }
+}
+
+/// What `r` is after a refusal of this call (Microsoft, GetMessage function, which gives minus one).
+fn refused(call: &Call) -> u64
+    ensures { result ≡ refused_result call.now }
+{
+    match call {
+        Call::Get(_, _, _) => 18446744073709551615,
+        _ => 0,
+    }
+}

@@ -1,0 +1,22 @@
+-- Words ask for one thing.
+use Rattle.std.proofs.Common.{◌≡◌, ℕ, ◌<◌, ◌^◌, List, [], ◌∷◌, sym, ap, ◌∙◌, arith}
+use Rattle.std.specs.Prelude.{codes, decimal, Result, Ok}
+use Rattle.std.proofs.lemmas.Fmt.{decimal_is_IsNumeral}
+use Rattle.std.specs.Str.Parse.{digits_value}
+use Rattle.user_app.specs.Requests.{IsMake, make_words}
+
+same_second : {X : Type 0} (a b c d : X) → a ∷ b ∷ [] ≡ c ∷ d ∷ [] → b ≡ d
+same_second a b c d e = cc
+
+-- one number has this text in decimal
+same_decimal : (n m : ℕ) → n < 2 ^ 64 → m < 2 ^ 64 → decimal n ≡ decimal m → n ≡ m
+same_decimal n m small few e = sym (decimal_is_IsNumeral n small).1 ∙ ap (digits_value 10) e ∙ (decimal_is_IsNumeral m few).1
+
+-- one number is asked for
+pub same_number : (words : List (List ℕ)) (n m : ℕ) → IsMake words n → IsMake words m → n ≡ m
+same_number words n m a b =
+    let both : make_words n ≡ make_words m = sym a.words_are ∙ b.words_are in
+    same_decimal n m (omega (arith, a.few)) (omega (arith, b.few)) (same_second (codes "make") (decimal n) (codes "make") (decimal m) both)
+
+pub same_ok : {E : Type 0} (r : Result ℕ E) (n m : ℕ) → r ≡ Ok n → r ≡ Ok m → n ≡ m
+same_ok r n m a b = cc

@@ -1,0 +1,80 @@
+//! What the words ask for.
+
+ghost use Rattle.std.specs.Prelude.{◌≡◌, ◌≢◌, ◌↔◌, ◌<◌, ◌≤◌, ℕ, IsTrue, IfSome, IsNone, List, [], ◌∷◌, map, decimal};
+ghost use Rattle.std.specs.String.{string_bytes};
+ghost use Rattle.user_app.specs.Requests.{AskFor};
+
+use itoa::Buffer;
+
+/// The greatest number from which a script is made.
+const MOST_MADE: u32 = 60000;
+
+/// What the words ask for.
+#[derive(Clone, Copy, Debug, PartialEq, Eq)]
+pub enum Request {
+    /// `run`: a run of the script in the input.
+    Run,
+    /// `make N`: a run of the script that is made from the number, 1 to 60000.
+    Make(u32),
+    /// Nothing that the program does.
+    Nothing,
+}
+
+/// Whether two texts are the same.
+fn same_text(a: &[u8], b: &[u8]) -> bool
+    ensures { IsTrue result ↔ (a.now ≡ b.now) }
+{
+    a == b
+}
+
+/// The number from 1 to 60000 that the word is in decimal. None comes exactly where it is none.
+fn made_number(word: &str) -> Option<u32>
+    ensures number { IfSome result (λ n. (0 < n) × (n ≤ 60000) × (word.now ≡ decimal n)) }
+    ensures none { IsNone result → (n : ℕ) → 0 < n → n ≤ 60000 → word.now ≢ decimal n }
+{
+    let Ok(number) = word.parse::<u32>() else {
+        return None;
+    };
+    if number < 1 || number > MOST_MADE {
+        return None;
+    }
+    let mut buffer = Buffer::new();
+    if !same_text(buffer.format(number).as_bytes(), word.as_bytes()) {
+        return None;
+    }
+    Some(number)
+}
+
+/// What one word asks for.
+fn one_word(word: &str) -> Request
+    ensures { (words : List (List ℕ)) → words ≡ word.now ∷ [] → AskFor words result }
+{
+    if same_text(word.as_bytes(), b"run") {
+        return Request::Run;
+    }
+    Request::Nothing
+}
+
+/// What two words ask for.
+fn two_words(first: &str, second: &str) -> Request
+    ensures { (words : List (List ℕ)) → words ≡ first.now ∷ second.now ∷ [] → AskFor words result }
+{
+    if !same_text(first.as_bytes(), b"make") {
+        return Request::Nothing;
+    }
+    match made_number(second) {
+        Some(number) => Request::Make(number),
+        None => Request::Nothing,
+    }
+}
+
+/// What the words ask for.
+pub fn read_words(words: &[String]) -> Request
+    ensures { AskFor (map string_bytes words.now) result }
+{
+    match words {
+        [word] => one_word(word.as_str()),
+        [first, second] => two_words(first.as_str(), second.as_str()),
+        _ => Request::Nothing,
+    }
+}

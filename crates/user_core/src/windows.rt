@@ -1,0 +1,268 @@
+//! What the calls on classes and windows answer.
+
+ghost use Rattle.std.specs.Prelude.{◌≡◌, ◌-ℤ◌, false, int_lt, pos};
+ghost use Rattle.user_model.specs.Past.{is_full};
+ghost use Rattle.user_model.specs.Refusals.{if_own, is_no_rect, is_outside};
+ghost use Rattle.user_model.specs.ReplyWindows.{doom_reply, drop_reply, is_no_parent, is_no_style, is_window_reply, message_reply, new_window_reply, next_top_reply, parent_reply, register_reply, unmake_reply, unregister_reply, window_if_room};
+ghost use Rattle.user_model.specs.Windows.{has_flag};
+
+use crate::codes::{
+    ACCESS_DENIED, CANNOT_FIND_CLASS, CHILD_WITHOUT_PARENT, CLASS_ALREADY_EXISTS,
+    CLASS_DOES_NOT_EXIST, CLASS_HAS_WINDOWS, INVALID_PARAMETER, INVALID_WINDOW_HANDLE,
+};
+use core_state::CoreState;
+use user_model::{Answer, Call};
+use win_num::names::{WS_CHILD, WS_DISABLED, WS_EX_TOPMOST, WS_POPUP};
+use win_num::{Code, Hwnd};
+
+/// How many classes there may be at a time.
+const CLASS_LIMIT: usize = 64;
+
+/// The greatest colour of a class.
+const LAST_COLOUR: u64 = 15;
+
+/// How many messages may be registered.
+const MESSAGE_LIMIT: usize = 16384;
+
+/// The number of the first registered message (Microsoft, RegisterWindowMessage function).
+const FIRST_MESSAGE: u64 = 49152;
+
+/// How many windows may be live.
+const WINDOW_LIMIT: usize = 1024;
+
+/// How far left or up, and right or down, a window may stand, and how wide and high it may be, in pixels.
+const FAR: i64 = 4096;
+
+/// The styles that a window may have; without painting none is visible.
+const KNOWN_STYLES: u64 = WS_CHILD + WS_POPUP + WS_DISABLED;
+
+/// The answer of a class's registration.
+pub fn register_answer(state: &CoreState, name: u32, colour: u64) -> Answer
+    ensures { result ≡ register_reply state.now.past name colour }
+{
+    if colour > LAST_COLOUR {
+        return Answer::Refused(INVALID_PARAMETER);
+    }
+    if state.has_class(name) {
+        return Answer::Refused(CLASS_ALREADY_EXISTS);
+    }
+    if state.class_count() >= CLASS_LIMIT {
+        return Answer::Refused(Code::Full);
+    }
+    Answer::Value(u64::from(state.registered_count()) + 1)
+}
+
+/// The answer where a class is to be taken back.
+pub fn unregister_answer(state: &CoreState, name: u32) -> Answer
+    ensures { result ≡ unregister_reply state.now.past name }
+{
+    if !state.has_class(name) {
+        return Answer::Refused(CLASS_DOES_NOT_EXIST);
+    }
+    if state.is_used(name) {
+        return Answer::Refused(CLASS_HAS_WINDOWS);
+    }
+    Answer::Okay
+}
+
+/// The number of a registered message, or for a new name the next one.
+pub fn message_answer(state: &CoreState, name: u32) -> Answer
+    ensures { result ≡ message_reply state.now.past name }
+{
+    if let Some(number) = state.message_number(name) {
+        return Answer::Value(u64::from(number));
+    }
+    let count = state.message_count();
+    if count >= MESSAGE_LIMIT {
+        return Answer::Refused(Code::Full);
+    }
+    Answer::Value(FIRST_MESSAGE + count as u64)
+}
+
+/// What is asked of a new window: its class, its parent or owner, its styles.
+#[derive(Clone, Copy)]
+pub struct Making {
+    pub class: u32,
+    pub parent: u64,
+    pub style: u64,
+    pub ex: u64,
+}
+
+/// The edges of a new window, in pixels from its parent's or the screen's left top corner.
+#[derive(Clone, Copy)]
+pub struct Edges {
+    pub l: i64,
+    pub t: i64,
+    pub r: i64,
+    pub b: i64,
+}
+
+/// Whether a left or top edge is too far away.
+fn is_outside(edge: i64) -> bool
+    ensures { result ≡ is_outside edge }
+{
+    edge < -FAR || FAR < edge
+}
+
+/// Whether the edges are no rectangle of a window.
+fn is_no_rect(edges: Edges) -> bool
+    ensures { result ≡ is_no_rect edges.l edges.t edges.r edges.b }
+{
+    if is_outside(edges.l) || is_outside(edges.t) {
+        return true;
+    }
+    if edges.r < edges.l || edges.b < edges.t {
+        return true;
+    }
+    is_longer(edges.l, edges.r) || is_longer(edges.t, edges.b)
+}
+
+/// Whether an edge is too far from the one before it.
+fn is_longer(from: i64, to: i64) -> bool
+    requires { is_outside from ≡ false }
+    ensures { result ≡ int_lt (pos 4096) (to -ℤ from) }
+{
+    to > from + FAR
+}
+
+/// Whether the flags have the bits.
+fn has_flag(flags: u64, bits: u64) -> bool
+    ensures { result ≡ has_flag flags bits }
+{
+    flags & bits == bits
+}
+
+/// Whether a style is unknown, or a child would be a popup or topmost, or an extended style isn't
+/// topmost.
+fn is_no_style(style: u64, ex: u64) -> bool
+    ensures { result ≡ is_no_style style ex }
+{
+    if style & KNOWN_STYLES != style {
+        return true;
+    }
+    let is_child = has_flag(style, WS_CHILD);
+    if is_child && has_flag(style, WS_POPUP) {
+        return true;
+    }
+    if ex != 0 && ex != WS_EX_TOPMOST {
+        return true;
+    }
+    ex == WS_EX_TOPMOST && is_child
+}
+
+/// Whether the number is neither 0 nor a live window that isn't marked.
+fn is_no_parent(state: &CoreState, parent: u64) -> bool
+    ensures { result ≡ is_no_parent state.now.past parent }
+{
+    if parent == 0 {
+        return false;
+    }
+    !state.is_live(parent) || state.is_marked(parent)
+}
+
+/// The number of a new window, where there is room for it.
+fn window_if_room(state: &CoreState) -> Answer
+    requires { is_full state.now.past ≡ false }
+    ensures { result ≡ window_if_room state.now.past }
+{
+    if state.window_count() >= WINDOW_LIMIT {
+        return Answer::Refused(Code::Full);
+    }
+    Answer::Window(state.next_window())
+}
+
+/// The answer where a window is to be made.
+pub fn new_window_answer(state: &CoreState, who: u8, making: Making, edges: Edges) -> Answer
+    requires { is_full state.now.past ≡ false }
+    ensures { result ≡ new_window_reply state.now.past who making.class making.parent making.style making.ex edges.l edges.t edges.r edges.b }
+{
+    if is_no_rect(edges) || is_no_style(making.style, making.ex) {
+        return Answer::Refused(INVALID_PARAMETER);
+    }
+    if is_no_parent(state, making.parent) {
+        return Answer::Refused(INVALID_WINDOW_HANDLE);
+    }
+    if making.parent != 0 && state.thread_of(making.parent) != who {
+        return Answer::Refused(ACCESS_DENIED);
+    }
+    if has_flag(making.style, WS_CHILD) && making.parent == 0 {
+        return Answer::Refused(CHILD_WITHOUT_PARENT);
+    }
+    if !state.has_class(making.class) {
+        return Answer::Refused(CANNOT_FIND_CLASS);
+    }
+    window_if_room(state)
+}
+
+/// Ok, where it is a live window of the caller.
+fn if_own(state: &CoreState, who: u8, w: u64) -> Answer
+    ensures { result ≡ if_own state.now.past who w Answer.Okay }
+{
+    if !state.is_live(w) {
+        return Answer::Refused(INVALID_WINDOW_HANDLE);
+    }
+    if state.thread_of(w) != who {
+        return Answer::Refused(ACCESS_DENIED);
+    }
+    Answer::Okay
+}
+
+/// The answer where a window is to be marked with its kin.
+pub fn doom_answer(state: &CoreState, who: u8, w: u64) -> Answer
+    ensures { result ≡ doom_reply state.now.past who w }
+{
+    if state.is_marked(w) {
+        return Answer::Refused(INVALID_WINDOW_HANDLE);
+    }
+    if_own(state, who, w)
+}
+
+/// The next step of a destruction.
+pub fn unmake_answer(state: &CoreState, who: u8, w: u64) -> Answer
+    ensures { result ≡ unmake_reply state.now.past who w }
+{
+    if !state.is_live(w) {
+        return Answer::Gone;
+    }
+    if !state.is_marked(w) {
+        return Answer::Refused(INVALID_PARAMETER);
+    }
+    if state.thread_of(w) != who {
+        return Answer::Refused(ACCESS_DENIED);
+    }
+    state.destruction(w)
+}
+
+/// The answer where a window is to be dropped with its kin.
+pub fn drop_answer(state: &CoreState, who: u8, w: u64) -> Answer
+    ensures { result ≡ drop_reply state.now.past who w }
+{
+    if state.is_live(w) && !state.has_last(w) {
+        return Answer::Refused(INVALID_PARAMETER);
+    }
+    if_own(state, who, w)
+}
+
+/// The top-level window of least number above this one, or 0.
+pub fn next_top_answer(state: &CoreState, w: u64) -> Answer
+    ensures { result ≡ next_top_reply state.now.past w }
+{
+    Answer::Window(state.next_top(w))
+}
+
+/// 1 for a live window, else 0.
+pub fn is_window_answer(state: &CoreState, w: u64) -> Answer
+    ensures { result ≡ is_window_reply state.now.past w }
+{
+    Answer::Value(u64::from(state.is_live(w)))
+}
+
+/// The parent of a child, else the owner, or 0.
+pub fn parent_answer(state: &CoreState, w: u64) -> Answer
+    ensures { result ≡ parent_reply state.now.past w }
+{
+    match state.up(w) {
+        Some(up) => Answer::Window(up),
+        None => Answer::Refused(INVALID_WINDOW_HANDLE),
+    }
+}

@@ -1,0 +1,40 @@
+-- The answers of the calls that post and retrieve messages.
+use Rattle.std.specs.Prelude.{ℕ, suc, ◌==◌, nat_lt, nat_le, Bool, not, ◌||◌, length, unwrap_or}
+use Rattle.user_model.specs.declared.entry.Setup.{Setup}
+use Rattle.user_model.specs.declared.entry.Answer.{Answer}
+use Rattle.user_model.specs.declared.entry.Answer.TheVariants.{Nothing, Wait, Posted}
+use Rattle.user_model.specs.Past.{Past}
+use Rattle.user_model.specs.Windows.{is_live}
+use Rattle.user_model.specs.Filters.{filter_of, is_no_filter_window}
+use Rattle.user_model.specs.Posts.{posts, posted, queue_of}
+use Rattle.user_model.specs.Next.{next}
+use Rattle.user_model.specs.Refusals.{refuse, is_no_message, invalid_parameter, invalid_window_handle, invalid_thread_id, not_enough_quota}
+use Rattle.user_model.specs.Threads.{is_running}
+
+-- the next message, or none
+abbrev pub peek_reply : Past → ℕ → ℕ → ℕ → ℕ → ℕ → Answer
+peek_reply past who w min max flags = refuse (nat_lt 3 flags) invalid_parameter (refuse (is_no_filter_window past who w) invalid_window_handle (unwrap_or (next past who (filter_of w min max)) Nothing))
+
+-- the next message, or to wait
+abbrev pub get_reply : Past → ℕ → ℕ → ℕ → ℕ → Answer
+get_reply past who w min max = refuse (is_no_filter_window past who w) invalid_window_handle (unwrap_or (next past who (filter_of w min max)) Wait)
+
+-- the number that the next post gets
+abbrev pub next_post_number : Past → ℕ
+next_post_number past = suc (length (posts past))
+
+-- the post is made where the thread has fewer than 10,000
+abbrev pub post_to : Past → ℕ → Answer
+post_to past t = refuse (nat_le 10000 (length (posted past t))) not_enough_quota (Posted (next_post_number past))
+
+-- whether w is neither 0 nor a live window
+abbrev pub is_no_post_window : Past → ℕ → Bool
+is_no_post_window past w = not ((w == 0) || is_live past w)
+
+-- a post to a window, or for 0 to the caller
+abbrev pub post_reply : Past → ℕ → ℕ → ℕ → Answer
+post_reply past who w number = refuse (is_no_message number) invalid_parameter (refuse (is_no_post_window past w) invalid_window_handle (post_to past (queue_of past who w)))
+
+-- a post to a thread that hasn't ended
+abbrev pub post_thread_reply : Setup → Past → ℕ → ℕ → Answer
+post_thread_reply setup past t number = refuse (is_no_message number) invalid_parameter (refuse (not (is_running setup past t)) invalid_thread_id (post_to past t))

@@ -1,0 +1,95 @@
+-- The answers of the calls on classes and windows.
+use Rattle.std.specs.Prelude.{if◌then◌else◌, ℕ, suc, ◌==◌, ◌+◌, nat_lt, nat_le, Bool, true, false, not, ◌&&◌, ◌||◌, ℤ, length, Option, Some, None, is_none, is_some, unwrap_or, option_map}
+use Rattle.win_num.specs.declared.message.Hwnd.{Hwnd}
+use Rattle.win_num.specs.declared.code.Code.TheVariants.{Full}
+use Rattle.win_num.specs.declared.names.TheConstants.{WS_CHILD, WS_DISABLED, WS_EX_TOPMOST, WS_POPUP}
+use Rattle.user_model.specs.declared.entry.Answer.{Answer}
+use Rattle.user_model.specs.declared.entry.Answer.TheVariants.{Okay, Gone, Value, Window as WindowTold, Tell, Last}
+use Rattle.user_model.specs.Past.{Past}
+use Rattle.user_model.specs.Windows.{Window, has_flag, live, window, is_live, thread_of, windows_made, up, next_top}
+use Rattle.user_model.specs.Destruction.{Step, told, ended, is_marked, was_given, next_step}
+use Rattle.user_model.specs.Classes.{class, classes, registered_count, is_used, message_names, message_number}
+use Rattle.user_model.specs.Refusals.{refuse, if_live, if_own, is_no_rect, has_beyond, invalid_parameter, invalid_window_handle, access_denied, child_without_parent, cannot_find_class, class_already_exists, class_does_not_exist, class_has_windows}
+
+-- a class is registered
+abbrev pub register_reply : Past → ℕ → ℕ → Answer
+register_reply past name colour = refuse (nat_lt 15 colour) invalid_parameter (refuse (is_some (class past name)) class_already_exists (refuse (nat_le 64 (length (classes past))) Full (Value (suc (registered_count past)))))
+
+-- a class is taken back
+abbrev pub unregister_reply : Past → ℕ → Answer
+unregister_reply past name = refuse (is_none (class past name)) class_does_not_exist (refuse (is_used past name) class_has_windows Okay)
+
+-- the number of a message's name, or for a new name the next one
+abbrev pub number_or_next : Past → ℕ → ℕ
+number_or_next past name = unwrap_or (message_number past name) (49152 + length (message_names past))
+
+-- the number of the message of a name, of which 16,384 are registered at most
+abbrev pub message_reply : Past → ℕ → Answer
+message_reply past name = refuse (is_none (message_number past name) && nat_le 16384 (length (message_names past))) Full (Value (number_or_next past name))
+
+-- the styles that a window may have; without painting none is visible
+abbrev pub known_styles : ℕ
+known_styles = WS_CHILD + WS_POPUP + WS_DISABLED
+
+-- an unknown style, a child that is a popup, or an extended style that isn't topmost, or is a child's
+abbrev pub is_no_style : ℕ → ℕ → Bool
+is_no_style style ex = has_beyond style known_styles || (has_flag style WS_CHILD && has_flag style WS_POPUP || (not ((ex == 0) || (ex == WS_EX_TOPMOST)) || (ex == WS_EX_TOPMOST) && has_flag style WS_CHILD))
+
+-- whether the number is neither 0 nor a live window that isn't marked
+abbrev pub is_no_parent : Past → ℕ → Bool
+is_no_parent past parent = not ((parent == 0) || is_live past parent && not (is_marked past parent))
+
+-- the number that the next window gets
+abbrev pub next_window : Past → Hwnd
+next_window past = record { 0 = 16 + length (windows_made past) }
+
+-- a window is made where fewer than 1,024 are live
+abbrev pub window_if_room : Past → Answer
+window_if_room past = refuse (nat_le 1024 (length (live past))) Full (WindowTold (next_window past))
+
+-- a window is made
+abbrev pub new_window_reply : Past → ℕ → ℕ → ℕ → ℕ → ℕ → ℤ → ℤ → ℤ → ℤ → Answer
+new_window_reply past who name parent style ex l t r b = refuse (is_no_rect l t r b || is_no_style style ex) invalid_parameter (
+    refuse (is_no_parent past parent) invalid_window_handle (
+    refuse (not (parent == 0) && not (thread_of past parent == who)) access_denied (
+    refuse (has_flag style WS_CHILD && (parent == 0)) child_without_parent (
+    refuse (is_none (class past name)) cannot_find_class (
+    window_if_room past)))))
+
+-- a window is marked with its kin
+abbrev pub doom_reply : Past → ℕ → ℕ → Answer
+doom_reply past who w = refuse (is_live past w && is_marked past w) invalid_window_handle (if_own past who w Okay)
+
+-- the step of a destruction as an answer; once none is left, the window's last message again
+abbrev pub step_answer : ℕ → Option Step → Answer
+step_answer w (Some (told v)) = Tell (record { 0 = v })
+step_answer w (Some (ended v)) = Last (record { 0 = v })
+step_answer w None = Last (record { 0 = w })
+
+-- the next step of the destruction of a live window that is marked
+abbrev pub unmake_step : Past → ℕ → ℕ → Window → Answer
+unmake_step past who w x = refuse (not (is_marked past w)) invalid_parameter (refuse (not (x.thread == who)) access_denied (step_answer w (next_step past x)))
+
+-- the next step of a destruction
+abbrev pub unmake_reply : Past → ℕ → ℕ → Answer
+unmake_reply past who w = elim (window past w) [ None ↦ Gone | Some x ↦ unmake_step past who w x ]
+
+-- a window is dropped with its kin
+abbrev pub drop_reply : Past → ℕ → ℕ → Answer
+drop_reply past who w = refuse (is_live past w && not (was_given past (ended w))) invalid_parameter (if_own past who w Okay)
+
+-- a window or none as an answer
+abbrev pub window_told : ℕ → Answer
+window_told w = WindowTold (record { 0 = w })
+
+-- the top-level window of least number above w, or 0
+abbrev pub next_top_reply : Past → ℕ → Answer
+next_top_reply past w = window_told (unwrap_or (option_map (λ x. x.number) (next_top past w)) 0)
+
+-- 1 for a live window, else 0
+abbrev pub is_window_reply : Past → ℕ → Answer
+is_window_reply past w = Value (if is_live past w then 1 else 0)
+
+-- the parent of a child, else the owner, or 0
+abbrev pub parent_reply : Past → ℕ → Answer
+parent_reply past w = elim (window past w) [ None ↦ refuse true invalid_window_handle Okay | Some x ↦ window_told (up x) ]
