@@ -1,5 +1,5 @@
 -- What the parts stand for after an entry, and what the change of an entry needs.
-use Rattle.std.proofs.Common.{◌≡◌, ℕ, ◌+◌, ◌≤◌, ◌<◌, Bool, true, false, List, ◌∷◌, length, Option, Some, None, refl, ap, ◌∙◌, sym, subst, arith}
+use Rattle.std.proofs.Common.{◌≡◌, ℕ, ◌+◌, ◌<◌, true, false, List, ◌∷◌, length, refl, ap, ◌∙◌, sym, subst, arith}
 use Rattle.std.proofs.lemmas.Bool.Decides.{nat_tests}
 use Rattle.win_num.specs.declared.message.Thread.{Thread}
 use Rattle.win_class.specs.ClassTable.{ClassTable, unregister_refusal}
@@ -16,14 +16,12 @@ use Rattle.user_model.specs.Idle.{reply}
 use Rattle.user_model.specs.Threads.{is_running}
 use Rattle.user_model.proofs.DeliveryReplies.{post_told}
 use Rattle.user_model.proofs.ReplyLaws.{by_row}
-use Rattle.core_state.specs.Changes.{Change, changed, change_by, change_of, noted, count_kept, time_kept}
-use Rattle.core_state.specs.ClassTables.{classes_at}
+use Rattle.core_state.specs.Changes.{Change, changed, noted, count_kept, time_kept}
 use Rattle.core_state.specs.Deliveries.{growth_in, settling_in}
 use Rattle.core_state.specs.Effects.{IsGrownBy, grown_classes, settled_classes, settled_tree}
 use Rattle.core_state.specs.Needs.{FitsCarrying, FitsGrowth, FitsNaming, FitsSettling, FitsUnmaking, IsOne}
 use Rattle.core_state.specs.Queues.{ThreadView, thread_at}
-use Rattle.core_state.specs.States.{EachBy, EachThread, Parts, Stands, parts}
-use Rattle.core_state.specs.Trees.{IsTreeAt}
+use Rattle.core_state.specs.States.{EachBy, Parts, Stands, parts}
 use Rattle.core_state.proofs.ClassSteps.{classes_after, fits_naming, fits_unregister}
 use Rattle.core_state.proofs.Deliveries.{both_changes, fits_post, fits_posting, running_is_one}
 use Rattle.core_state.proofs.NewWindows.{doom_not_refused, drop_not_refused}

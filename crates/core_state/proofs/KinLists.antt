@@ -1,12 +1,12 @@
 -- The numbers of the windows that go with one.
 use Rattle.std.proofs.Common.{◌≡◌, ℕ, eqb, Bool, true, false, not, cond, List, [], ◌∷◌, map, refl, ap, sym, ◌∙◌, arith, inl, inr}
-use Rattle.std.specs.Prelude.{filter, find, ◌||◌, ◌&&◌, is_some}
+use Rattle.std.specs.Prelude.{filter, ◌||◌, ◌&&◌}
 use Rattle.std.specs.List.{list_any}
 use Rattle.std.proofs.lemmas.Bool.Decides.{nat_tests, eqb_tells}
 use Rattle.win_tree.specs.declared.window.Window.{Window}
-use Rattle.win_tree.specs.Windows.{is_live, window_of}
+use Rattle.win_tree.specs.Windows.{is_live}
 use Rattle.win_tree.specs.Kin.{is_kin}
-use Rattle.post_queue.specs.Queue.{Posted, Queue, queue}
+use Rattle.post_queue.specs.Queue.{Posted, queue}
 use Rattle.core_state.specs.Changes.{without_windows}
 use Rattle.core_state.specs.Deliveries.{kin_in}
 use Rattle.core_state.specs.Queues.{ThreadView}

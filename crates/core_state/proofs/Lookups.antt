@@ -1,7 +1,6 @@
 -- What a look-up in the table of windows finds.
-use Rattle.std.proofs.Common.{◌≡◌, ℕ, Bool, false, List, Option, Some, None, refl, ap, sym, ◌∙◌}
+use Rattle.std.proofs.Common.{◌≡◌, ℕ, false, List, Option, Some, None, refl, ap, sym}
 use Rattle.std.specs.Prelude.{is_some, option_map, unwrap_or}
-use Rattle.win_num.specs.declared.message.Hwnd.{Hwnd}
 use Rattle.win_tree.specs.declared.window.Window.{Window}
 use Rattle.win_tree.specs.declared.row.WindowRow.{WindowRow}
 use Rattle.win_tree.specs.Windows.{number_of, window_of, is_marked, is_ended}

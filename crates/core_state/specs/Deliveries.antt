@@ -1,5 +1,5 @@
 -- Which messages a filter lets pass, and what a call posts, among the windows of a table.
-use Rattle.std.specs.Prelude.{if◌then◌else◌, ℕ, ◌≤◌, ◌==◌, ◌&&◌, ◌||◌, Bool, true, List, map, filter, Option, Some, None, IsTrue, unwrap_or, option_map, pos}
+use Rattle.std.specs.Prelude.{if◌then◌else◌, ℕ, ◌≤◌, ◌==◌, ◌&&◌, ◌||◌, Bool, List, map, filter, Option, Some, None, IsTrue, unwrap_or, option_map, pos}
 use Rattle.win_num.specs.declared.message.Msg.{Msg}
 use Rattle.win_num.specs.declared.message.Filter.{Filter}
 use Rattle.win_num.specs.declared.shapes.Point.{Point}

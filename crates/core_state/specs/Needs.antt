@@ -1,5 +1,5 @@
 -- What the change of an entry needs of the parts.
-use Rattle.std.specs.Prelude.{◌≡◌, ℕ, ◌+◌, ◌-◌, ◌<◌, ◌≤◌, ◌==◌, ◌||◌, true, false, List, length, All, slice_index_or, Option, Some, None, Result, Ok, Err, IsTrue}
+use Rattle.std.specs.Prelude.{◌≡◌, ℕ, ◌-◌, ◌<◌, ◌≤◌, ◌==◌, ◌||◌, true, false, List, length, All, slice_index_or, Option, Some, None, Result, Ok, Err, IsTrue}
 use Rattle.win_num.specs.PixelSets.{is_bad_rect}
 use Rattle.win_num.specs.declared.message.Msg.{Msg}
 use Rattle.win_num.specs.declared.code.Fault.{Fault}

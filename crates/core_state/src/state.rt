@@ -1,6 +1,6 @@
 //! The history, and the parts that stand for it.
 
-ghost use Rattle.std.specs.Prelude.{◌≡◌, ◌<◌, ◌≤◌, ◌+◌, ◌&&◌, [], ◌∷◌, length, reverse, All, true, false, IfOk, OnOk, OnErr, IsTrue, is_some, option_map};
+ghost use Rattle.std.specs.Prelude.{◌≡◌, ◌<◌, ◌≤◌, ◌+◌, ◌&&◌, [], ◌∷◌, length, reverse, All, true, false, IfOk, OnOk, OnErr, is_some, option_map};
 ghost use Rattle.user_model.specs.Past.{is_full};
 ghost use Rattle.user_model.specs.Places.{clock, has_ended};
 ghost use Rattle.user_model.specs.Posts.{posted, first_post, quit};

@@ -1,10 +1,10 @@
 -- What a search of a queue finds.
-use Rattle.std.proofs.Common.{◌≡◌, ℕ, zero, suc, ◌+◌, Bool, true, false, cond, List, [], ◌∷◌, take, Option, Some, None, refl, ap, sym, ◌∙◌}
-use Rattle.std.specs.Prelude.{find, All, slice_get, option_map}
+use Rattle.std.proofs.Common.{◌≡◌, ℕ, zero, suc, Bool, true, false, List, [], ◌∷◌, take, Option, Some, None, refl, ap, sym, ◌∙◌}
+use Rattle.std.specs.Prelude.{find, slice_get, option_map}
 use Rattle.std.specs.List.{AllByRecursion}
 use Rattle.std.proofs.lemmas.List.Elements.{recursion_from_All}
 use Rattle.win_num.specs.declared.message.Msg.{Msg}
-use Rattle.post_queue.specs.Queue.{Posted, FindsFirst, IsFirst, pair_of, post_of}
+use Rattle.post_queue.specs.Queue.{Posted, FindsFirst, pair_of, post_of}
 
 find_none : (test : Posted → Bool) (ps : List Posted) → AllByRecursion (λ p. test p ≡ false) ps → find test ps ≡ None
 find_none test [] h = refl

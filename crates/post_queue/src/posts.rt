@@ -1,6 +1,6 @@
 //! The queue of posted messages.
 
-ghost use Rattle.std.specs.Prelude.{ℕ, Bool, not, filter, remove, slice_index_or, find, option_map, ◌≡◌, ◌↔◌, ◌+◌, ◌<◌, ◌≤◌, [], ◌∷◌, ◌++◌, ◌==◌, ◌&&◌, nat_lt, count_by, position, Some, All, OnOk, OnErr, IfErr, ◌⊎◌, length};
+ghost use Rattle.std.specs.Prelude.{ℕ, Bool, not, filter, remove, slice_index_or, find, option_map, ◌≡◌, ◌↔◌, ◌+◌, ◌<◌, [], ◌∷◌, ◌++◌, ◌==◌, ◌&&◌, nat_lt, count_by, position, Some, All, OnOk, OnErr, IfErr, ◌⊎◌, length};
 ghost use Rattle.win_num.specs.declared.message.Hwnd.{Hwnd};
 ghost use Rattle.win_num.specs.declared.message.Msg.{Msg};
 ghost use Rattle.std.specs.Fn.{FnReturnsAt};

@@ -1,4 +1,4 @@
-use Rattle.std.proofs.Common.{◌≡◌, true, arith, sym, ◌∙◌}
+use Rattle.std.proofs.Common.{◌≡◌, true, arith, sym}
 use Rattle.std.proofs.lemmas.Bool.Decides.{nat_tests}
 use Rattle.user_model.specs.Threads.{is_running}
 use Rattle.user_core.proofs.delivery.post_answer.Goals as goal

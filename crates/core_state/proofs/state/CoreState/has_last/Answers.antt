@@ -1,4 +1,4 @@
-use Rattle.std.proofs.Common.{reverse, ap, sym, ◌∙◌}
+use Rattle.std.proofs.Common.{reverse, ap, ◌∙◌}
 use Rattle.user_model.specs.Past.{Past}
 use Rattle.std.specs.Prelude.{◌&&◌}
 use Rattle.win_tree.specs.Windows as kept

@@ -1,4 +1,4 @@
-use Rattle.std.proofs.Common.{◌≡◌, ◌≤◌, arith, reverse, ap, sym, ◌∙◌}
+use Rattle.std.proofs.Common.{◌≤◌, arith, reverse, ap, sym, ◌∙◌}
 use Rattle.user_model.specs.Past.{Past}
 use Rattle.win_num.specs.declared.message.Hwnd.{Hwnd}
 use Rattle.user_model.specs.declared.entry.Answer.TheVariants as answers

@@ -1,6 +1,6 @@
 use Rattle.std.proofs.Common.{◌≡◌, List, not, ◌==◌, ap, ◌∙◌, rules}
 use Rattle.std.proofs.lemmas.Fn.{filter_same}
-use Rattle.std.specs.Prelude.{filter, count_by}
+use Rattle.std.specs.Prelude.{filter}
 use Rattle.post_queue.specs.declared.slot.Slot.{Slot}
 use Rattle.post_queue.specs.Queue.{Queue, Posted, queue, count_for, without_window}
 use Rattle.post_queue.specs.Slots.{posted_in}

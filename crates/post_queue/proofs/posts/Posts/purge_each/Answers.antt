@@ -1,7 +1,6 @@
-use Rattle.std.proofs.Common.{◌≡◌, ℕ, Bool, List, not, ap, ◌∙◌, rules}
+use Rattle.std.proofs.Common.{◌≡◌, List, not, ap, ◌∙◌, rules}
 use Rattle.std.proofs.lemmas.Fn.{filter_same}
 use Rattle.std.specs.Prelude.{filter}
-use Rattle.win_num.specs.declared.message.Hwnd.{Hwnd}
 use Rattle.post_queue.specs.declared.slot.Slot.{Slot}
 use Rattle.post_queue.specs.Queue.{Queue, Posted, queue}
 use Rattle.post_queue.specs.Slots.{posted_in}

@@ -1,5 +1,4 @@
-use Rattle.std.proofs.Common.{◌≡◌, List, Option, Some, not, ◌==◌, ap, sym, subst, ◌∙◌}
-use Rattle.std.specs.Prelude.{position}
+use Rattle.std.proofs.Common.{List, Option, Some, not, ◌==◌, ap, sym, ◌∙◌}
 use Rattle.win_num.specs.declared.message.Msg.{Msg}
 use Rattle.post_queue.specs.declared.slot.Slot.{Slot}
 use Rattle.post_queue.specs.Queue.{Queue, Posted, queue, message_of, without_number}
