@@ -1,5 +1,5 @@
 -- Blocks and lines.
-use Rattle.std.proofs.Common.{◌≡◌, ◌≢◌, ℕ, suc, ◌+◌, ◌<◌, ◌≤◌, Bool, true, false, List, [], ◌∷◌, ◌++◌, length, drop, get_or, Option, Some, None, Result, Ok, Err, refl, ap, sym, ◌∙◌, append_assoc, arith}
+use Rattle.std.proofs.Common.{◌≡◌, ℕ, ◌+◌, ◌<◌, ◌≤◌, Bool, true, false, List, [], ◌∷◌, ◌++◌, length, drop, get_or, Option, Some, None, Result, Ok, Err, refl, ap, sym, ◌∙◌, append_assoc, arith}
 use Rattle.std.specs.Prelude.{nat_lt, ◌==◌, if◌then◌else◌, IfOk}
 use Rattle.std.specs.List.{flat_map}
 use Rattle.std.proofs.lemmas.List.{drop_more}
@@ -9,7 +9,7 @@ use Rattle.script_text.specs.declared.line.Line.{Line}
 use Rattle.script_text.specs.declared.line.Line.TheVariants.{End}
 use Rattle.script_text.specs.declared.builder.Block.{Block}
 use Rattle.script_text.specs.Lines.{statement_lines, row_lines, body_lines, thread_lines}
-use Rattle.script_text.specs.Nesting.{Kind, nested, nested_on, nested_all, none_open, nests, block_opened, thread_opened, thread_closed}
+use Rattle.script_text.specs.Nesting.{Kind, nested, nested_all, none_open, nests, block_opened, thread_opened, thread_closed}
 use Rattle.script_text.specs.Building.{kinds, opening_lines, open_lines, built_lines}
 
 pub length_kinds : (bs : List Block) → length (kinds bs) ≡ length bs

@@ -7,10 +7,9 @@ use Rattle.std.proofs.lemmas.Bool.Decides.{nat_tests}
 use Rattle.std.proofs.lemmas.List.{drop_more}
 use Rattle.script_tree.specs.Tree.{Tree}
 use Rattle.script_text.specs.declared.line.Line.{Line}
-use Rattle.script_text.specs.declared.line.Line.TheVariants.{Thread, Let, Compute, If, Else, While, End, Call}
 use Rattle.script_text.specs.Lines.{script_lines}
 use Rattle.script_text.specs.Spelling.{spelling}
-use Rattle.script_text.specs.Limits.{IsLine, IsScript, AreNames, is_turn, is_within, name_in_line, seen_after, within_count, all_seen, seen_on, seen_all, are_in_order}
+use Rattle.script_text.specs.Limits.{IsLine, IsScript, AreNames, is_turn, is_within, within_count, all_seen, seen_on, seen_all, are_in_order}
 use Rattle.script_text.specs.Nesting.{nests}
 
 pub none_seen : (count : ℕ) (ls : List Line) → seen_all count None ls ≡ None

@@ -1,6 +1,6 @@
 -- A line that was written is read again.
-use Rattle.std.proofs.Common.{◌≡◌, ℕ, zero, suc, ◌+◌, ◌≤◌, ◌<◌, Bool, true, false, not, List, [], ◌∷◌, ◌++◌, length, Option, Some, None, refl, ap, sym, ◌∙◌, append_assoc, take, get_or, arith, length-take, inl, inr, subst, ◌⊎◌}
-use Rattle.std.specs.Prelude.{codes, map, nat_lt, nat_le, ◌==◌, ◌&&◌, if◌then◌else◌}
+use Rattle.std.proofs.Common.{◌≡◌, ℕ, zero, suc, ◌+◌, ◌≤◌, ◌<◌, Bool, true, false, not, List, [], ◌∷◌, ◌++◌, length, Option, Some, None, refl, ap, sym, ◌∙◌, take, get_or, arith, length-take, inl, inr, subst, ◌⊎◌}
+use Rattle.std.specs.Prelude.{codes, map, nat_lt, ◌==◌, ◌&&◌, if◌then◌else◌}
 use Rattle.std.specs.List.{list_all, list_any, position_from, AllByRecursion}
 use Rattle.std.specs.Str.{bytes_eq}
 use Rattle.std.proofs.lemmas.Bool.{false≢true, and_parts, and_from, or_parts, not-true, cases_Bool}
@@ -13,9 +13,9 @@ use Rattle.script_text.specs.declared.line.Line.{Line}
 use Rattle.script_text.specs.declared.line.Line.TheVariants as lines
 use Rattle.script_text.specs.Words.{operand_word, comparison_word, line_words}
 use Rattle.script_text.specs.Spelling.{joined}
-use Rattle.script_text.specs.Limits.{IsTest, IsLine, AreNames, is_name, is_distinct, name_in_line, seen_after, within_count, seen_on, seen_all, all_seen, are_in_order}
-use Rattle.script_text.specs.Reading.{◌>>=◌, Names, split_at, word_at, test_of, test_at, let_at, compute_at, get_at, peek_at, post_at, post_thread_at, post_quit_at, call_line, plain_line_at, command_at, nameless_at, new_place, place_or_new, place_at, with_names, message_line, line_at, lines_at}
-use Rattle.script_text.proofs.WordsAgain.{letter_again, operator_again, comparison_again, command_again, operand_again}
+use Rattle.script_text.specs.Limits.{IsTest, IsLine, AreNames, is_name, is_distinct, name_in_line, seen_after, within_count, seen_on, seen_all, all_seen}
+use Rattle.script_text.specs.Reading.{◌>>=◌, Names, split_at, word_at, test_at, let_at, compute_at, get_at, peek_at, post_at, post_thread_at, post_quit_at, plain_line_at, command_at, nameless_at, new_place, place_or_new, place_at, with_names, message_line, line_at, lines_at}
+use Rattle.script_text.proofs.WordsAgain.{letter_again, operator_again, comparison_again, operand_again}
 use Rattle.script_text.proofs.TextsAgain.{line_is_words, line_split}
 use Rattle.script_text.proofs.LineLoops.{one_step}
 use Rattle.script_text.proofs.LimitLemmas.{none_seen}
@@ -162,12 +162,11 @@ unfolding line_at
 message_again names n m k h within e = elim (seen_cases (length names) n m k e) [
   | inl old ↦ (ap message_line (old_name names n k h old.0 within) ∙ ap (λ (j : ℕ). found_line k (take j names)) (sym old.1), old.2)
   | inr new ↦
-      let same : n ≡ k = sym new.0 in
-      (
+      let same : n ≡ k = sym new.0 in (
         ap (λ (j : ℕ). message_line (place_at (take n names) (get_or names j []))) new.0
-        ∙ ap message_line (new_name names n h (omega (arith, new.1, new.2)))
-        ∙ ap (λ (j : ℕ). found_line j (take (n + 1) names)) same
-        ∙ ap (λ (j : ℕ). found_line k (take j names)) (sym new.1),
+            ∙ ap message_line (new_name names n h (omega (arith, new.1, new.2)))
+            ∙ ap (λ (j : ℕ). found_line j (take (n + 1) names)) same
+            ∙ ap (λ (j : ℕ). found_line k (take j names)) (sym new.1),
         new.2,
       )
 ]

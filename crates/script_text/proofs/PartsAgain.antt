@@ -1,9 +1,9 @@
 -- A text that spells a script is taken apart into it.
-use Rattle.std.proofs.Common.{◌≡◌, ℕ, zero, suc, ◌+◌, ◌-◌, ◌^◌, ◌≤◌, ◌<◌, Bool, true, false, not, List, [], ◌∷◌, ◌++◌, length, take, drop, Option, Some, None, refl, ap, sym, ◌∙◌, append_assoc, arith, length-append, length-drop, append-nil, subst}
+use Rattle.std.proofs.Common.{◌≡◌, ℕ, zero, suc, ◌+◌, ◌-◌, ◌^◌, ◌≤◌, ◌<◌, Bool, true, List, [], ◌∷◌, ◌++◌, length, take, drop, Option, Some, None, refl, ap, sym, ◌∙◌, append_assoc, arith, length-append, length-drop, append-nil, subst}
 use Rattle.std.proofs.lemmas.List.{take_all, length-map}
-use Rattle.std.specs.Prelude.{codes, decimal, map, min, nat_lt, nat_le, ◌&&◌, is_some}
+use Rattle.std.specs.Prelude.{codes, decimal, map, min, nat_lt, nat_le, ◌&&◌}
 use Rattle.std.specs.List.{list_all, flat_map}
-use Rattle.std.proofs.lemmas.Bool.{false≢true, and_parts, and_from}
+use Rattle.std.proofs.lemmas.Bool.{and_parts, and_from}
 use Rattle.std.proofs.lemmas.Bool.Decides.{nat_tests}
 use Rattle.std.proofs.lemmas.List.Concat.{flat_map-append}
 use Rattle.script_tree.specs.Tree.{Tree}
@@ -17,8 +17,8 @@ use Rattle.script_text.specs.Spelling.{blank_word, joined, line_text, head_words
 use Rattle.script_text.specs.Nesting.{nests}
 use Rattle.script_text.specs.Limits.{IsScript, is_turn, are_in_order, is_within}
 use Rattle.script_text.specs.Refusals.{IsSame}
-use Rattle.script_text.specs.Programs.{IsProgram, IsFitting, FindsTree}
-use Rattle.script_text.specs.Reading.{Names, split_at, word_at, words_at, number_at, small_number_at, texts_of, width_at, height_at, budget_at, order_at, lines_at}
+use Rattle.script_text.specs.Programs.{IsProgram, IsFitting}
+use Rattle.script_text.specs.Reading.{Names, split_at, word_at, small_number_at, texts_of, width_at, height_at, budget_at, order_at, lines_at}
 use Rattle.script_text.proofs.WordsAgain.{number_again}
 use Rattle.script_text.proofs.TextsAgain.{is_word, decimal_word, is_line_of_words, lines_are_words, words_again, texts_again}
 use Rattle.script_text.proofs.LinesAgain.{lines_again}

@@ -1,7 +1,7 @@
 -- A text falls apart into its lines, and a line into its words.
-use Rattle.std.proofs.Common.{◌≡◌, ℕ, zero, suc, ◌+◌, ◌-◌, ◌^◌, ◌≤◌, ◌<◌, Bool, true, false, not, List, [], ◌∷◌, ◌++◌, length, Option, Some, None, refl, ap, sym, ◌∙◌, append-nil, append_assoc, take, get_or, arith}
-use Rattle.std.specs.Prelude.{codes, decimal, unwrap_or, map, nat_lt, nat_le, ◌==◌, ◌&&◌, ◌||◌, IsSome}
-use Rattle.std.specs.List.{list_all, flat_map, slice_split, onto_first, AllByRecursion}
+use Rattle.std.proofs.Common.{◌≡◌, ℕ, zero, suc, ◌^◌, ◌≤◌, ◌<◌, Bool, true, false, not, List, [], ◌∷◌, ◌++◌, length, refl, ap, ◌∙◌, append-nil, append_assoc, get_or, arith}
+use Rattle.std.specs.Prelude.{decimal, unwrap_or, map, nat_lt, nat_le, ◌==◌, ◌&&◌, ◌||◌}
+use Rattle.std.specs.List.{list_all, flat_map, onto_first, AllByRecursion}
 use Rattle.std.specs.Int.{IsInRange}
 use Rattle.std.specs.Str.Parse.{AllDigits}
 use Rattle.std.proofs.lemmas.Bool.{false≢true, and_parts, and_from}
@@ -131,9 +131,9 @@ or_visible false b c p q h = q h
 name_byte_visible : (c : ℕ) → is_name_byte c ≡ true → nat_lt 32 c ≡ true
 name_byte_visible c h =
     visible c (or_visible (is_small_letter c) ((nat_le 48 c && nat_le c 57) || (c == 95)) c
-      (λ p. omega (arith, le_told 97 c (and_parts (nat_le 97 c) (nat_le c 122) p).0))
-      (λ q. or_visible (nat_le 48 c && nat_le c 57) (c == 95) c (λ p. omega (arith, le_told 48 c (and_parts (nat_le 48 c) (nat_le c 57) p).0)) (λ p. omega (arith, eq_told c 95 p)) q)
-      h)
+    (λ p. omega (arith, le_told 97 c (and_parts (nat_le 97 c) (nat_le c 122) p).0))
+    (λ q. or_visible (nat_le 48 c && nat_le c 57) (c == 95) c (λ p. omega (arith, le_told 48 c (and_parts (nat_le 48 c) (nat_le c 57) p).0)) (λ p. omega (arith, eq_told c 95 p)) q)
+    h)
 
 name_bytes_word : (cs : List ℕ) → list_all is_name_byte cs ≡ true → is_word cs ≡ true
 name_bytes_word [] h = refl

@@ -1,6 +1,6 @@
 -- A word that was written is read again.
-use Rattle.std.proofs.Common.{◌≡◌, ℕ, zero, suc, ◌+◌, ◌*◌, ◌^◌, ◌≤◌, ◌<◌, Bool, true, false, not, List, [], ◌∷◌, ◌++◌, length, Option, Some, None, refl, ap, sym, ◌∙◌, append-nil, arith}
-use Rattle.std.specs.Prelude.{codes, decimal, unwrap_or, find, nat_lt, nat_le, ◌==◌, ◌&&◌, if◌then◌else◌, IsSome}
+use Rattle.std.proofs.Common.{◌≡◌, ℕ, ◌+◌, ◌*◌, ◌^◌, ◌≤◌, ◌<◌, Bool, true, false, not, List, [], ◌∷◌, length, Option, Some, None, refl, ap, sym, ◌∙◌, arith}
+use Rattle.std.specs.Prelude.{decimal, unwrap_or, nat_le, ◌==◌, ◌&&◌, if◌then◌else◌, IsSome}
 use Rattle.std.specs.List.{list_all}
 use Rattle.std.specs.Char.{is_ascii_digit, digit_value}
 use Rattle.std.specs.Int.{IsInRange}
@@ -11,7 +11,7 @@ use Rattle.std.proofs.lemmas.Bool.Decides.{nat_tests}
 use Rattle.std.proofs.lemmas.Str.{digit_value_digit}
 use Rattle.std.proofs.lemmas.Str.Parse.{digit_from_value}
 use Rattle.std.proofs.lemmas.Fmt.{decimal_is_IsNumeral}
-use Rattle.name_table.specs.Rows.{Named, row, number_in, name_in, is_one_to_one}
+use Rattle.name_table.specs.Rows.{Named, number_in, name_in}
 use Rattle.name_table.specs.Messages.{message_rows}
 use Rattle.name_table.specs.Constants.{constant_rows}
 use Rattle.name_table.proofs.RowsLemmas.{number_in-name_in}
@@ -29,7 +29,7 @@ use Rattle.script_text.specs.declared.line.Command.{Command}
 use Rattle.script_text.specs.declared.line.Command.TheVariants as commands
 use Rattle.script_text.specs.Words.{letter_word, variable_word, operator_word, comparison_word, command_word, operand_word}
 use Rattle.script_text.specs.Limits.{IsOperand}
-use Rattle.script_text.specs.Reading.{next_value, digits_at, number_at, letter_at, variable_at, operator_at, comparison_at, command_at, minus_at, message_operand, constant_operand, variable_operand, named_at, operand_at}
+use Rattle.script_text.specs.Reading.{next_value, digits_at, number_at, letter_at, variable_at, operator_at, comparison_at, command_at, minus_at, message_operand, constant_operand, named_at, operand_at}
 
 pub letter_again : (v : Letter) → letter_at (letter_word v) ≡ Some v
 unfolding letter_at

@@ -1,5 +1,5 @@
 -- What a builder has taken.
-use Rattle.std.specs.Prelude.{List, [], ◌∷◌, ◌++◌, map}
+use Rattle.std.specs.Prelude.{List, [], ◌∷◌, ◌++◌}
 use Rattle.std.specs.List.{flat_map}
 use Rattle.script_tree.specs.declared.statement.Statement.{Statement}
 use Rattle.script_text.specs.declared.line.Line.{Line}

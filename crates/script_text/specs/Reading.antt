@@ -1,6 +1,6 @@
 -- Taking a text apart, loosely: a number may have leading zeros, or be too large. Whether the text is
 -- the spelling of what was found is seen by spelling it again.
-use Rattle.std.specs.Prelude.{ℕ, ◌+◌, ◌-◌, ◌*◌, ◌^◌, min, Bool, ◌&&◌, ◌==◌, nat_le, nat_lt, if◌then◌else◌, List, [], ◌∷◌, ◌++◌, length, map, find, drop, take, codes, slice_index_or, Option, Some, None}
+use Rattle.std.specs.Prelude.{ℕ, ◌+◌, ◌-◌, ◌*◌, ◌^◌, min, ◌&&◌, ◌==◌, nat_le, nat_lt, if◌then◌else◌, List, [], ◌∷◌, ◌++◌, length, map, find, drop, take, codes, slice_index_or, Option, Some, None}
 use Rattle.std.specs.List.{slice_split, position_from}
 use Rattle.std.specs.Char.{is_ascii_digit}
 use Rattle.std.specs.Str.{bytes_eq}
@@ -61,10 +61,10 @@ all_letters = letters.A ∷ letters.B ∷ letters.C ∷ letters.D ∷ letters.E 
 
 abbrev pub all_variables : List Variable
 all_variables =
-  variables.Letter letters.A ∷ variables.Letter letters.B ∷ variables.Letter letters.C ∷ variables.Letter letters.D ∷
-  variables.Letter letters.E ∷ variables.Letter letters.F ∷ variables.Letter letters.G ∷ variables.Letter letters.H ∷
-  variables.Result ∷ variables.Error ∷ variables.GotWindow ∷ variables.GotMessage ∷ variables.GotWparam ∷ variables.GotLparam ∷ variables.GotTime ∷
-  variables.Window ∷ variables.Message ∷ variables.Wparam ∷ variables.Lparam ∷ []
+    variables.Letter letters.A ∷ variables.Letter letters.B ∷ variables.Letter letters.C ∷ variables.Letter letters.D ∷
+    variables.Letter letters.E ∷ variables.Letter letters.F ∷ variables.Letter letters.G ∷ variables.Letter letters.H ∷
+    variables.Result ∷ variables.Error ∷ variables.GotWindow ∷ variables.GotMessage ∷ variables.GotWparam ∷ variables.GotLparam ∷ variables.GotTime ∷
+    variables.Window ∷ variables.Message ∷ variables.Wparam ∷ variables.Lparam ∷ []
 
 abbrev pub all_operators : List Operator
 all_operators = operators.Plus ∷ operators.Minus ∷ operators.And ∷ operators.Or ∷ []
@@ -74,8 +74,8 @@ all_comparisons = comparisons.Equal ∷ comparisons.Different ∷ comparisons.Be
 
 abbrev pub all_commands : List Command
 all_commands =
-  commands.Thread ∷ commands.Let ∷ commands.If ∷ commands.Else ∷ commands.While ∷ commands.End ∷ commands.Peek ∷ commands.Get ∷
-  commands.Post ∷ commands.PostThread ∷ commands.PostQuit ∷ commands.Message ∷ commands.Yield ∷ []
+    commands.Thread ∷ commands.Let ∷ commands.If ∷ commands.Else ∷ commands.While ∷ commands.End ∷ commands.Peek ∷ commands.Get ∷
+    commands.Post ∷ commands.PostThread ∷ commands.PostQuit ∷ commands.Message ∷ commands.Yield ∷ []
 
 unfoldable pub letter_at : List ℕ → Option Letter
 letter_at word = find (λ v. bytes_eq (letter_word v) word) all_letters

@@ -21,10 +21,10 @@ line_text words = joined words ++ 10 ∷ []
 -- the lines before the threads
 abbrev pub head_words : Tree → List (List (List ℕ))
 head_words s =
-  (codes "user" ∷ codes "1" ∷ []) ∷
-  (codes "screen" ∷ decimal s.width ∷ decimal s.height ∷ []) ∷
-  (codes "budget" ∷ decimal s.budget ∷ []) ∷
-  (codes "order" ∷ map decimal s.order) ∷ []
+    (codes "user" ∷ codes "1" ∷ []) ∷
+    (codes "screen" ∷ decimal s.width ∷ decimal s.height ∷ []) ∷
+    (codes "budget" ∷ decimal s.budget ∷ []) ∷
+    (codes "order" ∷ map decimal s.order) ∷ []
 
 -- all lines
 abbrev pub script_words : Tree → List (List (List ℕ))

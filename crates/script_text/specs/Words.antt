@@ -1,5 +1,5 @@
 -- The words of a script.
-use Rattle.std.specs.Prelude.{ℕ, List, [], ◌∷◌, ◌++◌, map, codes, decimal, unwrap_or, slice_index_or}
+use Rattle.std.specs.Prelude.{ℕ, List, [], ◌∷◌, map, codes, decimal, unwrap_or, slice_index_or}
 use Rattle.name_table.specs.Rows.{name_in}
 use Rattle.name_table.specs.Messages.{message_rows}
 use Rattle.name_table.specs.Constants.{constant_rows}

@@ -6,8 +6,8 @@ ghost use Rattle.std.specs.List.{AllByRecursion};
 ghost use Rattle.script_text.specs.Reading.{word_at, split_at, test_at, let_at, compute_at, get_at, peek_at, post_at, post_thread_at, post_quit_at, call_line, plain_line_at, nameless_at, place_at, message_line, line_at, lines_at};
 
 use crate::line::{Command, Line};
-use crate::operands::{NameTables, operand_at};
 use crate::names::place_at;
+use crate::operands::{NameTables, operand_at};
 use crate::words::{command_at, comparison_at, letter_at, operator_at};
 use script_tree::{CallStatement, Name, Test};
 use std::alloc::{AllocError, Global};

@@ -22,7 +22,9 @@ pub struct NameTables {
 
 impl NameTables {
     /// Both tables.
-    pub fn new() -> NameTables {
+    pub fn new() -> NameTables
+        ensures { (result.messages ≡ message_rows) × (result.constants ≡ constant_rows) }
+    {
         NameTables {
             messages: messages(),
             constants: constants(),

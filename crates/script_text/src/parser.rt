@@ -111,11 +111,7 @@ fn program_at(
 }
 
 /// The script that a text may spell.
-pub fn parse(
-    alloc: Global,
-    tables: &NameTables,
-    bytes: &[u8],
-) -> Result<Option<Script>, AllocError>
+pub fn parse(alloc: Global, tables: &NameTables, bytes: &[u8]) -> Result<Option<Script>, AllocError>
     ensures fits { IfOk result (λ found. IfSome found IsFitting) }
     ensures again { IfOk result (λ found. (s : Tree) → IsScript s → bytes.now ≡ spelling s → FindsTree found s) }
 {

@@ -41,18 +41,9 @@ static VARIABLES: [Variable; 19] = [
     Variable::Lparam,
 ];
 
-static OPERATORS: [Operator; 4] = [
-    Operator::Plus,
-    Operator::Minus,
-    Operator::And,
-    Operator::Or,
-];
+static OPERATORS: [Operator; 4] = [Operator::Plus, Operator::Minus, Operator::And, Operator::Or];
 
-static COMPARISONS: [Comparison; 3] = [
-    Comparison::Equal,
-    Comparison::Different,
-    Comparison::Below,
-];
+static COMPARISONS: [Comparison; 3] = [Comparison::Equal, Comparison::Different, Comparison::Below];
 
 static COMMANDS: [Command; 13] = [
     Command::Thread,

@@ -46,11 +46,7 @@ fn put_some_word(out: &mut Vec<u8>, word: Option<&[u8]>) -> Result<(), AllocErro
 }
 
 /// Adds a blank and an operand.
-fn put_operand(
-    out: &mut Vec<u8>,
-    tables: &NameTables,
-    operand: Operand,
-) -> Result<(), AllocError>
+fn put_operand(out: &mut Vec<u8>, tables: &NameTables, operand: Operand) -> Result<(), AllocError>
     ensures { OnOk result (Adds out.old.items out.new.items (blank_word (operand_word operand))) }
 {
     match operand {
@@ -150,23 +146,48 @@ fn put_call(
 {
     match call {
         CallStatement::Peek(window, min, max, flags) => {
-            let parts = [Part::Operand(window), Part::Operand(min), Part::Operand(max), Part::Operand(flags)];
+            let parts = [
+                Part::Operand(window),
+                Part::Operand(min),
+                Part::Operand(max),
+                Part::Operand(flags),
+            ];
             put_words(out, tables, names, Command::Peek, &parts)
         }
         CallStatement::Get(window, min, max) => {
-            let parts = [Part::Operand(window), Part::Operand(min), Part::Operand(max)];
+            let parts = [
+                Part::Operand(window),
+                Part::Operand(min),
+                Part::Operand(max),
+            ];
             put_words(out, tables, names, Command::Get, &parts)
         }
         CallStatement::Post(window, message, wparam, lparam) => {
-            let parts = [Part::Operand(window), Part::Operand(message), Part::Operand(wparam), Part::Operand(lparam)];
+            let parts = [
+                Part::Operand(window),
+                Part::Operand(message),
+                Part::Operand(wparam),
+                Part::Operand(lparam),
+            ];
             put_words(out, tables, names, Command::Post, &parts)
         }
         CallStatement::PostThread(thread, message, wparam, lparam) => {
-            let parts = [Part::Operand(thread), Part::Operand(message), Part::Operand(wparam), Part::Operand(lparam)];
+            let parts = [
+                Part::Operand(thread),
+                Part::Operand(message),
+                Part::Operand(wparam),
+                Part::Operand(lparam),
+            ];
             put_words(out, tables, names, Command::PostThread, &parts)
         }
         CallStatement::PostQuit(value) => {
-            put_words(out, tables, names, Command::PostQuit, &[Part::Operand(value)])
+            put_words(
+                out,
+                tables,
+                names,
+                Command::PostQuit,
+                &[Part::Operand(value)],
+            )
         }
         CallStatement::Message(place) => {
             put_words(out, tables, names, Command::Message, &[Part::Name(place)])
@@ -191,7 +212,12 @@ fn put_line(
             put_words(out, tables, names, Command::Let, &parts)
         }
         Line::Compute(letter, left, operator, right) => {
-            let parts = [Part::Letter(letter), Part::Operand(left), Part::Operator(operator), Part::Operand(right)];
+            let parts = [
+                Part::Letter(letter),
+                Part::Operand(left),
+                Part::Operator(operator),
+                Part::Operand(right),
+            ];
             put_words(out, tables, names, Command::Let, &parts)
         }
         Line::If(test) => put_test(out, tables, names, Command::If, test),

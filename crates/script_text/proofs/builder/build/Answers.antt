@@ -1,4 +1,4 @@
-use Rattle.std.proofs.Common.{◌≡◌, Some, true, false, sym, ap, ◌∙◌, rules}
+use Rattle.std.proofs.Common.{sym}
 use Rattle.script_text.specs.Building.{kinds}
 use Rattle.script_text.proofs.BuildLemmas.{refused}
 use Rattle.script_text.proofs.builder.build.Goals as goal

@@ -1,4 +1,4 @@
-use Rattle.std.proofs.Common.{ap, sym, arith}
+use Rattle.std.proofs.Common.{ap, sym}
 use Rattle.script_text.specs.Limits.{within_count}
 use Rattle.script_text.proofs.LimitLemmas.{unseen, past_count}
 use Rattle.script_text.proofs.limits.are_in_order.Goals as goal

@@ -1,4 +1,4 @@
-use Rattle.std.proofs.Common.{arith, sym}
+use Rattle.std.proofs.Common.{sym}
 use Rattle.script_text.specs.Limits.{IsLine}
 use Rattle.script_text.proofs.LineLoops.{lines_more, lines_none, lines_over, all_push}
 use Rattle.script_text.proofs.line_reader.lines_at.Goals as goal

@@ -1,4 +1,4 @@
-use Rattle.std.proofs.Common.{◌≡◌, length, true, false, None, Option, sym, ◌∙◌}
+use Rattle.std.proofs.Common.{sym, ◌∙◌}
 use Rattle.std.proofs.lemmas.Bool.{false≢true}
 use Rattle.script_text.proofs.PartsAgain.{no_lines, these_lines, order_kept, nests_kept}
 use Rattle.script_text.proofs.parser.program_at.Goals as goal

@@ -1,7 +1,5 @@
-use Rattle.std.proofs.Common.{◌≡◌, ◌≤◌, length, sym, ap, ◌∙◌, arith, refl}
+use Rattle.std.proofs.Common.{◌≡◌, sym, ◌∙◌, refl}
 use Rattle.std.proofs.lemmas.Bool.{false≢true}
-use Rattle.script_text.specs.Spelling.{spelling}
-use Rattle.script_text.proofs.LimitLemmas.{script_of}
 use Rattle.script_text.proofs.PartsAgain.{same_spelling}
 use Rattle.script_text.proofs.reader.read.Goals as goal
 

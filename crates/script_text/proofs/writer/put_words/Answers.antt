@@ -1,4 +1,4 @@
-use Rattle.std.proofs.Common.{◌≡◌, ◌++◌, ◌∷◌, [], ap, List, ℕ, ◌∙◌}
+use Rattle.std.proofs.Common.{◌++◌, ◌∷◌, [], ap, List, ℕ, ◌∙◌}
 use Rattle.std.specs.List.{flat_map}
 use Rattle.user_io.proofs.Texts.{two}
 use Rattle.script_text.specs.Words.{command_word, part_word}

@@ -1,7 +1,6 @@
 use Rattle.std.proofs.Common.{◌≡◌, ◌++◌, ℕ, List, ap, ◌∙◌}
 use Rattle.std.specs.Prelude.{map}
 use Rattle.std.specs.List.{flat_map}
-use Rattle.script_tree.specs.declared.statement.Statement.{Statement}
 use Rattle.script_text.specs.Lines.{script_lines, thread_lines}
 use Rattle.script_text.specs.Words.{line_words}
 use Rattle.script_text.specs.Spelling.{head_text, line_text}
