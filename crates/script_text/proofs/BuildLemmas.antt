@@ -5,12 +5,12 @@ use Rattle.std.specs.List.{flat_map}
 use Rattle.std.proofs.lemmas.List.{drop_more}
 use Rattle.std.proofs.lemmas.Bool.Decides.{nat_tests}
 use Rattle.script_tree.specs.declared.statement.Statement.{Statement, Row_of-Statement, end_of-Statement, more_of-Statement, items-the_row-Statement}
-use Rattle.script_text.specs.declared.line.Line.{Line}
-use Rattle.script_text.specs.declared.line.Line.TheVariants.{End}
+use Rattle.script_lines.specs.declared.line.Line.{Line}
+use Rattle.script_lines.specs.declared.line.Line.TheVariants.{End}
 use Rattle.script_text.specs.declared.builder.Block.{Block}
-use Rattle.script_text.specs.Lines.{statement_lines, row_lines, body_lines, thread_lines}
-use Rattle.script_text.specs.Nesting.{Kind, nested, nested_all, none_open, nests, block_opened, thread_opened, thread_closed}
 use Rattle.script_text.specs.Building.{kinds, opening_lines, open_lines, built_lines}
+use Rattle.script_text.specs.Lines.{statement_lines, row_lines, body_lines, thread_lines}
+use Rattle.script_text.specs.Nesting.{nested, Kind, nested_all, none_open, nests, block_opened, thread_opened, thread_closed}
 
 pub length_kinds : (bs : List Block) → length (kinds bs) ≡ length bs
 length_kinds [] = refl

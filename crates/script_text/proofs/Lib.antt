@@ -1,9 +1,4 @@
-pub mod NameLemmas
-pub mod LineLoops
 pub mod BuildLemmas
 pub mod Puts
 pub mod LimitLemmas
-pub mod WordsAgain
-pub mod TextsAgain
-pub mod LinesAgain
 pub mod PartsAgain

@@ -1,20 +1,19 @@
 -- The limits as tests.
-use Rattle.std.proofs.Common.{◌≡◌, ℕ, ◌+◌, ◌≤◌, ◌<◌, Bool, true, false, List, [], ◌∷◌, length, drop, get_or, Option, Some, None, refl, ap, sym, ◌∙◌, arith}
+use Rattle.std.proofs.Common.{◌≡◌, ℕ, ◌+◌, ◌≤◌, ◌<◌, Bool, true, false, List, length, drop, get_or, Option, Some, None, refl, ap, sym, ◌∙◌, arith}
 use Rattle.std.specs.Prelude.{◌&&◌, nat_lt, nat_le, if◌then◌else◌}
 use Rattle.std.specs.List.{list_all, AllByRecursion}
 use Rattle.std.proofs.lemmas.Bool.{false≢true}
 use Rattle.std.proofs.lemmas.Bool.Decides.{nat_tests}
 use Rattle.std.proofs.lemmas.List.{drop_more}
 use Rattle.script_tree.specs.Tree.{Tree}
-use Rattle.script_text.specs.declared.line.Line.{Line}
+use Rattle.script_lines.specs.declared.line.Line.{Line}
+use Rattle.script_lines.specs.LineLimits.{IsLine}
+use Rattle.script_lines.specs.NameLimits.{AreNames, within_count, all_seen, seen_on, seen_all, are_in_order}
+use Rattle.script_lines.proofs.LinesAgain.{none_seen}
+use Rattle.script_text.specs.Limits.{IsScript, is_turn, is_within}
 use Rattle.script_text.specs.Lines.{script_lines}
-use Rattle.script_text.specs.Spelling.{spelling}
-use Rattle.script_text.specs.Limits.{IsLine, IsScript, AreNames, is_turn, is_within, within_count, all_seen, seen_on, seen_all, are_in_order}
 use Rattle.script_text.specs.Nesting.{nests}
-
-pub none_seen : (count : ℕ) (ls : List Line) → seen_all count None ls ≡ None
-none_seen count [] = refl
-none_seen count (l ∷ ls) = none_seen count ls
+use Rattle.script_text.specs.Spelling.{spelling}
 
 -- a line whose name is out of order
 pub unseen : (count : ℕ) (lines : List Line) (i : ℕ) (d : Line) (seen : ℕ) → i < length lines → seen_on count (Some seen) (get_or lines i d) ≡ None → seen_all count (Some seen) (drop i lines) ≡ seen_all count (Some 0) lines → are_in_order count lines ≡ false

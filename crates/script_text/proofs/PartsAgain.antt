@@ -9,19 +9,22 @@ use Rattle.std.proofs.lemmas.List.Concat.{flat_map-append}
 use Rattle.script_tree.specs.Tree.{Tree}
 use Rattle.script_tree.specs.declared.statement.Statement.{Statement, Row_of-Statement, end_of-Statement, more_of-Statement}
 use Rattle.script_tree.specs.declared.statement.Statement.TheVariants as statements
-use Rattle.script_text.specs.declared.line.Line.{Line}
-use Rattle.script_text.specs.declared.line.Line.TheVariants as lines
+use Rattle.script_lines.specs.declared.line.Line.{Line}
+use Rattle.script_lines.specs.declared.line.Line.TheVariants as lines
+use Rattle.script_lines.specs.LineReading.{Names, split_at, word_at, texts_of, lines_at}
+use Rattle.script_lines.specs.LineTexts.{blank_word, joined, line_text}
+use Rattle.script_lines.specs.NameLimits.{are_in_order}
+use Rattle.script_lines.specs.Words.{line_words}
+use Rattle.script_text.specs.Limits.{IsScript, is_turn, is_within}
 use Rattle.script_text.specs.Lines.{script_lines, thread_lines, statement_lines, row_lines, body_lines}
-use Rattle.script_text.specs.Words.{line_words}
-use Rattle.script_text.specs.Spelling.{blank_word, joined, line_text, head_words, script_words, head_text, spelling}
 use Rattle.script_text.specs.Nesting.{nests}
-use Rattle.script_text.specs.Limits.{IsScript, is_turn, are_in_order, is_within}
-use Rattle.script_text.specs.Refusals.{IsSame}
 use Rattle.script_text.specs.Programs.{IsProgram, IsFitting}
-use Rattle.script_text.specs.Reading.{Names, split_at, word_at, small_number_at, texts_of, width_at, height_at, budget_at, order_at, lines_at}
-use Rattle.script_text.proofs.WordsAgain.{number_again}
-use Rattle.script_text.proofs.TextsAgain.{is_word, decimal_word, is_line_of_words, lines_are_words, words_again, texts_again}
-use Rattle.script_text.proofs.LinesAgain.{lines_again}
+use Rattle.script_text.specs.Reading.{small_number_at, width_at, height_at, budget_at, order_at}
+use Rattle.script_text.specs.Refusals.{IsSame}
+use Rattle.script_text.specs.Spelling.{head_words, script_words, head_text, spelling}
+use Rattle.script_lines.proofs.WordsAgain.{number_again}
+use Rattle.script_lines.proofs.TextsAgain.{is_word, decimal_word, is_line_of_words, lines_are_words, words_again, texts_again}
+use Rattle.script_lines.proofs.LinesAgain.{lines_again}
 
 front : (xs : List (List ℕ)) (x : List ℕ) → take (length xs) (xs ++ x ∷ []) ≡ xs
 front [] x = refl

@@ -2,8 +2,8 @@
 use Rattle.std.specs.Prelude.{List, [], ◌∷◌, ◌++◌}
 use Rattle.std.specs.List.{flat_map}
 use Rattle.script_tree.specs.declared.statement.Statement.{Statement}
-use Rattle.script_text.specs.declared.line.Line.{Line}
-use Rattle.script_text.specs.declared.line.Line.TheVariants as lines
+use Rattle.script_lines.specs.declared.line.Line.{Line}
+use Rattle.script_lines.specs.declared.line.Line.TheVariants as lines
 use Rattle.script_text.specs.declared.builder.Opening.{Opening}
 use Rattle.script_text.specs.declared.builder.Opening.TheVariants.{Thread, If, Else, While}
 use Rattle.script_text.specs.declared.builder.Block.{Block}

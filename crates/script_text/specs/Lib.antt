@@ -1,5 +1,10 @@
+pub use Rattle.script_lines.specs.Words
+pub use Rattle.script_lines.specs.LineTexts
+pub use Rattle.script_lines.specs.LineLimits
+pub use Rattle.script_lines.specs.NameLimits
+pub use Rattle.script_lines.specs.LineReading
+
 pub mod Lines
-pub mod Words
 pub mod Spelling
 pub mod Limits
 pub mod Reading

@@ -4,8 +4,8 @@ use Rattle.std.specs.List.{flat_map}
 use Rattle.script_tree.specs.declared.statement.Statement.{Statement, Row_of-Statement, end_of-Statement, more_of-Statement}
 use Rattle.script_tree.specs.declared.statement.Statement.TheVariants.{Let, Compute, If', IfElse', While', Call}
 use Rattle.script_tree.specs.Tree.{Tree}
-use Rattle.script_text.specs.declared.line.Line.{Line}
-use Rattle.script_text.specs.declared.line.Line.TheVariants.{Thread, Let as LetLine, Compute as ComputeLine, If as IfLine, Else, While as WhileLine, End, Call as CallLine}
+use Rattle.script_lines.specs.declared.line.Line.{Line}
+use Rattle.script_lines.specs.declared.line.Line.TheVariants.{Thread, Let as LetLine, Compute as ComputeLine, If as IfLine, Else, While as WhileLine, End, Call as CallLine}
 
 abbrev mutual
   -- the lines of a statement

@@ -1,7 +1,7 @@
 -- How blocks nest, line by line.
 use Rattle.std.specs.Prelude.{Bool, true, false, nat_lt, if◌then◌else◌, List, [], ◌∷◌, length, Option, Some, None}
-use Rattle.script_text.specs.declared.line.Line.{Line}
-use Rattle.script_text.specs.declared.line.Line.TheVariants.{Thread, Let, Compute, If, Else, While, End, Call}
+use Rattle.script_lines.specs.declared.line.Line.{Line}
+use Rattle.script_lines.specs.declared.line.Line.TheVariants.{Thread, Let, Compute, If, Else, While, End, Call}
 
 -- what stands open
 pub data Kind : Type 0 where

@@ -2,11 +2,13 @@
 use Rattle.std.specs.Prelude.{◌≡◌, ℕ, true, List, length, Option, Some, None}
 use Rattle.std.specs.List.{AllByRecursion, flat_map}
 use Rattle.script_tree.specs.Tree.{Tree}
-use Rattle.script_text.specs.declared.line.Line.{Line}
+use Rattle.script_lines.specs.declared.line.Line.{Line}
 use Rattle.script_text.specs.declared.parser.Program.{Program}
+use Rattle.script_lines.specs.LineLimits.{IsLine}
+use Rattle.script_lines.specs.NameLimits.{AreNames, are_in_order}
+use Rattle.script_text.specs.Limits.{is_within}
 use Rattle.script_text.specs.Lines.{script_lines, thread_lines}
 use Rattle.script_text.specs.Nesting.{nests}
-use Rattle.script_text.specs.Limits.{AreNames, IsLine, are_in_order, is_within}
 use Rattle.script_text.specs.Refusals.{IsSame}
 
 -- names and lines within the limits

@@ -5,8 +5,8 @@ use Rattle.script_text.specs.declared.fault.Reason.TheVariants.{Later}
 use Rattle.script_text.specs.declared.fault.Refusal.{Refusal}
 use Rattle.script_text.specs.declared.fault.ReadFault.{ReadFault}
 use Rattle.script_text.specs.declared.fault.ReadFault.TheVariants as faults
-use Rattle.script_text.specs.Lines.{script_lines}
 use Rattle.script_text.specs.Limits.{IsScript}
+use Rattle.script_text.specs.Lines.{script_lines}
 use Rattle.script_text.specs.Spelling.{spelling}
 
 -- no script has this text

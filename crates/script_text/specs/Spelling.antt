@@ -2,21 +2,9 @@
 use Rattle.std.specs.Prelude.{ℕ, List, [], ◌∷◌, ◌++◌, map, codes, decimal}
 use Rattle.std.specs.List.{flat_map}
 use Rattle.script_tree.specs.Tree.{Tree}
+use Rattle.script_lines.specs.LineTexts.{blank_word, line_text}
+use Rattle.script_lines.specs.Words.{line_words}
 use Rattle.script_text.specs.Lines.{script_lines}
-use Rattle.script_text.specs.Words.{line_words}
-
--- a blank and a word
-abbrev pub blank_word : List ℕ → List ℕ
-blank_word word = 32 ∷ word
-
--- words with a blank between each two
-abbrev pub joined : List (List ℕ) → List ℕ
-joined [] = []
-joined (word ∷ words) = word ++ flat_map blank_word words
-
--- words as a line
-abbrev pub line_text : List (List ℕ) → List ℕ
-line_text words = joined words ++ 10 ∷ []
 
 -- the lines before the threads
 abbrev pub head_words : Tree → List (List (List ℕ))

@@ -2,12 +2,12 @@
 
 ghost use Rattle.std.specs.Prelude.{◌≡◌, ◌++◌, ◌∷◌, [], IfOk, IfSome, OnOk, is_some, true, Some, None, if◌then◌else◌};
 ghost use Rattle.std.specs.List.{flat_map};
+ghost use Rattle.script_text.specs.Building.{opening_lines, open_lines, built_lines, kind_of, kinds};
 ghost use Rattle.script_text.specs.Lines.{thread_lines, body_lines, statement_lines};
 ghost use Rattle.script_text.specs.Nesting.{nested, nests, none_open, block_entered, block_opened, else_opened, thread_opened, thread_closed, block_closed};
-ghost use Rattle.script_text.specs.declared.line.Line.TheVariants.{Thread, If, Else, While, End};
-ghost use Rattle.script_text.specs.Building.{opening_lines, open_lines, built_lines, kind_of, kinds};
+ghost use Rattle.script_lines.specs.declared.line.Line.TheVariants.{Thread, If, Else, While, End};
 
-use crate::line::Line;
+use script_lines::Line;
 use script_tree::{Body, Statement, Test};
 use std::alloc::{AllocError, Global};
 use std::collections::VecDeque;

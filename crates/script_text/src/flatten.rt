@@ -4,7 +4,7 @@ ghost use Rattle.std.specs.Prelude.{◌≡◌, ◌++◌, OnOk, IfOk};
 ghost use Rattle.std.specs.List.{flat_map};
 ghost use Rattle.script_text.specs.Lines.{statement_lines, body_lines, thread_lines};
 
-use crate::line::Line;
+use script_lines::Line;
 use script_tree::{Body, Statement};
 use std::alloc::{AllocError, Global};
 

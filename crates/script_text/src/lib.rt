@@ -40,13 +40,8 @@ mod builder;
 mod fault;
 mod flatten;
 mod limits;
-mod line;
-mod line_reader;
-mod names;
-mod operands;
 mod parser;
 mod reader;
-mod words;
 mod writer;
 
 pub use fault::{ReadFault, Reason, Refusal};

@@ -2,9 +2,10 @@
 
 ghost use Rattle.std.specs.Prelude.{◌≡◌, ◌<◌, ◌≤◌};
 ghost use Rattle.std.specs.List.{list_all};
-ghost use Rattle.script_text.specs.Limits.{is_within, is_turn, name_in_call, name_in_line, seen_after, are_in_order};
+ghost use Rattle.script_lines.specs.NameLimits.{name_in_call, name_in_line, seen_after, are_in_order};
+ghost use Rattle.script_text.specs.Limits.{is_within, is_turn};
 
-use crate::line::Line;
+use script_lines::Line;
 use script_tree::{CallStatement, Script};
 
 /// How many bytes the text of a script has at most.

@@ -1,33 +1,24 @@
 //! Taking a text apart, loosely: a number may have leading zeros, or be too large. Whether the text is
 //! the spelling of what was found is seen by spelling it again.
 
-ghost use Rattle.std.specs.Prelude.{◌≡◌, ℕ, List, IfOk, IfSome, map, drop};
+ghost use Rattle.std.specs.Prelude.{◌≡◌, ℕ, List, IfOk, IfSome, map};
 ghost use Rattle.std.specs.List.{flat_map};
 ghost use Rattle.script_tree.specs.Tree.{Tree};
-ghost use Rattle.script_text.specs.declared.line.Line.{Line};
-ghost use Rattle.script_text.specs.Lines.{thread_lines};
-ghost use Rattle.script_text.specs.Words.{line_words};
-ghost use Rattle.script_text.specs.Spelling.{joined, spelling};
+ghost use Rattle.script_lines.specs.declared.line.Line.{Line};
+ghost use Rattle.script_lines.specs.LineReading.{split_at, texts_of};
+ghost use Rattle.script_lines.specs.LineTexts.{joined};
+ghost use Rattle.script_lines.specs.Words.{line_words};
 ghost use Rattle.script_text.specs.Limits.{IsScript};
-ghost use Rattle.script_text.specs.Reading.{split_at, small_number_at, texts_of, width_at, height_at, budget_at, order_at};
+ghost use Rattle.script_text.specs.Lines.{thread_lines};
 ghost use Rattle.script_text.specs.Programs.{IsProgram, Finds, IsFitting, FindsTree};
+ghost use Rattle.script_text.specs.Reading.{small_number_at, width_at, height_at, budget_at, order_at};
+ghost use Rattle.script_text.specs.Spelling.{spelling};
 
 use crate::builder::build;
 use crate::limits::{are_in_order, fits};
-use crate::line_reader::{lines_at, split_at, word_at};
-use crate::operands::{NameTables, number_at};
+use script_lines::{NameTables, lines_at, number_at, split_at, texts_of, word_at};
 use script_tree::{Body, Name, Script};
 use std::alloc::{AllocError, Global};
-
-/// The lines of a text, without what stands behind the last line feed.
-#[tactic(auto, unfolding(crate::specs::Reading::texts_of))]
-fn texts_of<'a>(alloc: Global, bytes: &'a [u8]) -> Result<Vec<&'a [u8]>, AllocError>
-    ensures { IfOk result (λ v. map (λ w. w.now) v.items ≡ texts_of bytes.now) }
-{
-    let mut texts = split_at(alloc, bytes, b'\n')?;
-    texts.pop();
-    Ok(texts)
-}
 
 /// A number, or the greatest that may stand there where it is too large.
 fn small_number_at(most: u64, word: &[u8]) -> u64

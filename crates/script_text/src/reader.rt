@@ -3,14 +3,14 @@
 ghost use Rattle.std.specs.Prelude.{◌≡◌, ◌↔◌, IsTrue, IfOk, IfErr};
 ghost use Rattle.script_tree.specs.Tree.{Tree};
 ghost use Rattle.script_text.specs.Limits.{IsScript};
-ghost use Rattle.script_text.specs.Spelling.{spelling};
 ghost use Rattle.script_text.specs.Refusals.{HasCause, IsSame};
+ghost use Rattle.script_text.specs.Spelling.{spelling};
 
 use crate::fault::{ReadFault, Reason, Refusal};
 use crate::limits::SCRIPT_LIMIT;
-use crate::operands::NameTables;
 use crate::parser::parse;
 use crate::writer::write_with;
+use script_lines::NameTables;
 use script_tree::Script;
 use std::alloc::Global;
 

@@ -8,13 +8,15 @@ use Rattle.script_tree.specs.declared.operand.Test.{Test}
 use Rattle.script_tree.specs.declared.statement.Statement.{Statement, Row_of-Statement, end_of-Statement, more_of-Statement, items-the_row-Statement, the_lemmas}
 use Rattle.script_tree.specs.declared.statement.Statement.TheVariants.{While}
 use Rattle.script_tree.specs.Tree.{Tree}
-use Rattle.script_text.specs.declared.line.Line.{Line}
-use Rattle.script_text.specs.declared.line.Line.TheVariants.{Thread, While as WhileLine, End}
+use Rattle.script_lines.specs.declared.line.Line.{Line}
+use Rattle.script_lines.specs.declared.line.Line.TheVariants.{Thread, While as WhileLine, End}
+use Rattle.script_lines.specs.LineLimits.{IsLine}
+use Rattle.script_lines.specs.LineTexts.{line_text}
+use Rattle.script_lines.specs.NameLimits.{are_in_order}
+use Rattle.script_lines.specs.Words.{line_words}
 use Rattle.script_text.specs.Lines.{statement_lines, row_lines, body_lines, thread_lines, script_lines}
-use Rattle.script_text.specs.Limits.{IsLine, are_in_order}
 use Rattle.script_text.specs.Nesting.{nests}
-use Rattle.script_text.specs.Spelling.{spelling, line_text, head_words}
-use Rattle.script_text.specs.Words.{line_words}
+use Rattle.script_text.specs.Spelling.{spelling, head_words}
 use Rattle.user_app.specs.Made.{made_text, IsMade, sender_lines, receiver_lines}
 
 -- the lines of a row are those of its statements

@@ -11,8 +11,8 @@ use Rattle.script_tree.specs.declared.operand.Test.{Test}
 use Rattle.script_tree.specs.declared.statement.CallStatement.{CallStatement}
 use Rattle.script_tree.specs.declared.statement.CallStatement.TheVariants.{Get, PostThread}
 use Rattle.script_tree.specs.Tree.{Tree}
-use Rattle.script_text.specs.declared.line.Line.{Line}
-use Rattle.script_text.specs.declared.line.Line.TheVariants.{Compute, While, End, Call}
+use Rattle.script_lines.specs.declared.line.Line.{Line}
+use Rattle.script_lines.specs.declared.line.Line.TheVariants.{Compute, While, End, Call}
 use Rattle.script_text.specs.Limits.{IsScript}
 use Rattle.script_text.specs.Spelling.{spelling}
 

@@ -1,7 +1,7 @@
 //! The script that is made from a number.
 
 ghost use Rattle.std.specs.Prelude.{◌≡◌, ◌<◌, ◌≤◌, [], ◌∷◌, ◌++◌, IfOk};
-ghost use Rattle.script_text.specs.declared.line.Line.TheVariants.{While, End};
+ghost use Rattle.script_lines.specs.declared.line.Line.TheVariants.{While, End};
 ghost use Rattle.script_text.specs.Lines.{statement_lines, body_lines};
 ghost use Rattle.user_app.specs.Made.{IsMade, letter, post, get_any, fewer, goes_on, sender_lines, receiver_lines};
 

@@ -1,6 +1,6 @@
 use Rattle.std.proofs.Common.{◌≡◌, drop, take, Some, []}
-use Rattle.script_text.specs.Nesting.{nested_all}
 use Rattle.script_text.specs.Building.{built_lines, kinds}
+use Rattle.script_text.specs.Nesting.{nested_all}
 use Rattle.script_text.proofs.builder.build.Given as goal
 
 abbrev pub invariant-loop-line : goal.invariant-loop-line

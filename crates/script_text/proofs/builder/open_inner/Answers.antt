@@ -1,6 +1,6 @@
 use Rattle.std.proofs.Common.{◌≡◌, ◌≤◌, ◌<◌, List, Option, Some, length, arith, sym, ap, ◌∙◌}
-use Rattle.script_text.specs.Nesting.{Kind}
 use Rattle.script_text.specs.Building.{kinds, kind_of}
+use Rattle.script_text.specs.Nesting.{Kind}
 use Rattle.script_text.proofs.BuildLemmas.{length_kinds, none_opened, too_deep, one_opened, not_zero, is_zero}
 use Rattle.script_text.proofs.builder.open_inner.Goals as goal
 use Rattle.script_text.proofs.builder.open_inner.Goals.{then-is_empty-via-then-is_empty, then-is_empty-via-else-is_empty+then-len-ge-OPEN_LIMIT}

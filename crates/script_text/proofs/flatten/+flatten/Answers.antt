@@ -1,8 +1,8 @@
 use Rattle.std.proofs.Common.{◌≡◌, ◌++◌, ◌∷◌, [], List, sym, ap, ◌∙◌, rules}
 use Rattle.script_tree.specs.declared.statement.Statement.{Statement}
 use Rattle.script_tree.specs.declared.statement.Statement.TheViews.{the_lemmas}
-use Rattle.script_text.specs.declared.line.Line.{Line}
-use Rattle.script_text.specs.declared.line.Line.TheVariants.{If, Else, While, End}
+use Rattle.script_lines.specs.declared.line.Line.{Line}
+use Rattle.script_lines.specs.declared.line.Line.TheVariants.{If, Else, While, End}
 use Rattle.script_text.specs.Lines.{statement_lines, body_lines}
 use Rattle.script_text.proofs.BuildLemmas.{row_is}
 use Rattle.script_text.proofs.Puts.{block_put, both_put}

@@ -1,5 +1,5 @@
 use Rattle.std.proofs.Common.{ap, sym}
-use Rattle.script_text.specs.Limits.{within_count}
+use Rattle.script_lines.specs.NameLimits.{within_count}
 use Rattle.script_text.proofs.LimitLemmas.{unseen, past_count}
 use Rattle.script_text.proofs.limits.are_in_order.Goals as goal
 

@@ -1,5 +1,5 @@
 use Rattle.std.proofs.Common.{◌≡◌, ◌≤◌, drop, Some}
-use Rattle.script_text.specs.Limits.{seen_all}
+use Rattle.script_lines.specs.NameLimits.{seen_all}
 use Rattle.script_text.proofs.limits.are_in_order.Given as goal
 
 abbrev pub invariant-loop-line : goal.invariant-loop-line

@@ -1,8 +1,8 @@
 use Rattle.std.proofs.Common.{ℕ, List, Bor, sym, ap, ◌∙◌}
 use Rattle.std.specs.Prelude.{map}
+use Rattle.script_text.specs.Lines.{script_lines}
 use Rattle.script_text.specs.Reading.{width_at, height_at, budget_at, order_at}
 use Rattle.std.proofs.lemmas.Bool.{false≢true}
-use Rattle.script_text.specs.Lines.{script_lines}
 use Rattle.script_text.proofs.LimitLemmas.{within_of}
 use Rattle.script_text.proofs.PartsAgain.{apart_of, rest_of, too_short, program_of, same_tree, within_same, fitting_tree}
 use Rattle.script_text.proofs.parser.parse.Goals as goal

@@ -1,6 +1,6 @@
 use Rattle.std.proofs.Common.{◌≡◌, rules, arith}
 use Rattle.user_io.proofs.Texts.{two}
-use Rattle.script_text.proofs.Puts.{adds_along}
+use Rattle.script_lines.proofs.Puts.{adds_along}
 use Rattle.script_text.proofs.PartsAgain.{head_same}
 use Rattle.script_text.proofs.writer.put_head.Goals as goal
 

@@ -2,8 +2,8 @@ use Rattle.std.proofs.Common.{take}
 use Rattle.std.specs.Prelude.{map}
 use Rattle.std.specs.List.{flat_map}
 use Rattle.user_io.specs.Text.{Adds}
-use Rattle.script_text.specs.Words.{line_words}
-use Rattle.script_text.specs.Spelling.{line_text}
+use Rattle.script_lines.specs.LineTexts.{line_text}
+use Rattle.script_lines.specs.Words.{line_words}
 use Rattle.script_text.proofs.writer.put_lines.Given as goal
 
 abbrev pub invariant-loop-line : goal.invariant-loop-line

@@ -1,9 +1,10 @@
 use Rattle.std.proofs.Common.{◌≡◌, ◌++◌, ℕ, List, ap, ◌∙◌}
 use Rattle.std.specs.Prelude.{map}
 use Rattle.std.specs.List.{flat_map}
+use Rattle.script_lines.specs.LineTexts.{line_text}
+use Rattle.script_lines.specs.Words.{line_words}
 use Rattle.script_text.specs.Lines.{script_lines, thread_lines}
-use Rattle.script_text.specs.Words.{line_words}
-use Rattle.script_text.specs.Spelling.{head_text, line_text}
+use Rattle.script_text.specs.Spelling.{head_text}
 use Rattle.script_text.proofs.PartsAgain.{written}
 use Rattle.script_text.proofs.writer.write_with.Goals as goal
 

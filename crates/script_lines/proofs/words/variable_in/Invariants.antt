@@ -1,0 +1,8 @@
+use Rattle.std.proofs.Common.{◌≡◌, drop}
+use Rattle.std.specs.Prelude.{find}
+use Rattle.std.specs.Str.{bytes_eq}
+use Rattle.script_lines.specs.Words.{variable_word}
+use Rattle.script_lines.proofs.words.variable_in.Given as goal
+
+abbrev pub invariant-loop-v : goal.invariant-loop-v
+invariant-loop-v l = find (λ v. bytes_eq (variable_word v) l.word) (drop l.v-index l.all) ≡ find (λ v. bytes_eq (variable_word v) l.word) l.all

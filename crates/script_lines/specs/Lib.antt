@@ -1,0 +1,5 @@
+pub mod Words
+pub mod LineTexts
+pub mod LineLimits
+pub mod NameLimits
+pub mod LineReading

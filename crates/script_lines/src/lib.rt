@@ -1,0 +1,17 @@
+//! The words and the lines of a script's threads, both ways: a line from its words, and its text.
+#![tactic(auto)]
+
+mod line;
+mod line_reader;
+mod line_writer;
+mod names;
+mod operands;
+mod words;
+
+pub use line::{Command, Line, Part};
+pub use line_reader::{lines_at, split_at, texts_of, word_at};
+pub use line_writer::put_line;
+pub use operands::{NameTables, number_at};
+
+#[cfg(test)]
+mod tests;

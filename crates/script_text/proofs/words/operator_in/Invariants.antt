@@ -1,8 +1,0 @@
-use Rattle.std.proofs.Common.{◌≡◌, drop}
-use Rattle.std.specs.Prelude.{find}
-use Rattle.std.specs.Str.{bytes_eq}
-use Rattle.script_text.specs.Words.{operator_word}
-use Rattle.script_text.proofs.words.operator_in.Given as goal
-
-abbrev pub invariant-loop-v : goal.invariant-loop-v
-invariant-loop-v l = find (λ v. bytes_eq (operator_word v) l.word) (drop l.v-index l.all) ≡ find (λ v. bytes_eq (operator_word v) l.word) l.all

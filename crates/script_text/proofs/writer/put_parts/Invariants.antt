@@ -1,9 +1,0 @@
-use Rattle.std.proofs.Common.{take}
-use Rattle.std.specs.List.{flat_map}
-use Rattle.user_io.specs.Text.{Adds}
-use Rattle.script_text.specs.Words.{part_word}
-use Rattle.script_text.specs.Spelling.{blank_word}
-use Rattle.script_text.proofs.writer.put_parts.Given as goal
-
-abbrev pub invariant-loop-part : goal.invariant-loop-part
-invariant-loop-part l = Adds l.initial.out.items l.out.items (flat_map (λ p. blank_word (part_word l.names p)) (take l.part-index l.parts))
