@@ -2,11 +2,13 @@
 #![tactic(auto)]
 
 mod app;
+mod laws;
 mod made;
 mod request;
 mod status;
 
 pub use app::user_plain;
+pub use laws::{one_log, one_output};
 pub use status::Status;
 
 /// The traits of the outside, their forms in memory, and the adapters over std's reader and writer.

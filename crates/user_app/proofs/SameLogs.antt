@@ -1,0 +1,83 @@
+-- Two trees that say the same have the same logs.
+use Rattle.std.proofs.Common.{◌≡◌, ℕ, zero, suc, not, List, [], ◌∷◌, ◌++◌, length, Option, Some, None, refl, sym, ap, ◌∙◌}
+use Rattle.std.specs.Prelude.{◌==◌, ◌&&◌, if◌then◌else◌, is_none, reverse, codes, decimal}
+use Rattle.std.specs.List.{flat_map}
+use Rattle.user_model.specs.declared.call.Call.{Call}
+use Rattle.user_model.specs.declared.call.Call.TheVariants as calls
+use Rattle.user_model.specs.declared.entry.Entry.{Entry}
+use Rattle.user_model.specs.declared.entry.Setup.{Setup}
+use Rattle.user_model.specs.Past.{Past}
+use Rattle.user_model.specs.Places.{has_ended}
+use Rattle.user_model.specs.Threads.{lowest, from_each}
+use Rattle.user_model.specs.Idle.{is_idle, is_quiet, have_all_ended, ends_stuck, is_barred}
+use Rattle.user_io.specs.Text.{operand}
+use Rattle.script_tree.specs.Tree.{Tree}
+use Rattle.log_text.specs.declared.end.End.{End}
+use Rattle.log_text.specs.declared.end.End.TheVariants.{Done, Stuck, Spent, Cut}
+use Rattle.log_text.specs.Ends.{setup_of, used, end_of}
+use Rattle.log_text.specs.Entries.{call_text, answer_text, entry_text}
+use Rattle.log_text.specs.Endings.{end_line, last_call, waits_line, spent_line, extra, sends_line, ending}
+use Rattle.log_text.specs.Logs.{log}
+use Rattle.user_app.proofs.SameRuns.{SameRules}
+
+-- a tree with these names and nothing else
+abbrev named : List (List ℕ) → Tree
+named names = record { width = 0; height = 0; budget = 0; order = []; names = names; threads = [] }
+
+-- the text of a call takes only the names
+by_names : (s : Tree) (call : Call) → call_text s call ≡ call_text (named s.names) call
+by_names s calls.EndThread = refl
+by_names s call = refl
+
+-- an end by what it takes of a tree
+abbrev ends_so : Setup → ℕ → ℕ → Past → End
+ends_so setup budget count past =
+    if have_all_ended setup past then Done else if ends_stuck past then Stuck else
+    if not (is_quiet setup past) && is_none (lowest (λ t. not (is_idle setup past t) && not (used past t == budget)) count) then Spent else Cut
+
+module _ (s t : Tree) (h : SameRules s t) where
+  same_call_text : (call : Call) → call_text s call ≡ call_text t call
+  same_call_text call = by_names s call ∙ ap (λ (x : List (List ℕ)). call_text (named x) call) h.names ∙ sym (by_names t call)
+
+  same_entry : (e : Entry) → entry_text s e ≡ entry_text t e
+  same_entry e = ap (λ (x : List ℕ). decimal e.who.0 ++ (codes " " ++ (x ++ (codes " = " ++ (answer_text e.answer ++ codes "\n"))))) (same_call_text e.call)
+
+  same_entries : (es : List Entry) → flat_map (entry_text s) es ≡ flat_map (entry_text t) es
+  same_entries [] = refl
+  same_entries (e ∷ es) =
+      ap (λ (x : List ℕ). x ++ flat_map (entry_text s) es) (same_entry e) ∙ ap (λ (x : List ℕ). entry_text t e ++ x) (same_entries es)
+
+  -- how a past ends
+  pub same_end : (past : Past) → end_of s past ≡ end_of t past
+  same_end past =
+      ap (λ (x : Setup). ends_so x s.budget (length s.threads) past) h.setup
+      ∙ ap (λ (n : ℕ). ends_so (setup_of t) n (length s.threads) past) h.budget
+      ∙ ap (λ (n : ℕ). ends_so (setup_of t) t.budget n past) h.count
+
+  same_waits : (u : ℕ) (o : Option Call) → waits_line s u o ≡ waits_line t u o
+  same_waits u None = refl
+  same_waits u (Some call) = ap (λ (x : List ℕ). codes "waits" ++ (operand u ++ (codes " " ++ (x ++ codes "\n")))) (same_call_text call)
+
+  same_extra : (past : Past) (end : End) (u : ℕ) → extra s past end u ≡ extra t past end u
+  same_extra past Done u = refl
+  same_extra past Stuck u = ap (λ (x : List ℕ). let ls : List ℕ = if has_ended past u then [] else x in ls) (same_waits u (last_call past u))
+  same_extra past Spent u = ap (λ (x : Setup). let ls : List ℕ = if is_barred x past u then [] else spent_line u in ls) h.setup
+  same_extra past Cut u = refl
+
+  each_extra : (past : Past) (end : End) (n : ℕ) → from_each (extra s past end) n ≡ from_each (extra t past end) n
+  each_extra past end zero = refl
+  each_extra past end (suc n) =
+      ap (λ (x : List ℕ). x ++ extra s past end (suc n)) (each_extra past end n)
+      ∙ ap (λ (x : List ℕ). from_each (extra t past end) n ++ x) (same_extra past end (suc n))
+
+  same_ending : (past : Past) (end : End) → ending s past end ≡ ending t past end
+  same_ending past end =
+      ap (λ (x : List ℕ). end_line end ++ (x ++ sends_line)) (each_extra past end (length s.threads) ∙ ap (from_each (extra t past end)) h.count)
+
+  -- the text of a past
+  pub same_log : (past : Past) → log s past ≡ log t past
+  unfolding log
+  same_log past =
+      ap (λ (x : List ℕ). codes "log 1\n" ++ (x ++ ending s past (end_of s past))) (same_entries (reverse past))
+      ∙ ap (λ (x : List ℕ). codes "log 1\n" ++ (flat_map (entry_text t) (reverse past) ++ x)) (same_ending past (end_of s past))
+      ∙ ap (λ (e : End). codes "log 1\n" ++ (flat_map (entry_text t) (reverse past) ++ ending t past e)) (same_end past)

@@ -1,0 +1,60 @@
+-- Runs that read the same text write the same.
+use Rattle.std.proofs.Common.{◌≡◌, ℕ, List, ◌++◌, Option, Some, None, refl, sym, ap, ◌∙◌, append-nil}
+use Rattle.std.specs.Io.KnownBytes.{Consumes, IsAtEnd}
+use Rattle.user_model.specs.Past.{Past}
+use Rattle.script_tree.specs.Tree.{Tree}
+use Rattle.script_text.specs.Limits.{IsScript}
+use Rattle.script_text.specs.Spelling.{spelling}
+use Rattle.script_text.proofs.PartsAgain.{one_tree}
+use Rattle.log_text.specs.declared.end.End.{End}
+use Rattle.log_text.specs.declared.end.End.TheVariants.{Done, Stuck, Spent, Cut}
+use Rattle.log_text.specs.Ends.{end_of}
+use Rattle.log_text.specs.Logs.{log}
+use Rattle.user_app.specs.Outcomes.{Logged, RunEnds, Ran}
+use Rattle.user_app.specs.Statuses.{status_of}
+use Rattle.user_app.proofs.SameRuns.{SameRules, same_rules, same_run}
+use Rattle.user_app.proofs.SameLogs.{same_log, same_end}
+
+-- two trees of one text say the same
+pub one_text : (s t : Tree) → IsScript s → IsScript t → spelling s ≡ spelling t → SameRules s t
+one_text s t h k e = same_rules s t (one_tree s t h k e)
+
+-- what was read to its end is the text of the script
+read_whole : (text bytes : List ℕ) (left : Option (List ℕ)) → Consumes (Some text) left bytes → IsAtEnd left → text ≡ bytes
+read_whole text bytes None h e = absurd h
+read_whole text bytes (Some rest) h e = h ∙ ap (λ (l : List ℕ). bytes ++ l) e ∙ append-nil bytes
+
+-- the end that a status tells
+abbrev told : End → End
+told Done = Done
+told Stuck = Stuck
+told Spent = Spent
+told Cut = Spent
+
+same_status : (x : End) → status_of x ≡ status_of (told x)
+same_status Done = refl
+same_status Stuck = refl
+same_status Spent = refl
+same_status Cut = refl
+
+logged : (s : Tree) (held new : Option (List ℕ)) (f g : ℕ) (x : End) → RunEnds s held new f g (status_of x) → Logged s held new (told x)
+logged s held new f g Done r = r
+logged s held new f g Stuck r = r
+logged s held new f g Spent r = r
+logged s held new f g Cut r = r
+
+same_logged : (s t : Tree) (held a b : List ℕ) (x y : End) → SameRules s t → Logged s (Some held) (Some a) x → Logged t (Some held) (Some b) y → (a ≡ b) × (x ≡ y)
+same_logged s t held a b x y h p q =
+    let runs : p.history ≡ q.history = same_run s t h p.history q.history p.listed q.listed in (
+      p.written ∙ ap (λ (l : List ℕ). held ++ l) (same_log s t h p.history ∙ ap (λ (c : Past). log t c) runs) ∙ sym q.written,
+      sym p.ended ∙ same_end s t h p.history ∙ ap (λ (c : Past). end_of t c) runs ∙ q.ended,
+    )
+
+pub same_output : (text held a b : List ℕ) (l m : Option (List ℕ)) (f f' g g' : ℕ) (x y : End)
+    → Ran (Some text) l (Some held) (Some a) f f' (status_of x) → Ran (Some text) m (Some held) (Some b) g g' (status_of y) → (a ≡ b) × (status_of x ≡ status_of y)
+same_output text held a b l m f f' g g' x y p q =
+    let one : text ≡ spelling p.script = read_whole text (spelling p.script) l p.input p.read_out in
+    let other : text ≡ spelling q.script = read_whole text (spelling q.script) m q.input q.read_out in
+    let h : SameRules p.script q.script = one_text p.script q.script p.is_script q.is_script (sym one ∙ other) in
+    let r = same_logged p.script q.script held a b (told x) (told y) h (logged p.script (Some held) (Some a) f f' x p.ends) (logged q.script (Some held) (Some b) g g' y q.ends) in
+    (r.0, same_status x ∙ ap (λ (z : End). status_of z) r.1 ∙ sym (same_status y))

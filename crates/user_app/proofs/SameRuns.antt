@@ -1,0 +1,100 @@
+-- Two trees that say the same have the same runs.
+use Rattle.std.proofs.Common.{◌≡◌, ℕ, zero, suc, Bool, not, List, [], ◌∷◌, length, Option, Some, None, sym, ap, ◌∙◌}
+use Rattle.std.specs.Prelude.{◌==◌, ◌&&◌, nat_lt, if◌then◌else◌, find}
+use Rattle.user_model.specs.declared.call.Call.{Call}
+use Rattle.user_model.specs.declared.entry.Entry.{Entry}
+use Rattle.user_model.specs.declared.entry.Setup.{Setup}
+use Rattle.user_model.specs.Past.{Past, or_else}
+use Rattle.user_model.specs.Setups.{setup_from}
+use Rattle.user_model.specs.Threads.{lowest, is_thread}
+use Rattle.user_model.specs.Idle.{reply, is_idle, is_barred}
+use Rattle.script_tree.specs.Tree.{Tree}
+use Rattle.script_tree.specs.Pieces.{Cut}
+use Rattle.script_tree.specs.Traces.{trace_of}
+use Rattle.script_text.specs.Lines.{script_lines}
+use Rattle.script_text.specs.Refusals.{IsSame}
+use Rattle.log_text.specs.Ends.{setup_of, used}
+use Rattle.user_pool.specs.Runs.{is_runnable, behind_first, left, last_thread, choice, ComesNext, IsMove, IsRun, IsListed}
+use Rattle.user_pool.proofs.OneRun.{one_listed}
+use Rattle.user_app.proofs.SameBodies.{SameBodies, bodies_apart, same_count}
+use Rattle.user_app.proofs.SameTraces.{same_trace}
+
+-- all that runs and logs take of a tree is the same
+pub record SameRules (s t : Tree) : Type 0 where
+  pub setup : setup_of s ≡ setup_of t
+  pub budget : s.budget ≡ t.budget
+  pub order : s.order ≡ t.order
+  pub names : s.names ≡ t.names
+  pub count : length s.threads ≡ length t.threads
+  pub bodies : SameBodies s.threads t.threads
+
+same_bodies : (s t : Tree) → script_lines s ≡ script_lines t → SameBodies s.threads t.threads
+unfolding script_lines
+same_bodies s t e = bodies_apart s.threads t.threads e
+
+pub same_rules : (s t : Tree) → IsSame s t → SameRules s t
+same_rules s t h =
+    let bodies : SameBodies s.threads t.threads = same_bodies s t h.lines in
+    let count : length s.threads ≡ length t.threads = same_count s.threads t.threads bodies in
+    record {
+      setup = ap (λ (n : ℕ). setup_from n s.width s.height) count ∙ ap (λ (n : ℕ). setup_from (length t.threads) n s.height) h.width ∙ ap (λ (n : ℕ). setup_from (length t.threads) t.width n) h.height;
+      budget = h.budget;
+      order = h.order;
+      names = h.names;
+      count = count;
+      bodies = bodies;
+    }
+
+-- a choice by what it takes of a tree
+abbrev can_run : Setup → ℕ → Past → ℕ → Bool
+can_run setup budget past t = is_thread setup t && (not (is_idle setup past t) && nat_lt (used past t) budget)
+
+abbrev above : Setup → ℕ → ℕ → Past → ℕ → Option ℕ
+above setup budget count past low = lowest (λ t. nat_lt low t && can_run setup budget past t) count
+
+abbrev chosen : Setup → ℕ → ℕ → Past → List ℕ → Option ℕ
+chosen setup budget count past numbers =
+    or_else (find (can_run setup budget past) numbers)
+    (or_else (or_else (above setup budget count past (last_thread past)) (above setup budget count past 0)) (if is_barred setup past 0 then None else Some 0))
+
+module _ (s t : Tree) (h : SameRules s t) where
+  same_test : (past : Past) → is_runnable s past ≡ is_runnable t past
+  same_test past = ap (λ (x : Setup). can_run x s.budget past) h.setup ∙ ap (λ (n : ℕ). can_run (setup_of t) n past) h.budget
+
+  -- what is left of the order list
+  same_left : (past : Past) → left s past ≡ left t past
+  same_left [] = h.order
+  same_left (e ∷ past) =
+      ap (λ (xs : List ℕ). if e.who.0 == 0 then xs else behind_first (is_runnable s past) xs) (same_left past)
+      ∙ ap (λ (f : ℕ → Bool). if e.who.0 == 0 then left t past else behind_first f (left t past)) (same_test past)
+
+  -- who moves next
+  same_choice : (past : Past) → choice s past ≡ choice t past
+  same_choice past =
+      ap (λ (x : Setup). chosen x s.budget (length s.threads) past (left s past)) h.setup
+      ∙ ap (λ (n : ℕ). chosen (setup_of t) n (length s.threads) past (left s past)) h.budget
+      ∙ ap (λ (n : ℕ). chosen (setup_of t) t.budget n past (left s past)) h.count
+      ∙ ap (chosen (setup_of t) t.budget (length t.threads) past) (same_left past)
+
+  next_too : (past : Past) (who : ℕ) (call : Call) → ComesNext s past who call → ComesNext t past who call
+  next_too past zero call k = k
+  next_too past (suc n) call k = same_trace s t (suc n) (trace_of past (suc n)) (Cut call) h.bodies k
+
+  move_too : (past : Past) (e : Entry) → IsMove s past e → IsMove t past e
+  move_too past e m = record {
+    actor = sym (same_choice past) ∙ m.actor;
+    call = next_too past e.who.0 e.call m.call;
+    answer = m.answer ∙ ap (λ (x : Setup). reply x past e.who.0 e.call) h.setup;
+    room = m.room;
+  }
+
+  run_too : (past : Past) → IsRun s past → IsRun t past
+  run_too [] r = tt
+  run_too (e ∷ past) r = (move_too past e r.0, run_too past r.1)
+
+  listed_too : (past : Past) → IsListed s past → IsListed t past
+  listed_too past l = record { run = run_too past l.run; over = sym (same_choice past) ∙ l.over }
+
+  -- the listed run of the one is that of the other
+  pub same_run : (a b : Past) → IsListed s a → IsListed t b → a ≡ b
+  same_run a b k l = one_listed t a b (listed_too a k) l
