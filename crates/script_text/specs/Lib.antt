@@ -3,7 +3,6 @@ pub use Rattle.script_lines.specs.LineTexts
 pub use Rattle.script_lines.specs.LineLimits
 pub use Rattle.script_lines.specs.NameLimits
 pub use Rattle.script_lines.specs.LineReading
-
 pub mod Lines
 pub mod Spelling
 pub mod Limits

@@ -17,7 +17,7 @@ use Rattle.script_tree.specs.Values.{value_of, computed, holds, assigned, call_o
 use Rattle.script_tree.specs.Pieces.{Piece, Lines, One, PassEnd, Making, Settle, Quiet, State, Going, Given, Step, Becomes, Asks, Trace, End}
 use Rattle.script_tree.specs.Steps.{statement, begins, takes, step, follows}
 use Rattle.script_tree.specs.Traces.{Makes, over, silent, entry, cut, IsTrace, program}
-use Rattle.script_text.specs.declared.line.Line.TheVariants as lines
+use Rattle.script_lines.specs.declared.line.Line.TheVariants as lines
 use Rattle.script_text.specs.Lines.{statement_lines, body_lines}
 use Rattle.user_app.proofs.SameBodies.{line_of, lines_behind, some_line, statement_apart, same_items, only_end, else_and_end, end_no_else, SameBodies, same_body}
 
