@@ -33,6 +33,20 @@ fn messages_are_numbered_in_order(rt: HostRuntime) {
 }
 
 #[test]
+fn the_table_tells_its_counts(rt: HostRuntime) {
+    let mut classes = Classes::new(rt.alloc());
+    assert_eq!(rt; classes.register(7, 0, 0), Ok(1));
+    assert_eq!(rt; classes.unregister(7, false), Ok(()));
+    assert_eq!(rt; classes.register(8, 0, 0), Ok(2));
+    assert_eq!(rt; classes.len(), 1);
+    assert_eq!(rt; classes.registered(), 2);
+    assert_eq!(rt; classes.number_of(5), None);
+    assert_eq!(rt; classes.message_number(5), Ok(49152));
+    assert_eq!(rt; classes.number_of(5), Some(49152));
+    assert_eq!(rt; classes.message_count(), 1);
+}
+
+#[test]
 fn limits_are_exact(rt: HostRuntime) {
     let mut classes = Classes::new(rt.alloc());
     for name in 0..64u32 {
