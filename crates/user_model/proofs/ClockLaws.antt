@@ -1,14 +1,11 @@
 -- The clock, the ended threads and the last entries at a past with one entry more.
-use Rattle.std.proofs.Common.{◌≡◌, ℕ, zero, suc, eqb, Bool, true, false, cond, List, [], ◌∷◌, ◌++◌, reverse, Option, Some, None, refl, ap, ◌∙◌}
+use Rattle.std.proofs.Common.{◌≡◌, ℕ, eqb, Bool, true, false, cond, List, [], ◌∷◌, ◌++◌, reverse, Option, Some, None, refl, ap, ◌∙◌}
 use Rattle.std.specs.Prelude.{unwrap_or}
 use Rattle.std.proofs.lemmas.List.{reverse-append}
 use Rattle.user_model.specs.declared.entry.Entry.{Entry}
-use Rattle.user_model.specs.declared.entry.Setup.{Setup}
-use Rattle.user_model.specs.declared.call.Call.{Call}
 use Rattle.user_model.specs.Past.{Past, is_refused, or_else, unless_refused, last_of, first}
 use Rattle.user_model.specs.Places.{clock, if_clock, time_told, mine}
-use Rattle.user_model.specs.Threads.{from_each}
-use Rattle.user_model.specs.Idle.{times_of, times_of_call, soonest, least_of, last_entry, is_wait}
+use Rattle.user_model.specs.Idle.{last_entry}
 
 last_pick : {A : Type 0} (b : Bool) (o rest : Option A) → (elim b [ true ↦ rest | false ↦ elim o [ Some a ↦ Some a | None ↦ rest ] ]) ≡ or_else (elim b [ true ↦ None | false ↦ o ]) rest
 last_pick true o rest = refl
@@ -38,22 +35,3 @@ last_entry-next e past t = pick (eqb e.who.0 t)
 -- the past of a history with one entry more
 pub past_more : (h : List Entry) (e : Entry) → reverse (h ++ e ∷ []) ≡ e ∷ reverse h
 past_more h e = reverse-append h (e ∷ [])
-
-no_times : (call : Call) → times_of_call call ≡ []
-no_times call = refl
-
-no_times_of : (o : Option Entry) → times_of o ≡ []
-no_times_of None = refl
-no_times_of (Some e) = pick (is_wait e.answer)
-  where
-    pick : (b : Bool) → cond b (times_of_call e.call) [] ≡ []
-    pick true = no_times e.call
-    pick false = refl
-
--- no thread waits for a time
-no_wake_times : (past : Past) (n : ℕ) → from_each (λ t. times_of (last_entry past t)) n ≡ []
-no_wake_times past zero = refl
-no_wake_times past (suc n) = ap (λ ns. ns ++ times_of (last_entry past (suc n))) (no_wake_times past n) ∙ no_times_of (last_entry past (suc n))
-
-pub never_soon : (setup : Setup) (past : Past) → soonest setup past ≡ None
-never_soon setup past = ap least_of (no_wake_times past setup.threads)

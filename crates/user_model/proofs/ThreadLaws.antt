@@ -10,7 +10,7 @@ use Rattle.user_model.specs.declared.entry.Setup.{Setup}
 use Rattle.user_model.specs.Past.{Past, is_refused, is_full}
 use Rattle.user_model.specs.Places.{has_ended, ends_thread, is_end}
 use Rattle.user_model.specs.Refusals.{refuse}
-use Rattle.user_model.specs.Replies.{row}
+use Rattle.user_model.specs.Replies.{stack_reply}
 use Rattle.user_model.specs.Threads.{is_thread}
 use Rattle.user_model.specs.Idle.{reply, is_wait, is_idle, still_waits, last_entry}
 use Rattle.user_model.specs.Legal.{IsLawful}
@@ -71,11 +71,11 @@ never_waits false a = refl
 no_thread_waits : (setup : Setup) (past : Past) (t : ℕ) (o : Option Entry) → is_thread setup t ≡ false → still_waits setup past t o ≡ false
 no_thread_waits setup past t None h = refl
 no_thread_waits setup past t (Some e) h =
-    ap (λ b. cond (is_wait e.answer) (is_wait (refuse (is_full past) Full (refuse (not (b && not (has_ended past t))) NotNow (row setup past t e.call)))) false) h
+    ap (λ b. cond (is_wait e.answer) (is_wait (refuse (is_full past) Full (refuse (not (b && not (has_ended past t))) NotNow (stack_reply setup past t e.call)))) false) h
     ∙ pick (is_wait e.answer)
   where
-    pick : (b : Bool) → cond b (is_wait (refuse (is_full past) Full (refuse true NotNow (row setup past t e.call)))) false ≡ false
-    pick true = never_waits (is_full past) (row setup past t e.call)
+    pick : (b : Bool) → cond b (is_wait (refuse (is_full past) Full (refuse true NotNow (stack_reply setup past t e.call)))) false ≡ false
+    pick true = never_waits (is_full past) (stack_reply setup past t e.call)
     pick false = refl
 
 -- a number that is no thread's isn't idle

@@ -1,10 +1,10 @@
 -- Window classes and registered messages.
-use Rattle.std.specs.Prelude.{if◌then◌else◌, ℕ, suc, ◌+◌, ◌==◌, nat_eq, Bool, true, false, List, [], ◌∷◌, ◌++◌, length, find, position, Option, Some, None, option_map, is_some}
+use Rattle.std.specs.Prelude.{if◌then◌else◌, ℕ, suc, ◌+◌, ◌==◌, nat_eq, Bool, true, false, List, [], ◌∷◌, ◌++◌, length, find, position, Option, Some, None, option_map, is_some, unwrap_or}
 use Rattle.std.specs.List.{list_any}
 use Rattle.user_model.specs.declared.call.Call.{Call}
 use Rattle.user_model.specs.declared.call.Call.TheVariants.{Register, Unregister, Message}
 use Rattle.user_model.specs.Past.{Past, is_refused, standing, each_of}
-use Rattle.user_model.specs.Windows.{live}
+use Rattle.user_model.specs.Windows.{live, window}
 
 -- a window class: its name, its atom, its procedure and its colour
 pub record Class : Type 0 where
@@ -39,6 +39,14 @@ classes past = standing (λ e before. registers e.call before) (λ e before c. u
 -- the class of a name
 abbrev pub class : Past → ℕ → Option Class
 class past name = find (λ c. name == c.name) (classes past)
+
+-- the class of a live window
+abbrev pub class_of : Past → ℕ → Option Class
+class_of past w = elim (window past w) [ Some x ↦ class past x.class | None ↦ None ]
+
+-- the procedure of a window
+abbrev pub proc_of : Past → ℕ → ℕ
+proc_of past w = unwrap_or (option_map (λ c. c.proc_no) (class_of past w)) 0
 
 -- whether a live window has the class
 abbrev pub is_used : Past → ℕ → Bool

@@ -1,17 +1,18 @@
 -- Idle threads, the soonest time, the answers of the clock, and the answer of any call.
-use Rattle.std.specs.Prelude.{if◌then◌else◌, ℕ, ◌==◌, min, Bool, true, false, not, ◌||◌, List, [], ◌∷◌, Option, Some, None, is_none}
+use Rattle.std.specs.Prelude.{if◌then◌else◌, ℕ, ◌==◌, ◌+◌, nat_lt, min, Bool, true, false, not, ◌||◌, List, [], ◌∷◌, Option, Some, None, is_none}
 use Rattle.win_num.specs.declared.code.Code.TheVariants.{NotNow, Full}
 use Rattle.user_model.specs.declared.entry.Setup.{Setup}
 use Rattle.user_model.specs.declared.entry.Entry.{Entry}
 use Rattle.user_model.specs.declared.entry.Answer.{Answer}
-use Rattle.user_model.specs.declared.entry.Answer.TheVariants.{Wait, Stuck, Busy, Advanced, Refused}
+use Rattle.user_model.specs.declared.entry.Answer.TheVariants.{Wait, Value, Stuck, Busy, Advanced, Refused}
 use Rattle.user_model.specs.declared.call.Call.{Call}
-use Rattle.user_model.specs.declared.call.Call.TheVariants.{Advance}
+use Rattle.user_model.specs.declared.call.Call.TheVariants.{Await, SleepUntil, Tick, Advance}
 use Rattle.user_model.specs.Past.{Past, is_full, first}
-use Rattle.user_model.specs.Places.{has_ended, mine}
+use Rattle.user_model.specs.Places.{clock, has_ended, mine}
 use Rattle.user_model.specs.Threads.{lowest, from_each}
 use Rattle.user_model.specs.Replies.{thread_reply}
-use Rattle.user_model.specs.Refusals.{refuse}
+use Rattle.user_model.specs.ReplySends.{deadline}
+use Rattle.user_model.specs.Refusals.{refuse, invalid_parameter}
 
 -- whether the answer is to wait
 abbrev pub is_wait : Answer → Bool
@@ -43,18 +44,25 @@ is_quiet setup past = is_none (first_busy setup past)
 abbrev pub have_all_ended : Setup → Past → Bool
 have_all_ended setup past = is_none (lowest (λ t. not (has_ended past t)) setup.threads)
 
--- the times that a call waits for: no call waits for a time
-abbrev pub times_of_call : Call → List ℕ
-times_of_call call = []
+-- a number, if there is one
+abbrev pub one_of : Option ℕ → List ℕ
+one_of None = []
+one_of (Some n) = n ∷ []
+
+-- the time that a call waits for: a sleep's, or a timeout send's
+abbrev pub times_of_call : Past → Call → List ℕ
+times_of_call past (SleepUntil time) = time ∷ []
+times_of_call past (Await s) = one_of (deadline past s)
+times_of_call past _ = []
 
 -- the times that the thread's last entry waits for; one that was answered otherwise waits for none
-abbrev pub times_of : Option Entry → List ℕ
-times_of None = []
-times_of (Some e) = if is_wait e.answer then times_of_call e.call else []
+abbrev pub times_of : Past → Option Entry → List ℕ
+times_of past None = []
+times_of past (Some e) = if is_wait e.answer then times_of_call past e.call else []
 
 -- the times that threads wait for
 abbrev pub wake_times : Setup → Past → List ℕ
-wake_times setup past = from_each (λ t. times_of (last_entry past t)) setup.threads
+wake_times setup past = from_each (λ t. times_of past (last_entry past t)) setup.threads
 
 -- the lesser of a number and one that there may be
 abbrev pub least_with : ℕ → Option ℕ → ℕ
@@ -84,8 +92,13 @@ busy_or None a = a
 abbrev pub advance_reply : Setup → Past → Answer
 advance_reply setup past = busy_or (first_busy setup past) (advanced (soonest setup past))
 
+-- the clock is moved on
+abbrev pub tick_reply : Past → ℕ → Answer
+tick_reply past ms = refuse (nat_lt 4294967295 ms) invalid_parameter (Value (clock past + ms))
+
 -- the answer of a call of the clock
 abbrev pub clock_row : Setup → Past → Call → Answer
+clock_row setup past (Tick ms) = tick_reply past ms
 clock_row setup past Advance = advance_reply setup past
 clock_row setup past _ = Refused NotNow
 

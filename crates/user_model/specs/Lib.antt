@@ -1,4 +1,5 @@
 pub mod Classes
+pub mod Counts
 pub mod Destruction
 pub mod Filters
 pub mod Idle
@@ -8,11 +9,18 @@ pub mod Next
 pub mod Past
 pub mod Places
 pub mod Posts
+pub mod Ready
 pub mod Refusals
 pub mod Replies
+pub mod ReplyClock
 pub mod ReplyDelivery
+pub mod ReplySends
 pub mod ReplyWindows
 pub mod Retrievals
+pub mod SendStories
+pub mod Sends
 pub mod Setups
+pub mod Stacks
+pub mod Tellers
 pub mod Threads
 pub mod Windows

@@ -1,13 +1,31 @@
 -- The next message of a thread.
-use Rattle.std.specs.Prelude.{if◌then◌else◌, ℕ, Bool, true, false, List, [], ◌∷◌, Option, None, option_map}
+use Rattle.std.specs.Prelude.{if◌then◌else◌, ℕ, Bool, true, false, List, [], ◌∷◌, Option, Some, None, option_map}
 use Rattle.win_num.specs.declared.message.Filter.{Filter}
 use Rattle.win_num.specs.declared.names.TheConstants.{WM_QUIT}
 use Rattle.user_model.specs.declared.entry.Answer.{Answer}
-use Rattle.user_model.specs.declared.entry.Answer.TheVariants.{Got}
+use Rattle.user_model.specs.declared.entry.Answer.TheVariants.{Enter, Callback, Got}
 use Rattle.user_model.specs.declared.entry.Origin.TheVariants.{Posted, Quit}
 use Rattle.user_model.specs.Past.{Past, or_else}
 use Rattle.user_model.specs.Places.{clock, cursor}
+use Rattle.user_model.specs.Classes.{proc_of}
+use Rattle.user_model.specs.Stacks.{has_room}
+use Rattle.user_model.specs.Sends.{Outcome, answer}
+use Rattle.user_model.specs.Ready.{ReadyMsg, to_enter, to_call_back, ready_head}
 use Rattle.user_model.specs.Posts.{PostedMsg, message, posted, first_post, quit}
+
+-- the result of a send, or 0
+abbrev pub result_of : Option Outcome → ℕ
+result_of (Some o) = o.result
+result_of None = 0
+
+-- what the caller runs: the procedure of the window for a send, the callback with the result of its send
+abbrev pub run_for : Past → ReadyMsg → Answer
+run_for past (to_enter x) = Enter (record { 0 = x.number }) (proc_of past x.hwnd) (record { 0 = x.hwnd }) x.message x.wparam x.lparam
+run_for past (to_call_back x proc_no extra place) = Callback (record { 0 = x.number }) proc_no (record { 0 = x.hwnd }) x.message extra (result_of (answer past x.number))
+
+-- what is ready, where the stack has room
+abbrev pub next_ready : Past → ℕ → Option Answer
+next_ready past t = if has_room past t then option_map (run_for past) (ready_head past t) else None
 
 -- a posted message as a retrieval hands it out
 abbrev pub got_posted : PostedMsg → Answer
@@ -30,6 +48,6 @@ is_empty (x ∷ xs) = false
 abbrev pub next_quit : Past → ℕ → Option Answer
 next_quit past t = if is_empty (posted past t) then option_map (got_quit past) (quit past t) else None
 
--- the first posted message that passes, else quit
+-- ready sends and results, then the first posted message that passes, then quit
 abbrev pub next : Past → ℕ → Filter → Option Answer
-next past t f = or_else (next_posted past t f) (next_quit past t)
+next past t f = or_else (next_ready past t) (or_else (next_posted past t f) (next_quit past t))

@@ -44,6 +44,11 @@ abbrev pub last_of : {A : Type 0} → (Entry → Past → Option A) → Past →
 last_of says [] = None
 last_of says (e ∷ past) = elim (is_refused e) [ true ↦ last_of says past | false ↦ elim (says e past) [ Some a ↦ Some a | None ↦ last_of says past ] ]
 
+-- what the first entry says that says something; each is read with the past before it
+abbrev pub first_of : {A : Type 0} → (Entry → Past → Option A) → Past → Option A
+first_of says [] = None
+first_of says (e ∷ past) = elim (is_refused e) [ true ↦ first_of says past | false ↦ elim (first_of says past) [ Some a ↦ Some a | None ↦ says e past ] ]
+
 -- what the entries add, in order, without what a later entry ends
 abbrev pub standing : {A : Type 0} → (Entry → Past → List A) → (Entry → Past → A → Bool) → Past → List A
 standing adds ends [] = []

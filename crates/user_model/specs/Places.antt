@@ -3,12 +3,13 @@ use Rattle.std.specs.Prelude.{if◌then◌else◌, ℕ, ◌==◌, Bool, true, fa
 use Rattle.win_num.specs.declared.shapes.Point.{Point}
 use Rattle.user_model.specs.declared.entry.Entry.{Entry}
 use Rattle.user_model.specs.declared.entry.Answer.{Answer}
-use Rattle.user_model.specs.declared.entry.Answer.TheVariants.{Advanced, Ended}
+use Rattle.user_model.specs.declared.entry.Answer.TheVariants.{Advanced, Ended, Value}
 use Rattle.user_model.specs.Past.{Past, last_of, ever}
 
 -- the time that an answer may tell
 abbrev pub time_told : Answer → Option ℕ
 time_told (Advanced v) = Some v
+time_told (Value v) = Some v
 time_told _ = None
 
 -- what is told, where actor 0 is told it

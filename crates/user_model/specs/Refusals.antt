@@ -15,6 +15,10 @@ access_denied = Win 5
 abbrev pub invalid_parameter : Code
 invalid_parameter = Win 87
 
+-- the stack has 64 frames
+abbrev pub stack_overflow : Code
+stack_overflow = Win 1001
+
 -- no live window, or one that is marked
 abbrev pub invalid_window_handle : Code
 invalid_window_handle = Win 1400

@@ -1,14 +1,19 @@
 -- The answer of each call of a thread.
-use Rattle.std.specs.Prelude.{ℕ, not}
+use Rattle.std.specs.Prelude.{ℕ, ◌==◌, Bool, true, false, not, Option, Some, None}
+use Rattle.win_num.specs.declared.send.Frame.{Frame}
+use Rattle.win_num.specs.declared.send.Frame.TheVariants.{Await as AwaitFrame}
 use Rattle.win_num.specs.declared.code.Code.TheVariants.{NotNow}
 use Rattle.user_model.specs.declared.entry.Setup.{Setup}
 use Rattle.user_model.specs.declared.entry.Answer.{Answer}
 use Rattle.user_model.specs.declared.entry.Answer.TheVariants.{Okay, Ended, Refused}
 use Rattle.user_model.specs.declared.call.Call.{Call}
-use Rattle.user_model.specs.declared.call.Call.TheVariants.{Peek, Get, Post, PostThread, PostQuit, Message, Register, Unregister, NewWindow, Doom, Unmake, Drop, NextTop, IsWindow, Parent, EndThread, Yield, Advance}
+use Rattle.user_model.specs.declared.call.Call.TheVariants.{Peek, Get, Post, PostThread, PostQuit, Dispatch, Send, SendTimeout, SendNotify, SendCallback, Await, Leave, Reply, InSend, Message, Register, Unregister, NewWindow, Doom, Unmake, Drop, NextTop, IsWindow, Parent, EndThread, Clock, SleepUntil, Yield, Tick, Advance}
 use Rattle.user_model.specs.Past.{Past}
 use Rattle.user_model.specs.ReplyDelivery.{peek_reply, get_reply, post_reply, post_thread_reply}
 use Rattle.user_model.specs.ReplyWindows.{register_reply, unregister_reply, message_reply, new_window_reply, doom_reply, unmake_reply, drop_reply, next_top_reply, is_window_reply, parent_reply}
+use Rattle.user_model.specs.ReplySends.{dispatch_reply, send_reply, send_timeout_reply, send_other_reply, await_reply, leave_reply, reply_reply, in_send_reply}
+use Rattle.user_model.specs.ReplyClock.{clock_reply, sleep_until_reply}
+use Rattle.user_model.specs.Stacks.{top}
 use Rattle.user_model.specs.Refusals.{refuse}
 use Rattle.user_model.specs.Threads.{is_running}
 
@@ -19,6 +24,15 @@ row setup past who (Get w min max) = get_reply past who w min max
 row setup past who (Post w number wparam lparam) = post_reply past who w number
 row setup past who (PostThread t number wparam lparam) = post_thread_reply setup past t number
 row setup past who (PostQuit code) = Okay
+row setup past who (Dispatch w number wparam lparam) = dispatch_reply past who w number
+row setup past who (Send w number wparam lparam) = send_reply past who w number
+row setup past who (SendTimeout w number wparam lparam flags ms) = send_timeout_reply past who w number flags ms
+row setup past who (SendNotify w number wparam lparam) = send_other_reply past who w number
+row setup past who (SendCallback w number wparam lparam proc_no extra) = send_other_reply past who w number
+row setup past who (Await s) = await_reply past who s
+row setup past who (Leave v) = leave_reply past who v
+row setup past who (Reply v) = reply_reply past who
+row setup past who InSend = in_send_reply past who
 row setup past who (Message name) = message_reply past name
 row setup past who (Register name proc_no colour) = register_reply past name colour
 row setup past who (Unregister name) = unregister_reply past name
@@ -30,9 +44,25 @@ row setup past who (NextTop w) = next_top_reply past w
 row setup past who (IsWindow w) = is_window_reply past w
 row setup past who (Parent w) = parent_reply past w
 row setup past who EndThread = Ended
+row setup past who Clock = clock_reply past
+row setup past who (SleepUntil time) = sleep_until_reply past time
 row setup past who Yield = Okay
+row setup past who (Tick ms) = Refused NotNow
 row setup past who Advance = Refused NotNow
+
+-- whether the top of the stack forbids the call: an await allows only its own await, leave needs a procedure frame, and a thread ends with an empty stack
+abbrev pub is_barred_by : Call → Option Frame → Bool
+is_barred_by (Await s) (Some (AwaitFrame t)) = not (t.0 == s)
+is_barred_by (Await s) _ = true
+is_barred_by _ (Some (AwaitFrame t)) = true
+is_barred_by (Leave v) None = true
+is_barred_by EndThread (Some f) = true
+is_barred_by _ _ = false
+
+-- the answer of a thread that runs: not now where its stack forbids the call
+abbrev pub stack_reply : Setup → Past → ℕ → Call → Answer
+stack_reply setup past who call = refuse (is_barred_by call (top past who)) NotNow (row setup past who call)
 
 -- the answer of any call of a thread: a number that is no thread's, or a thread that has ended, makes none
 abbrev pub thread_reply : Setup → Past → ℕ → Call → Answer
-thread_reply setup past who call = refuse (not (is_running setup past who)) NotNow (row setup past who call)
+thread_reply setup past who call = refuse (not (is_running setup past who)) NotNow (stack_reply setup past who call)

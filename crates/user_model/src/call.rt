@@ -20,6 +20,28 @@ pub enum Call {
     PostThread(u64, u64, u64, u64),
     /// Posts quit to the caller, with its code (Microsoft, PostQuitMessage function).
     PostQuit(u64),
+    /// Hands a message to the procedure of an own window, or for window 0 to nobody: the window, the
+    /// message's number, wParam and lParam (Microsoft, DispatchMessage function).
+    Dispatch(u64, u64, u64, u64),
+    /// Sends a message and waits for its answer: the window, the message's number, wParam and lParam
+    /// (Microsoft, SendMessage function).
+    Send(u64, u64, u64, u64),
+    /// Sends a message and waits for its answer for a time: the same, flags of which bit 0 is SMTO_BLOCK,
+    /// and milliseconds (Microsoft, SendMessageTimeout function).
+    SendTimeout(u64, u64, u64, u64, u64, u64),
+    /// Sends a message and goes on (Microsoft, SendNotifyMessage function).
+    SendNotify(u64, u64, u64, u64),
+    /// Sends a message and goes on; the callback procedure of this number gets the result with the extra
+    /// word (Microsoft, SendMessageCallback function).
+    SendCallback(u64, u64, u64, u64, u32, u64),
+    /// Waits for the answer of this send, and serves others meanwhile.
+    Await(u64),
+    /// Ends the procedure on top with this result.
+    Leave(u64),
+    /// Answers the send on top before its procedure ends (Microsoft, ReplyMessage function).
+    Reply(u64),
+    /// Which kind of send the caller is in (Microsoft, InSendMessageEx function).
+    InSend,
     /// The number of the registered message of this name, which is a place in the script's list of names
     /// (Microsoft, RegisterWindowMessage function).
     Message(u32),
@@ -47,8 +69,14 @@ pub enum Call {
     Parent(u64),
     /// Ends the thread that makes it, and drops its windows.
     EndThread,
+    /// The virtual clock (Microsoft, GetTickCount64 function).
+    Clock,
+    /// Waits until the clock has reached a time in milliseconds (Microsoft, Sleep function).
+    SleepUntil(u64),
     /// Does nothing, and lets others go on.
     Yield,
+    /// Moves the clock on by so many milliseconds. Actor 0 alone makes it.
+    Tick(u64),
     /// Lets the clock go on where every thread waits. Actor 0 alone makes it.
     Advance,
 }

@@ -3,7 +3,7 @@
 ghost use Rattle.std.specs.Prelude.{◌≡◌, ◌<◌, ◌≤◌};
 
 use crate::call::Call;
-use win_num::{Code, Hwnd, Msg, Thread};
+use win_num::{Cause, Code, Hwnd, Msg, SendId, Thread};
 
 /// Where a message that was retrieved came from.
 #[derive(Clone, Copy, Debug, PartialEq, Eq)]
@@ -35,6 +35,14 @@ pub enum Answer {
     Window(Hwnd),
     /// The post with this number was made; posts are counted from 1 over all threads.
     Posted(u32),
+    /// The procedure of this number runs for a dispatched message.
+    Called(u32),
+    /// The send with this number goes to an own window, whose procedure, of this number, runs at once.
+    Inside(SendId, u32),
+    /// The send with this number was begun; sends are counted from 1.
+    Begun(SendId),
+    /// The procedure of this send was left; 0 for one that ran for no send.
+    Left(SendId),
     /// This window is to be told that it is destroyed.
     Tell(Hwnd),
     /// This window gets its last message.
@@ -43,6 +51,29 @@ pub enum Answer {
     Advanced(u64),
     /// The lowest thread that doesn't wait.
     Busy(Thread),
+    /// A send of another thread is entered: the window's procedure runs for its message.
+    Enter {
+        send: SendId,
+        proc_no: u32,
+        hwnd: Hwnd,
+        number: u32,
+        wparam: u64,
+        lparam: u64,
+    },
+    /// The result of a callback send: its callback procedure runs.
+    Callback {
+        send: SendId,
+        proc_no: u32,
+        hwnd: Hwnd,
+        number: u32,
+        extra: u64,
+        result: u64,
+    },
+    /// The awaited send was answered, and how.
+    Done {
+        result: u64,
+        cause: Cause,
+    },
     /// A message was retrieved. `number` is that of the post, or 0 for quit.
     Got {
         origin: Origin,
@@ -70,6 +101,25 @@ pub struct Setup {
     pub width: u16,
     /// The height of the screen, 1 to 64 pixels.
     pub height: u16,
+}
+
+/// How many sends came to what.
+#[derive(Clone, Copy, Debug, PartialEq, Eq)]
+pub struct SendCount {
+    /// All sends.
+    pub begun: u32,
+    /// Those that were entered.
+    pub entered: u32,
+    /// Those that their procedure answered.
+    pub by_proc: u32,
+    /// Those that were replied to.
+    pub by_reply: u32,
+    /// Those whose window or thread went.
+    pub by_loss: u32,
+    /// Those that timed out.
+    pub by_timeout: u32,
+    /// Those that are unfinished.
+    pub unfinished: u32,
 }
 
 impl Setup {

@@ -8,10 +8,12 @@
 mod call;
 mod entry;
 mod machine;
+mod teller;
 
 pub use call::Call;
-pub use entry::{Answer, Entry, Origin, Setup};
+pub use entry::{Answer, Entry, Origin, SendCount, Setup};
 pub use machine::Machine;
+pub use teller::{Alone, Teller, Told, alone_tells_all};
 
 /// How many entries a history has at most.
 pub const HISTORY_LIMIT: usize = 2097152;

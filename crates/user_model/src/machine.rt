@@ -3,11 +3,12 @@
 ghost use Rattle.std.specs.Prelude.{◌≡◌, List, reverse, OnOk, OnErr, IfOk};
 ghost use Rattle.user_model.specs.declared.entry.Entry.{Entry};
 ghost use Rattle.user_model.specs.declared.entry.Setup.{Setup};
+ghost use Rattle.user_model.specs.Counts.{send_count};
 ghost use Rattle.user_model.specs.Idle.{reply, is_barred};
 ghost use Rattle.user_model.specs.Machines.{after};
 
 use crate::call::Call;
-use crate::entry::{Answer, Entry};
+use crate::entry::{Answer, Entry, SendCount};
 use std::alloc::AllocError;
 use win_num::Thread;
 
@@ -36,4 +37,8 @@ pub trait Machine {
     /// All entries so far, the oldest first.
     fn history(&self) -> &[Entry]
         ensures { result.now ≡ reverse (past self.now) };
+
+    /// How many sends came to what.
+    fn send_count(&self) -> SendCount
+        ensures { result ≡ send_count (past self.now) };
 }
