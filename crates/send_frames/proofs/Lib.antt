@@ -3,3 +3,4 @@ pub mod Ledger
 pub mod Maps
 pub mod Once
 pub mod Shown
+pub mod Above

@@ -1,9 +1,13 @@
 -- A table of entries in the order of their keys, read as a finite map.
 use Rattle.std.specs.Prelude.{T}
-use Rattle.std.proofs.Common.{◌≡◌, ℕ, Bool, true, false, cond, ◌&&◌, List, [], ◌∷◌, length, Some, None, refl, sym, ap, ◌∙◌, arith}
+use Rattle.std.proofs.Common.{◌≡◌, ℕ, Bool, true, false, cond, ◌&&◌, List, [], ◌∷◌, length, Option, Some, None, nat_lt, refl, sym, ap, ◌∙◌, arith}
 use Rattle.std.specs.Ordering.{nat_cmp, is_lt, is_eq}
 use Rattle.std.specs.declared.cmp.Ordering.TheVariants.{Less, Equal, Greater}
-use Rattle.std.specs.Cmp.{nat_cmp_total, eq_by_cmp_equiv}
+use Rattle.std.specs.Cmp.{nat_cmp_total, nat_cmp_is, eq_by_cmp_equiv}
+use Rattle.std.specs.List.{find as find_first}
+use Rattle.std.specs.BTreeMap.Range.{entries_between}
+use Rattle.std.specs.declared.ops.Bound.TheVariants.{Excluded, Unbounded}
+use borrow.Author.Tests.{ltb-true, ltb-false}
 use Rattle.std.specs.List.{AllByRecursion}
 use Rattle.std.specs.List.Sorted.{IsStrictlySortedBy}
 use Rattle.std.specs.Map.{keys_of, lookup}
@@ -89,3 +93,37 @@ in_order (e ∷ es) h =
 -- a map has as many entries as its tree
 pub length_of_tree : {X : Type 0} (es : List (ℕ × X)) → IsStrictlySortedBy nat_cmp (keys_of es) → map.len (from_entries {R = nat_cmp} es) ≡ length es
 length_of_tree es o = len-entries _ ∙ ap length (entries_in_order es (in_order es o))
+
+-- the order of numbers and their test agree
+pub below_agrees : (a b : ℕ) → is_lt (nat_cmp a b) ≡ nat_lt a b
+below_agrees a b = go (nat_lt a b) refl where
+  above : (c : Bool) → nat_lt b a ≡ c → nat_lt a b ≡ false → is_lt (nat_cmp a b) ≡ false
+  above true h g = ap is_lt (sym (nat_cmp_is a b Greater (ltb-true b a h)))
+  above false h g = let same : a ≡ b = omega (arith, ltb-false b a h, ltb-false a b g) in ap is_lt (sym (nat_cmp_is a b Equal same))
+
+  go : (c : Bool) → nat_lt a b ≡ c → is_lt (nat_cmp a b) ≡ c
+  go true h = ap is_lt (sym (nat_cmp_is a b Less (ltb-true a b h)))
+  go false h = above (nat_lt b a) refl h
+
+-- the key of the first entry
+abbrev pub first_key : {X : Type 0} → List (ℕ × X) → Option ℕ
+first_key [] = None
+first_key (e ∷ es) = Some e.0
+
+-- the key of the first entry above a number is the first key above it
+pub first_above : {X : Type 0} (n : ℕ) (es : List (ℕ × X)) → first_key (entries_between nat_cmp (Excluded n) Unbounded es) ≡ find_first (λ k. nat_lt n k) (keys_of es)
+first_above n [] = refl
+first_above n (e ∷ es) =
+    ap (λ b. first_key (cond (b && true) (e ∷ entries_between nat_cmp (Excluded n) Unbounded es) (entries_between nat_cmp (Excluded n) Unbounded es))) (below_agrees n e.0)
+    ∙ elim (nat_lt n e.0) as (λ b. first_key (cond (b && true) (e ∷ entries_between nat_cmp (Excluded n) Unbounded es) (entries_between nat_cmp (Excluded n) Unbounded es)) ≡ cond b (Some e.0) (find_first (λ k. nat_lt n k) (keys_of es))) [
+      | true ↦ refl
+      | false ↦ first_above n es
+    ]
+
+-- the keys of a tree are those of its map
+pub keys_of_tree : {X : Type 0} (es : List (ℕ × X)) → IsStrictlySortedBy nat_cmp (keys_of es) → map.keys (from_entries {R = nat_cmp} es) ≡ keys_of es
+keys_of_tree es o = ap keys_of (entries_in_order es (in_order es o))
+
+-- what a range finds first
+pub found_above : {X : Type 0} (n : ℕ) (es fs : List (ℕ × X)) (m : map.FinMap nat_cmp X) → IsStrictlySortedBy nat_cmp (keys_of es) → from_entries {R = nat_cmp} es ≡ m → fs ≡ entries_between nat_cmp (Excluded n) Unbounded es → first_key fs ≡ find_first (λ k. nat_lt n k) (map.keys m)
+found_above n es fs m o is e = ap first_key e ∙ first_above n es ∙ ap (find_first (λ k. nat_lt n k)) (sym (keys_of_tree es o) ∙ ap map.keys is)

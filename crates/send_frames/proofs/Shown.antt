@@ -94,3 +94,13 @@ insert_same m s v e = same_map nat_cmp_total nat_cmp-IsAntisymmetric _ _ (λ q. 
   here : (q : ℕ) (b : Bool) → eq_by_cmp nat_cmp q s ≡ b → cond b (Some v) (map.get m q) ≡ map.get m q
   here q true h = sym e ∙ ap (map.get m) (sym (tells_apart exact_unsigned q s h))
   here q false h = refl
+
+-- it shows the same numbers, in the same order
+keys-each : (es : List (ℕ × Item)) → each (λ (e : ℕ × KnownSend). e.0) (each (λ e. (e.0, known_of e.1)) es) ≡ each (λ e. e.0) es
+keys-each [] = refl
+keys-each (e ∷ es) = ap (λ ks. e.0 ∷ ks) (keys-each es)
+
+pub keys-known_in : (m : Items) → map.keys (known_in m) ≡ map.keys m
+keys-known_in m =
+    ap (each (λ e. e.0)) (entries_in_order _ (subst T (sym (sorted-each (entries m))) (entries_sorted m)))
+    ∙ keys-each (entries m)

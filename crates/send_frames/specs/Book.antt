@@ -1,5 +1,5 @@
 -- What the sends of all threads are.
-use Rattle.std.specs.Prelude.{◌≡◌, ℕ, ◌+◌, ◌-◌, ◌≤◌, ◌==◌, Bool, true, false, not, ◌&&◌, ◌||◌, nat_lt, nat_le, if◌then◌else◌, List, [], ◌∷◌, length, replicate, slice_index_or, slice_set, Option, Some, None, is_none, IsSome, IfSome, IsTrue, refl}
+use Rattle.std.specs.Prelude.{◌≡◌, ℕ, ◌+◌, ◌-◌, ◌<◌, ◌≤◌, ◌==◌, Bool, true, false, not, ◌&&◌, ◌||◌, nat_lt, nat_le, if◌then◌else◌, List, [], ◌∷◌, length, replicate, slice_index_or, slice_set, Option, Some, None, is_none, IsSome, IfSome, IsTrue, refl}
 use Rattle.std.specs.Coded.{Coded, code_by, coded×, coded_ℕ, coded_bool, coded_list, coded_option}
 use Rattle.win_num.specs.contracts.send.Frame as frame
 use Rattle.win_num.specs.contracts.send.Cause as cause
@@ -194,6 +194,11 @@ abbrev pub is_open : Option KnownSend → Bool
 is_open None = false
 is_open (Some k) = is_none k.answer
 
+-- a send that is known still owes its result
+abbrev pub is_owing : Option KnownSend → Bool
+is_owing None = false
+is_owing (Some k) = k.owed
+
 -- the first answer of a send is kept, and a later one changes nothing
 abbrev pub answered_as : Book → ℕ → ℕ × Cause → Option KnownSend → Book
 answered_as b s a None = b
@@ -209,6 +214,11 @@ forgotten_as b s (Some k) = with_send b s (record k { owed = false })
 
 abbrev pub forgotten : Book → ℕ → Book
 forgotten b s = forgotten_as b s (map.get b.known s)
+
+-- the least known number above this one, or none
+abbrev pub IsNextAbove : map.FinMap nat_cmp KnownSend → ℕ → Option ℕ → Type 0
+IsNextAbove m n None = (j : ℕ) → n < j → map.get m j ≡ None
+IsNextAbove m n (Some s) = (n < s) × IsSome (map.get m s) × ((j : ℕ) → n < j → j < s → map.get m j ≡ None)
 
 -- a frame names no send, or a known one
 abbrev pub NamesKnown : Book → Frame → Type 0

@@ -2,7 +2,7 @@
 
 ghost use Rattle.std.specs.Prelude.{◌≡◌, ◌+◌, ◌≤◌, ◌<◌, ◌-◌, List, [], length, vec_len, slice_index_or, slice_set, drop, replicate, IsSome, Option, Some, None, IfOk, OnOk, OnErr, MatchResult, option_and_then, option_copied, option_map, slice_get};
 ghost use Rattle.std.specs.FinMap as map;
-ghost use Rattle.send_frames.specs.Book.{AreNamedOnce, Book, IsFaultFor, IsNewFrame, IsSound, IsThread, NamesKnown, answered_by, begun_by, forgotten, is_open, is_too_deep, named_by, no_sends, popped, pushed, refusal_at_begin, stack_of, with_top};
+ghost use Rattle.send_frames.specs.Book.{AreNamedOnce, Book, IsFaultFor, IsNewFrame, IsNextAbove, IsSound, IsThread, NamesKnown, answered_by, begun_by, forgotten, is_open, is_owing, is_too_deep, named_by, no_sends, popped, pushed, refusal_at_begin, stack_of, with_top};
 
 use crate::row::SendRow;
 use crate::stack::{DEPTH, Stack};
@@ -110,12 +110,37 @@ impl Sends {
         row.pushes() && depth >= 64
     }
 
-    /// How many sends are known.
-    fn known(&self) -> usize
+    /// How many sends were begun: the number of the last one.
+    pub fn begun(&self) -> u32
+        ensures { result ≡ self.now.begun }
+    {
+        self.begun
+    }
+
+    /// How many sends are known, 0 to 1,024.
+    pub fn known(&self) -> usize
         ensures known { result ≡ map.len self.now.known }
         ensures sound { IsSound self.now }
     {
         self.table.len()
+    }
+
+    /// The known send of least number above this one, `None` exactly where there is none.
+    pub fn next_known(&self, after: SendId) -> Option<SendId>
+        ensures next { IsNextAbove self.now.known after.0 (option_map (λ s. s.0) result) }
+        ensures sound { IsSound self.now }
+    {
+        self.table.next(after)
+    }
+
+    /// Whether a send's result is still owed to a callback procedure, `false` where the send isn't known.
+    pub fn owes(&self, s: SendId) -> bool
+        ensures { result ≡ is_owing (map.get self.now.known s.0) }
+    {
+        match self.table.get(s) {
+            Some(item) => item.owed,
+            None => false,
+        }
     }
 
     /// Puts a frame on the top of a thread's stack. Refused 1001 exactly at depth 64, and never `Memory`.
@@ -155,7 +180,8 @@ impl Sends {
     /// The newest frame of a thread's stack, `None` exactly where the stack is empty.
     pub fn top(&self, t: Thread) -> Option<Frame>
         requires { IsThread self.now t.0 }
-        ensures { result ≡ slice_get (stack_of self.now t.0) 0 }
+        ensures top { result ≡ slice_get (stack_of self.now t.0) 0 }
+        ensures sound { IsSound self.now }
     {
         self.stacks[usize::from(t.0) - 1].top()
     }

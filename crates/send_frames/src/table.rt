@@ -1,6 +1,6 @@
 //! The known sends, by number.
 
-ghost use Rattle.std.specs.Prelude.{◌≡◌, ◌+◌, ◌<◌, ◌^◌, ◌↔◌, IsTrue, Some, None, IsSome, IfSome, IfErr, OnOk, OnErr, option_copied, option_map};
+ghost use Rattle.std.specs.Prelude.{◌≡◌, ◌+◌, ◌<◌, ◌^◌, ◌↔◌, IsTrue, Some, None, IsSome, IfSome, IfErr, OnOk, OnErr, option_copied, option_map, find, nat_lt};
 ghost use Rattle.std.specs.FinMap as map;
 ghost use Rattle.send_frames.specs.Items.{is_kept, changed, counted_up, counted_down, with_answer, without_debt, is_unanswered, new_item};
 
@@ -8,6 +8,7 @@ use crate::row::SendRow;
 use std::alloc::Global;
 use std::collections::BTreeMap;
 use std::marker::Model;
+use std::ops::Bound;
 use win_num::{Cause, Fault, SendId};
 
 /// What the table has of a send.
@@ -85,6 +86,15 @@ impl Table {
         ensures { option_copied result ≡ map.get self.now send.0 }
     {
         self.items.get(&send.0)
+    }
+
+    /// The known send of least number above this one.
+    pub(crate) fn next(&self, after: SendId) -> Option<SendId>
+        ensures { option_map (λ s. s.0) result ≡ find (λ n. nat_lt after.0 n) (map.keys self.now) }
+    {
+        let rest = (Bound::Excluded(after.0), Bound::Unbounded);
+        let (number, _) = self.items.range(rest).next()?;
+        Some(SendId(*number))
     }
 
     /// Adds a send.

@@ -1,0 +1,17 @@
+//! The sends of all threads as one state: their frames, what is known of them, and what is ready for
+//! each thread.
+//!
+//! Each change is that of one family of entries of a history. `specs/Standing.antt` says when the parts
+//! stand for a past.
+#![tactic(auto)]
+
+mod state;
+mod tally;
+#[cfg(test)]
+mod tests;
+
+pub use send_frames::SendRow;
+pub use state::SendState;
+pub use tally::{Tally, first_cause};
+pub use user_model::Answer;
+pub use win_num::{Cause, Code, Fault, Frame, Hwnd, Kind, SendId, Thread};

@@ -1,0 +1,32 @@
+//! A state without sends, and counts. Changes of a state are tested with `user_core`, whose calls ask
+//! nothing of it.
+
+use crate::{Answer, Cause, SendId, SendState, Tally, Thread};
+use std::test::Fail;
+
+#[test]
+fn a_new_state_has_no_sends(rt: HostRuntime) -> Result<(), Fail> {
+    let state = SendState::new(rt.alloc(), 2)?;
+    assert_eq!(rt; state.unfinished(), 0usize);
+    assert_eq!(rt; state.begun(), 0);
+    assert_eq!(rt; state.answered(SendId(1)), None);
+    assert!(rt; state.row(SendId(1)).is_none());
+    assert!(rt; !state.blocks(SendId(1)));
+    assert_eq!(rt; state.top(Thread(2)), None);
+    assert_eq!(rt; state.depth(Thread(2)), 0);
+    assert_eq!(rt; state.next_window(Thread(1)), None);
+    assert_eq!(rt; state.next_ready(Thread(1), 1), None);
+    Ok(())
+}
+
+#[test]
+fn a_send_is_counted_by_its_answer(rt: HostRuntime) {
+    let entered = Tally::new().with(Answer::Inside(SendId(1), 1), None, 0);
+    assert_eq!(rt; entered.entered, 1);
+    let left = Tally::new().with(Answer::Left(SendId(1)), Some(Cause::Proc), 0);
+    assert_eq!(rt; left.by_proc, 1);
+    let replied = Tally::new().with(Answer::Value(1), Some(Cause::Reply), 0);
+    assert_eq!(rt; replied.by_reply, 1);
+    let lost = Tally::new().with(Answer::Okay, None, 3);
+    assert_eq!(rt; lost.by_loss, 3);
+}
