@@ -1,7 +1,8 @@
 -- What the parts stand for after an entry, and what the change of an entry needs.
-use Rattle.std.proofs.Common.{◌≡◌, ℕ, ◌+◌, ◌<◌, true, false, List, ◌∷◌, length, refl, ap, ◌∙◌, sym, subst, arith}
+use Rattle.std.proofs.Common.{◌≡◌, ℕ, ◌+◌, ◌<◌, ◌≤◌, true, false, List, ◌∷◌, length, Option, refl, ap, ◌∙◌, sym, subst, arith}
 use Rattle.std.proofs.lemmas.Bool.Decides.{nat_tests}
 use Rattle.win_num.specs.declared.message.Thread.{Thread}
+use Rattle.win_num.specs.declared.send.Cause.{Cause}
 use Rattle.win_class.specs.ClassTable.{ClassTable, unregister_refusal}
 use Rattle.win_tree.specs.Windows.{Windows}
 use Rattle.win_tree.specs.Kin.{doom_refusal, drop_refusal}
@@ -11,8 +12,9 @@ use Rattle.user_model.specs.declared.entry.Answer.{Answer}
 use Rattle.user_model.specs.declared.entry.Answer.TheVariants as answers
 use Rattle.user_model.specs.declared.entry.Entry.{Entry}
 use Rattle.user_model.specs.declared.entry.Setup.{Setup}
-use Rattle.user_model.specs.Past.{Past, is_full}
+use Rattle.user_model.specs.Past.{Past, is_full, place_after}
 use Rattle.user_model.specs.Idle.{reply}
+use Rattle.user_model.specs.Legal.{IsLawful}
 use Rattle.user_model.specs.Threads.{is_running}
 use Rattle.user_model.proofs.DeliveryReplies.{post_told}
 use Rattle.user_model.proofs.ReplyLaws.{by_row}
@@ -21,6 +23,15 @@ use Rattle.core_state.specs.Deliveries.{growth_in, settling_in}
 use Rattle.core_state.specs.Effects.{IsGrownBy, grown_classes, settled_classes, settled_tree}
 use Rattle.core_state.specs.Needs.{FitsCarrying, FitsGrowth, FitsNaming, FitsSettling, FitsUnmaking, IsOne}
 use Rattle.core_state.specs.Queues.{ThreadView, thread_at}
+use Rattle.send_state.specs.Parts.{SendParts}
+use Rattle.send_state.specs.Standing.{PartsStand}
+use Rattle.send_state.specs.Tallies.{FitsTally, first_cause, tallied}
+use Rattle.send_state.specs.declared.tally.Tally.{Tally}
+use Rattle.core_state.specs.Sendings.{FitsGrownSends, FitsSettledSends, grown_sends, losses_by, settled_sends}
+use Rattle.core_state.proofs.SendCounts.{counts_after, grown_losses, losses_few, same_losses, tally_fits}
+use Rattle.core_state.proofs.SendLosses.{dropped_stand, ended_stand}
+use Rattle.core_state.proofs.SendNeeds.{grown_fits, settled_fits}
+use Rattle.core_state.proofs.SendSteps.{sends_after}
 use Rattle.core_state.specs.States.{EachBy, Parts, Stands, parts}
 use Rattle.core_state.proofs.ClassSteps.{classes_after, fits_naming, fits_unregister}
 use Rattle.core_state.proofs.Deliveries.{both_changes, fits_post, fits_posting, running_is_one}
@@ -82,16 +93,63 @@ thread_step setup past p e tree t st right made =
     ∙ ap (noted t e) (both_changes past p.tree.live p.time t e.who.0 e.answer e.call (thread_at past t) st.tree.windows st.clock)
     ∙ thread-next setup past t e st.lawful right
 
+same_sends_by : (old new : Windows) (place who : ℕ) (a : Answer) (call : Call) (q : SendParts) → IsGrownBy who a call old new → settled_sends new.live place who a call q ≡ settled_sends old.live place who a call q
+same_sends_by old new place who (answers.Window w) call q made = refl
+same_sends_by old new place who a call q made = ap (λ (t : Windows). settled_sends t.live place who a call q) made
+
+same_sends : (old new : Windows) (time place : ℕ) (e : Entry) (q : SendParts) → IsGrownBy e.who.0 e.answer e.call old new → settled_sends new.live place e.who.0 e.answer e.call q ≡ settled_sends old.live place e.who.0 e.answer e.call q
+same_sends old new time place e q made = same_sends_by old new place e.who.0 e.answer e.call q made
+
+-- the sends that were brought up to date
+sends_now : (setup : Setup) (past : Past) (p : Parts) (e : Entry) (place : ℕ) → IsLawful setup (e ∷ past) → Stands setup past p → place ≡ place_after past
+    → PartsStand setup (e ∷ past) (settled_sends p.tree.live place e.who.0 e.answer e.call (grown_sends p.tree.live p.time place e.who e.answer e.call p.sends))
+sends_now setup past p e place lawful st here =
+    subst (λ n. PartsStand setup (e ∷ past) (settled_sends p.tree.live n e.who.0 e.answer e.call (grown_sends p.tree.live p.time n e.who e.answer e.call p.sends))) (sym here)
+    (subst (λ c. PartsStand setup (e ∷ past) (settled_sends p.tree.live (place_after past) e.who.0 e.answer e.call (grown_sends p.tree.live c (place_after past) e.who e.answer e.call p.sends))) (sym st.clock)
+    (sends_after setup past e p.sends p.tree.live lawful st.sends st.tree.windows (λ w is_call is. dropped_stand setup past e p.sends p.tree.live w lawful st.sends st.tree.windows is_call is) (λ is. ended_stand setup past e p.sends p.tree.live lawful st.sends st.tree.windows is)))
+
+-- what the sends need
+pub sends_grow : (setup : Setup) (past : Past) (p : Parts) (e : Entry) (place : ℕ) → is_full past ≡ false → Stands setup past p → e.answer ≡ reply setup past e.who.0 e.call → place ≡ place_after past → FitsGrownSends p.tree.live p.time place e.who e.answer e.call p.sends
+sends_grow setup past p e place room st right here =
+    subst (λ n. FitsGrownSends p.tree.live p.time n e.who e.answer e.call p.sends) (sym here)
+    (subst (λ c. FitsGrownSends p.tree.live c (place_after past) e.who e.answer e.call p.sends) (sym st.clock) (grown_fits setup past e p.sends p.tree.live st.lawful room right st.sends st.tree.windows))
+
+same_needs : (old new : Windows) (place who : ℕ) (a : Answer) (call : Call) (q : SendParts) → IsGrownBy who a call old new → FitsSettledSends old.live place who a call q → FitsSettledSends new.live place who a call q
+same_needs old new place who (answers.Window w) call q made fits = fits
+same_needs old new place who a call q made fits = subst (λ (t : Windows). FitsSettledSends t.live place who a call q) (sym made) fits
+
+pub sends_settle : (setup : Setup) (past : Past) (p : Parts) (e : Entry) (place : ℕ) (tree : Windows) (sends : SendParts) → is_full past ≡ false → Stands setup past p → e.answer ≡ reply setup past e.who.0 e.call → place ≡ place_after past → IsGrownBy e.who.0 e.answer e.call p.tree tree → sends ≡ grown_sends p.tree.live p.time place e.who e.answer e.call p.sends → FitsSettledSends tree.live place e.who.0 e.answer e.call sends
+sends_settle setup past p e place tree sends room st right here made begun =
+    same_needs p.tree tree place e.who.0 e.answer e.call sends made
+    (subst (FitsSettledSends p.tree.live place e.who.0 e.answer e.call) (sym begun)
+    (subst (λ n. FitsSettledSends p.tree.live n e.who.0 e.answer e.call (grown_sends p.tree.live p.time n e.who e.answer e.call p.sends)) (sym here)
+    (subst (λ c. FitsSettledSends p.tree.live (place_after past) e.who.0 e.answer e.call (grown_sends p.tree.live c (place_after past) e.who e.answer e.call p.sends)) (sym st.clock)
+    (settled_fits setup past e p.sends p.tree.live st.lawful room right st.sends st.tree.windows))))
+
+-- what was lost after what grew
+losses_now : (p : Parts) (e : Entry) (place : ℕ) (tree : Windows) (sends : SendParts) → IsGrownBy e.who.0 e.answer e.call p.tree tree → sends ≡ grown_sends p.tree.live p.time place e.who e.answer e.call p.sends → losses_by tree.live place e.who.0 e.answer e.call sends ≡ losses_by p.tree.live place e.who.0 e.answer e.call p.sends
+losses_now p e place tree sends made begun =
+    same_losses p.tree tree place e.who.0 e.answer e.call sends made
+    ∙ ap (losses_by p.tree.live place e.who.0 e.answer e.call) begun ∙ grown_losses p.tree.live p.time place e.who e.answer e.call p.sends
+
+-- the counts have room for one entry more
+pub tally_step : (setup : Setup) (past : Past) (p : Parts) (e : Entry) (place lost : ℕ) (tree : Windows) (sends : SendParts) → Stands setup past p → e.answer ≡ reply setup past e.who.0 e.call → place ≡ place_after past → IsGrownBy e.who.0 e.answer e.call p.tree tree → sends ≡ grown_sends p.tree.live p.time place e.who e.answer e.call p.sends → lost ≡ losses_by tree.live place e.who.0 e.answer e.call sends → FitsTally p.tally lost
+tally_step setup past p e place lost tree sends st right here made begun counted =
+    let same = counted ∙ losses_now p e place tree sends made begun ∙ ap (λ n. losses_by p.tree.live n e.who.0 e.answer e.call p.sends) here in
+    tally_fits past p.tally lost st.tally st.short (subst (λ n. n ≤ 1024) (sym same) (losses_few setup past e p.sends p.tree.live (st.lawful, right) st.sends st.tree.windows))
+
 -- the parts that were brought up to date stand for the past with the entry
-pub stands_step : (setup : Setup) (past : Past) (p : Parts) (e : Entry) (classes1 classes2 : ClassTable) (tree1 tree2 : Windows) (threads1 threads2 threads3 : List ThreadView)
+pub stands_step : (setup : Setup) (past : Past) (p : Parts) (e : Entry) (classes1 classes2 : ClassTable) (tree1 tree2 : Windows) (threads1 threads2 threads3 : List ThreadView) (sends1 sends2 : SendParts) (first : Option Cause) (lost : ℕ) (tally : Tally) (place : ℕ)
     → is_full past ≡ false → e.answer ≡ reply setup past e.who.0 e.call → Stands setup past p
     → classes1 ≡ grown_classes e.answer e.call p.classes → classes2 ≡ settled_classes e.answer e.call classes1
     → IsGrownBy e.who.0 e.answer e.call p.tree tree1 → tree2 ≡ settled_tree e.who.0 e.answer e.call tree1
     → EachBy (λ t. changed t (growth_in p.tree.live p.time e.who.0 e.answer e.call)) p.threads threads1
     → EachBy (λ t. changed t (settling_in tree1.live e.who.0 e.answer e.call)) threads1 threads2
     → EachBy (λ t. noted t e) threads2 threads3
-    → Stands setup (e ∷ past) (parts tree2 classes2 threads3 (count_kept e.answer p.post_count) (time_kept e p.time))
-stands_step setup past p e classes1 classes2 tree1 tree2 threads1 threads2 threads3 room right st grown settled made given first second note = record {
+    → sends1 ≡ grown_sends p.tree.live p.time place e.who e.answer e.call p.sends → sends2 ≡ settled_sends tree1.live place e.who.0 e.answer e.call sends1 → place ≡ place_after past
+    → first ≡ first_cause p.sends e.who.0 e.answer e.call → lost ≡ losses_by tree1.live place e.who.0 e.answer e.call sends1 → tally ≡ tallied e.answer first lost p.tally
+    → Stands setup (e ∷ past) (parts tree2 classes2 threads3 (count_kept e.answer p.post_count) (time_kept e p.time) sends2 tally)
+stands_step setup past p e classes1 classes2 tree1 tree2 threads1 threads2 threads3 sends1 sends2 cause lost tally place room right st grown settled made given first second note begun left here named counted noted_tally = record {
   lawful = (st.lawful, right);
   short = grind (arith, nat_tests, room);
   tree = tree_after setup past e p.tree tree1 tree2 st.lawful st.tree right made given;
@@ -108,4 +166,9 @@ stands_step setup past p e classes1 classes2 tree1 tree2 threads1 threads2 threa
   };
   posts = ap (count_kept e.answer) st.posts ∙ count_kept-next setup past e right;
   clock = ap (time_kept e) st.clock ∙ time_kept-next e past;
+  sends = subst (PartsStand setup (e ∷ past)) (sym (left ∙ same_sends p.tree tree1 p.time place e sends1 made ∙ ap (settled_sends p.tree.live place e.who.0 e.answer e.call) begun))
+      (sends_now setup past p e place (st.lawful, right) st here);
+  tally = noted_tally ∙ ap (λ (c : Option Cause). tallied e.answer c lost p.tally) named ∙ ap (λ n. tallied e.answer (first_cause p.sends e.who.0 e.answer e.call) n p.tally) (counted ∙ losses_now p e place tree1 sends1 made begun ∙ ap (λ n. losses_by p.tree.live n e.who.0 e.answer e.call p.sends) here)
+      ∙ ap (tallied e.answer (first_cause p.sends e.who.0 e.answer e.call) (losses_by p.tree.live (place_after past) e.who.0 e.answer e.call p.sends)) st.tally
+      ∙ sym (counts_after setup past e p.sends p.tree.live (st.lawful, right) st.sends st.tree.windows);
 }

@@ -27,7 +27,7 @@ map_filter h f g e (x ∷ xs) = ap (λ b. cond b (h x ∷ filter f (map h xs)) (
     pick true rest = ap (λ l. h x ∷ l) rest
     pick false rest = rest
 
-same_number : (a b : ℕ) → eqb a b ≡ eqb b a
+pub same_number : (a b : ℕ) → eqb a b ≡ eqb b a
 same_number a b = elim (eqb_tells a b) [
   | inl x ↦ let other : eqb b a ≡ true = grind (arith, nat_tests, x.1) in x.0 ∙ sym other
   | inr x ↦ let other : eqb b a ≡ false = grind (arith, nat_tests, x.1) in x.0 ∙ sym other

@@ -201,6 +201,11 @@ time_step e (answers.Advanced v) past is = rw is (pick (eqb e.who.0 0))
     pick : (b : Bool) → cond b v (clock past) ≡ unwrap_or (cond b (Some v) None) (clock past)
     pick true = refl
     pick false = refl
+time_step e (answers.Value v) past is = rw is (pick (eqb e.who.0 0))
+  where
+    pick : (b : Bool) → cond b v (clock past) ≡ unwrap_or (cond b (Some v) None) (clock past)
+    pick true = refl
+    pick false = refl
 time_step e _ past is = rw is refl
 
 -- the clock follows the past

@@ -5,7 +5,7 @@ use Rattle.post_queue.specs.Queue.{Posted, Queue, queue, post_of, without_number
 use Rattle.user_model.specs.declared.call.Call.{Call}
 use Rattle.user_model.specs.declared.call.Call.TheVariants.{Post, PostThread, PostQuit, Drop}
 use Rattle.user_model.specs.declared.entry.Answer.{Answer}
-use Rattle.user_model.specs.declared.entry.Answer.TheVariants.{Okay, Ended, Posted as PostMade, Got, Advanced}
+use Rattle.user_model.specs.declared.entry.Answer.TheVariants.{Okay, Ended, Posted as PostMade, Got, Advanced, Value}
 use Rattle.user_model.specs.declared.entry.Origin.TheVariants.{Posted as FromPosted, Quit as FromQuit}
 use Rattle.user_model.specs.declared.entry.Entry.{Entry}
 use Rattle.user_model.specs.Past.{Past}
@@ -82,6 +82,7 @@ count_kept _ old = old
 -- the clock after an answer to who
 abbrev pub time_told_to : ℕ → Answer → ℕ → ℕ
 time_told_to who (Advanced time) old = if who == 0 then time else old
+time_told_to who (Value time) old = if who == 0 then time else old
 time_told_to who _ old = old
 
 -- the clock after an entry

@@ -2,8 +2,10 @@ pub mod Changes
 pub mod ClassTables
 pub mod Deliveries
 pub mod Effects
+pub mod Frames
 pub mod Needs
 pub mod Queues
+pub mod Sendings
 pub mod States
 pub mod Steps
 pub mod Trees

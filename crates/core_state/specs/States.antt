@@ -7,6 +7,10 @@ use Rattle.user_model.specs.Posts.{posts}
 use Rattle.user_model.specs.Legal.{IsLawful}
 use Rattle.win_tree.specs.Windows.{Windows}
 use Rattle.win_class.specs.ClassTable.{ClassTable}
+use Rattle.send_state.specs.Parts.{SendParts}
+use Rattle.send_state.specs.Standing.{PartsStand}
+use Rattle.send_state.specs.Tallies.{tally_at}
+use Rattle.send_state.specs.declared.tally.Tally.{Tally}
 use Rattle.core_state.specs.ClassTables.{classes_at}
 use Rattle.core_state.specs.Queues.{ThreadView, thread_at}
 use Rattle.core_state.specs.Trees.{IsTreeAt}
@@ -23,10 +27,12 @@ pub record Parts : Type 0 where
   pub threads : List ThreadView
   pub post_count : ℕ
   pub time : ℕ
+  pub sends : SendParts
+  pub tally : Tally
 
 -- the parts from their values
-abbrev pub parts : Windows → ClassTable → List ThreadView → ℕ → ℕ → Parts
-parts tree classes threads post_count time = record { tree = tree; classes = classes; threads = threads; post_count = post_count; time = time }
+abbrev pub parts : Windows → ClassTable → List ThreadView → ℕ → ℕ → SendParts → Tally → Parts
+parts tree classes threads post_count time sends tally = record { tree = tree; classes = classes; threads = threads; post_count = post_count; time = time; sends = sends; tally = tally }
 
 -- each thread's part is what the past says of the thread
 pub record EachThread (past : Past) (threads : List ThreadView) : Type 0 where
@@ -47,3 +53,5 @@ pub record Stands (setup : Setup) (past : Past) (p : Parts) : Type 0 where
   pub each : EachThread past p.threads
   pub posts : p.post_count ≡ length (posts past)
   pub clock : p.time ≡ clock past
+  pub sends : PartsStand setup past p.sends
+  pub tally : p.tally ≡ tally_at past

@@ -6,34 +6,42 @@ ghost use Rattle.core_state.specs.Changes.{changed};
 ghost use Rattle.core_state.specs.Deliveries.{carried_in, growth_in, settling_in};
 ghost use Rattle.core_state.specs.Effects.{IsGrownBy, carried_classes, carried_tree, grown_classes, settled_classes, settled_tree};
 ghost use Rattle.core_state.specs.Needs.{FitsCarrying, FitsGrowth, FitsSettling};
+ghost use Rattle.core_state.specs.Sendings.{FitsGrownSends, grown_sends};
 ghost use Rattle.core_state.specs.States.{EachBy};
 
 use crate::delivery::{posting, window_or_none};
 use crate::queues::{end, post, purge_kin, set_quit, take};
+use crate::sendings::begin;
 use crate::tables::{doom, drop_window, make, name, unmake, unregister};
 use crate::thread_state::ThreadState;
+use send_state::SendState;
 use std::alloc::AllocError;
 use user_model::{Answer, Call, Entry};
 use win_class::Classes;
 use win_num::Thread;
 use win_tree::Tree;
 
-/// Adds a post, a class, a message's name or a window, as the answer says. After want of memory nothing
-/// has changed.
+/// Adds a post, a class, a message's name, a window or a send, as the answer says. After want of memory
+/// nothing has changed.
 pub fn grow(
     classes: &mut Classes,
     tree: &mut Tree,
     threads: &mut Vec<ThreadState>,
+    sends: &mut SendState,
     time: u64,
+    place: u32,
     entry: Entry,
 ) -> Result<(), AllocError>
-    requires { FitsGrowth classes.old tree.old threads.old.items time entry.who.0 entry.answer entry.call }
+    requires parts { FitsGrowth classes.old tree.old threads.old.items time entry.who.0 entry.answer entry.call }
+    requires sends { FitsGrownSends tree.old.live time place entry.who entry.answer entry.call sends.old }
     ensures classes { OnOk result (classes.new ≡ grown_classes entry.answer entry.call classes.old) }
     ensures tree { OnOk result (IsGrownBy entry.who.0 entry.answer entry.call tree.old tree.new) }
     ensures threads { OnOk result (EachBy (λ t. changed t (growth_in tree.old.live time entry.who.0 entry.answer entry.call)) threads.old.items threads.new.items) }
+    ensures sends { OnOk result (sends.new ≡ grown_sends tree.old.live time place entry.who entry.answer entry.call sends.old) }
     ensures classes_stay { OnErr result (classes.new ≡ classes.old) }
     ensures tree_stays { OnErr result (tree.new ≡ tree.old) }
     ensures threads_stay { OnErr result (threads.new.items ≡ threads.old.items) }
+    ensures sends_stay { OnErr result (sends.new ≡ sends.old) }
 {
     match entry.answer {
         Answer::Posted(number) => match posting(tree, time, entry) {
@@ -42,6 +50,7 @@ pub fn grow(
         },
         Answer::Value(_) => name(classes, entry.call),
         Answer::Window(_) => make(tree, entry.who, entry.call),
+        Answer::Inside(_, _) | Answer::Begun(_) => begin(sends, tree, time, place, entry),
         _ => Ok(()),
     }
 }

@@ -8,10 +8,12 @@
 mod change;
 mod delivery;
 mod queues;
+mod sendings;
 mod state;
 mod tables;
 mod thread_state;
 
+pub use send_state::SendRow;
 pub use state::CoreState;
 
 #[cfg(test)]

@@ -1,6 +1,6 @@
 //! What an entry does to what is kept of the threads.
 
-ghost use Rattle.std.specs.Prelude.{◌≡◌, ◌<◌, None, Some, OnOk, OnErr};
+ghost use Rattle.std.specs.Prelude.{◌≡◌, ◌<◌, All, None, Some, OnOk, OnErr, length, slice_index_or};
 ghost use Rattle.win_num.specs.declared.message.Msg.{Msg};
 ghost use Rattle.user_model.specs.Retrievals.{removes};
 ghost use Rattle.core_state.specs.Changes.{changed, count_kept, ends, noted, posts, purges, quits, taken_if, takes, time_kept};
@@ -127,7 +127,7 @@ pub fn time_after(time: u64, entry: Entry) -> u64
     ensures { result ≡ time_kept entry time }
 {
     match entry.answer {
-        Answer::Advanced(told) if entry.who.0 == 0 => told,
+        Answer::Advanced(told) | Answer::Value(told) if entry.who.0 == 0 => told,
         _ => time,
     }
 }

@@ -1,29 +1,43 @@
 //! The history, and the parts that stand for it.
 
-ghost use Rattle.std.specs.Prelude.{◌≡◌, ◌<◌, ◌≤◌, ◌+◌, ◌&&◌, [], ◌∷◌, length, reverse, All, true, false, IfOk, OnOk, OnErr, is_some, option_map};
+ghost use Rattle.std.specs.Prelude.{◌≡◌, ◌<◌, ◌≤◌, ◌+◌, ◌^◌, ◌&&◌, [], ◌∷◌, length, reverse, All, true, false, IfOk, OnOk, OnErr, Some, IsTrue, is_some, option_and_then, option_map};
+ghost use Rattle.user_model.specs.Legal.{IsLegal};
 ghost use Rattle.user_model.specs.Past.{is_full};
 ghost use Rattle.user_model.specs.Places.{clock, has_ended};
 ghost use Rattle.user_model.specs.Posts.{posted, first_post, quit};
 ghost use Rattle.user_model.specs.ReplyDelivery.{next_post_number};
 ghost use Rattle.user_model.specs.ReplyWindows.{next_window, next_top_reply};
+ghost use Rattle.user_model.specs.Setups.{IsSetup};
 ghost use Rattle.user_model.specs.Threads.{is_running, is_thread};
+ghost use Rattle.user_model.specs.Stacks.{has_room, top};
+ghost use Rattle.user_model.specs.Sends.{SentMsg, answer, send, unfinished};
+ghost use Rattle.user_model.specs.Next.{next_ready};
+ghost use Rattle.user_model.specs.Counts.{send_count};
+ghost use Rattle.user_model.specs.ReplySends.{blocks, deadline, next_send_number};
+ghost use Rattle.send_state.specs.Standing.{as_told, row_of};
+ghost use Rattle.core_state.specs.Frames.{IsOnTop, wait_end};
 ghost use Rattle.user_model.specs.Windows.{live, window, is_live, thread_of, up, next_top};
 ghost use Rattle.user_model.specs.Destruction.{is_marked, was_given, ended};
-ghost use Rattle.user_model.specs.Classes.{class, classes, registered_count, is_used, message_names, message_number};
-ghost use Rattle.user_model.specs.Idle.{reply, is_idle, ends_stuck, last_entry};
+ghost use Rattle.user_model.specs.Classes.{class, classes, registered_count, is_used, message_names, message_number, proc_of};
+ghost use Rattle.user_model.specs.Idle.{reply, is_idle, ends_stuck, last_entry, one_of, times_of};
 ghost use Rattle.core_state.specs.Queues.{fresh_thread, waiting_call};
 ghost use Rattle.core_state.specs.Steps.{destruction_answer, told_of, up_of};
 
 use crate::change::{grow, settle};
 use crate::delivery::thread_of;
 use crate::queues::{count_after, note_entry, time_after};
+use crate::sendings::settle_sends;
 use crate::thread_state::ThreadState;
+use send_state::{SendRow, SendState, Tally, first_cause};
 use std::alloc::{AllocError, Global};
 use std::marker::Model;
-use user_model::{Answer, Call, Entry, HISTORY_LIMIT, Setup};
+use user_model::{Answer, Call, Entry, HISTORY_LIMIT, SendCount, Setup};
 use win_class::Classes;
-use win_num::{Filter, Hwnd, Msg};
+use win_num::{Cause, Filter, Frame, Hwnd, Msg, SendId, Thread};
 use win_tree::{Tree, Unmade, WindowRow};
+
+/// How many frames a stack may hold.
+const STACK_LIMIT: u8 = 64;
 
 /// The history so far, and parts that answer in short time what the definitions say of it.
 #[derive(Drop)]
@@ -39,6 +53,8 @@ pub struct CoreState {
     post_count: u32,
     /// Milliseconds of the virtual clock.
     time: u64,
+    sends: SendState,
+    tally: Tally,
 }
 
 impl Model for CoreState {
@@ -49,12 +65,14 @@ impl Model for CoreState {
 
     ghost view = { λ s. record { setup = s.setup; past = reverse s.history.items } };
 
-    ghost invariant = { λ s. Stands s.setup (reverse s.history.items) (parts s.tree s.classes s.threads.items s.post_count s.time) };
+    ghost invariant = { λ s. Stands s.setup (reverse s.history.items) (parts s.tree s.classes s.threads.items s.post_count s.time s.sends s.tally) };
 }
 
 impl CoreState {
     /// No entry yet.
+    #[tactic(auto, using(crate::proofs::FreshSends::no_parts_stand))]
     pub fn new(alloc: Global, setup: Setup) -> Result<CoreState, AllocError>
+        requires { IsSetup setup }
         ensures { IfOk result (λ s. s ≡ record { setup = setup; past = [] }) }
     {
         Ok(CoreState {
@@ -65,6 +83,8 @@ impl CoreState {
             threads: fresh_threads(alloc, setup.threads)?,
             post_count: 0,
             time: 0,
+            sends: SendState::new(alloc, setup.threads)?,
+            tally: Tally::new(),
         })
     }
 
@@ -75,9 +95,10 @@ impl CoreState {
         self.setup.threads
     }
 
-    /// All entries, the oldest first.
+    /// All entries, the oldest first: a legal history.
     pub fn history(&self) -> &[Entry]
-        ensures { result.now ≡ reverse self.now.past }
+        ensures all { result.now ≡ reverse self.now.past }
+        ensures legal { IsLegal self.now.setup result.now }
     {
         &self.history
     }
@@ -99,9 +120,10 @@ impl CoreState {
         }
     }
 
-    /// Milliseconds of the virtual clock.
+    /// Milliseconds of the virtual clock, below 2 to the 62nd.
     pub fn time(&self) -> u64
-        ensures { result ≡ clock self.now.past }
+        ensures time { result ≡ clock self.now.past }
+        ensures early { result < 2 ^ 62 }
     {
         self.time
     }
@@ -175,6 +197,155 @@ impl CoreState {
         ensures { result ≡ next_post_number self.now.past }
     {
         self.post_count + 1
+    }
+
+    /// The newest frame of a thread.
+    pub fn top(&self, thread: u8) -> Option<Frame>
+        requires some { 0 < thread }
+        requires known { thread ≤ self.now.setup.threads }
+        ensures { result ≡ top self.now.past thread }
+    {
+        self.sends.top(Thread(thread))
+    }
+
+    /// Whether a thread's stack has room for a frame.
+    pub fn has_room(&self, thread: u8) -> bool
+        requires some { 0 < thread }
+        requires known { thread ≤ self.now.setup.threads }
+        ensures { result ≡ has_room self.now.past thread }
+    {
+        self.sends.depth(Thread(thread)) < STACK_LIMIT
+    }
+
+    /// The answer that runs what a thread has ready, where its stack has room.
+    pub fn next_ready(&self, thread: u8) -> Option<Answer>
+        requires some { 0 < thread }
+        requires known { thread ≤ self.now.setup.threads }
+        ensures { result ≡ next_ready self.now.past thread }
+    {
+        let who = Thread(thread);
+        let window = self.sends.next_window(who)?;
+        self.sends
+            .next_ready(who, self.proc_of(u64::from(window.0)))
+    }
+
+    /// The procedure of a live window, or 0.
+    pub fn proc_of(&self, w: u64) -> u32
+        ensures { result ≡ proc_of self.now.past w }
+    {
+        match self.tree.find(w) {
+            Some(window) => self.window_proc(window),
+            None => 0,
+        }
+    }
+
+    /// The procedure of the class of a window, or 0.
+    fn window_proc(&self, window: Hwnd) -> u32
+        ensures { result ≡ proc_of self.now.past window.0 }
+    {
+        let Some(row) = self.tree.row(window) else {
+            return 0;
+        };
+        match self.classes.class(row.class) {
+            Some(class) => class.proc_no,
+            None => 0,
+        }
+    }
+
+    /// The first answer of the send of a thread's newest frame: its result and its cause.
+    pub fn answered(&self, thread: u8, send: SendId) -> Option<(u64, Cause)>
+        requires some { 0 < thread }
+        requires known { thread ≤ self.now.setup.threads }
+        requires on_top { IsOnTop self.now.past thread send.0 }
+        ensures { result ≡ option_map as_told (answer self.now.past send.0) }
+    {
+        self.sends.answered(send)
+    }
+
+    /// The send of a thread's newest frame, as it was made.
+    pub fn sent(&self, thread: u8, number: SendId) -> Option<SendRow>
+        requires some { 0 < thread }
+        requires known { thread ≤ self.now.setup.threads }
+        requires on_top { IsOnTop self.now.past thread number.0 }
+        ensures row { result ≡ option_map row_of (send self.now.past number.0) }
+        ensures number { (x : SentMsg) → send self.now.past number.0 ≡ Some x → x.number ≡ number.0 }
+    {
+        self.sends.row(number).copied()
+    }
+
+    /// When the send of a thread's newest frame gives up, in milliseconds of the clock.
+    pub fn deadline(&self, thread: u8, send: SendId) -> Option<u64>
+        requires some { 0 < thread }
+        requires known { thread ≤ self.now.setup.threads }
+        requires on_top { IsOnTop self.now.past thread send.0 }
+        ensures { result ≡ deadline self.now.past send.0 }
+    {
+        self.sends.deadline(send)
+    }
+
+    /// Whether the sender of a thread's newest frame serves nobody while it waits.
+    pub fn blocks(&self, thread: u8, send: SendId) -> bool
+        requires some { 0 < thread }
+        requires known { thread ≤ self.now.setup.threads }
+        requires on_top { IsOnTop self.now.past thread send.0 }
+        ensures { result ≡ blocks self.now.past send.0 }
+    {
+        self.sends.blocks(send)
+    }
+
+    /// How many sends are unfinished, 0 to 1,024.
+    pub fn unfinished_count(&self) -> usize
+        ensures { result ≡ length (unfinished self.now.past) }
+    {
+        self.sends.unfinished()
+    }
+
+    /// How many sends came to what.
+    pub fn send_count(&self) -> SendCount
+        ensures { result ≡ send_count self.now.past }
+    {
+        SendCount {
+            begun: self.sends.begun(),
+            entered: self.tally.entered,
+            by_proc: self.tally.by_proc,
+            by_reply: self.tally.by_reply,
+            by_loss: self.tally.by_loss,
+            by_timeout: self.tally.by_timeout,
+            unfinished: self.sends.unfinished() as u32,
+        }
+    }
+
+    /// The number that the next send gets.
+    pub fn next_send(&self) -> SendId
+        requires { is_full self.now.past ≡ false }
+        ensures { result ≡ record { 0 = next_send_number self.now.past } }
+    {
+        SendId(self.sends.begun() + 1)
+    }
+
+    /// The time that a thread waits for.
+    pub fn wake_time(&self, thread: u8) -> Option<u64>
+        requires some { 0 < thread }
+        requires known { thread ≤ self.now.setup.threads }
+        ensures { one_of result ≡ times_of self.now.past (last_entry self.now.past thread) }
+    {
+        match self.threads[usize::from(thread - 1)].waiting()? {
+            Call::SleepUntil(time) => Some(time),
+            Call::Await(_) => self.wait_end(thread),
+            _ => None,
+        }
+    }
+
+    /// When the send that a thread waits for gives up.
+    fn wait_end(&self, thread: u8) -> Option<u64>
+        requires some { 0 < thread }
+        requires known { thread ≤ self.now.setup.threads }
+        ensures { result ≡ option_and_then (wait_end self.now.past) (top self.now.past thread) }
+    {
+        match self.top(thread)? {
+            Frame::Await(send) => self.deadline(thread, send),
+            _ => None,
+        }
     }
 
     /// Whether it is the number of a live window.
@@ -311,18 +482,24 @@ impl CoreState {
         ensures ok { OnOk result (self.new ≡ record { setup = self.old.setup; past = entry ∷ self.old.past }) }
         ensures err { OnErr result (self.new ≡ self.old) }
     {
+        let first = first_cause(&self.sends, entry);
         self.history.reserve(1)?;
+        let place = self.history.len() as u32;
         grow(
             &mut self.classes,
             &mut self.tree,
             &mut self.threads,
+            &mut self.sends,
             self.time,
+            place,
             entry,
         )?;
+        let lost = settle_sends(&mut self.sends, &self.tree, place, entry);
         settle(&mut self.classes, &mut self.tree, &mut self.threads, entry);
         note_entry(&mut self.threads, entry);
         self.post_count = count_after(self.post_count, entry.answer);
         self.time = time_after(self.time, entry);
+        self.tally = self.tally.with(entry.answer, first, lost);
         self.history.push(entry).unwrap();
         Ok(())
     }

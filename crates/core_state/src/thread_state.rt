@@ -1,6 +1,6 @@
 //! What is kept of one thread.
 
-ghost use Rattle.std.specs.Prelude.{◌≡◌, ◌<◌, ℕ, [], ◌∷◌, ◌++◌, All, Bool, true, filter, find, length, not, option_map, OnOk, OnErr};
+ghost use Rattle.std.specs.Prelude.{◌≡◌, ◌<◌, ◌==◌, ℕ, [], ◌∷◌, ◌++◌, All, Bool, true, filter, find, length, not, option_map, OnOk, OnErr};
 ghost use Rattle.post_queue.specs.Queue.{pair_of, post_of, queue, without_number};
 ghost use Rattle.win_num.specs.declared.message.Hwnd.{Hwnd};
 ghost use Rattle.core_state.specs.Deliveries.{passes_here, passes_in};

@@ -1,0 +1,40 @@
+-- No sends stand for no entries.
+use Rattle.std.proofs.Common.{◌≡◌, ℕ, zero, suc, ◌-◌, List, [], get_or, replicate, refl, ap, sym, subst}
+use Rattle.std.proofs.lemmas.List.{length-replicate}
+use Rattle.std.specs.Prelude.{map as each}
+use Rattle.std.specs.FinMap.{get-empty}
+use Rattle.std.specs.Ordering.{nat_cmp}
+use Rattle.win_num.specs.declared.send.Frame.{Frame}
+use Rattle.user_model.specs.declared.entry.Setup.{Setup}
+use Rattle.user_model.specs.Setups.{IsSetup}
+use Rattle.send_variants.specs.Lists.{AreBelow, Entry}
+use Rattle.send_variants.proofs.Entries.{sound-new}
+use Rattle.send_state.specs.Parts.{no_parts, rank}
+use Rattle.send_state.specs.Standing.{PartsStand, item}
+
+no_frames : (n i : ℕ) → get_or (replicate n (let fs : List Frame = [] in fs)) i [] ≡ []
+no_frames zero i = refl
+no_frames (suc n) zero = refl
+no_frames (suc n) (suc i) = no_frames n i
+
+no_items : (n i : ℕ) → get_or (replicate n (let es : List Entry = [] in es)) i [] ≡ []
+no_items zero i = refl
+no_items (suc n) zero = refl
+no_items (suc n) (suc i) = no_items n i
+
+-- a state without sends stands for a history without entries
+pub no_parts_stand : (setup : Setup) → IsSetup setup → PartsStand setup [] (no_parts setup.threads)
+no_parts_stand setup is = record {
+  book = record {
+    begun = refl;
+    threads = length-replicate setup.threads [];
+    stacks = λ t ours. no_frames setup.threads (t - 1);
+    known = λ s. get-empty nat_cmp s;
+  };
+  lists = record {
+    threads = length-replicate setup.threads [];
+    ready = λ t ours. ap (each item) (no_items setup.threads (t - 1));
+    below = λ t. subst (AreBelow (rank 0 0)) (sym (no_items setup.threads (t - 1))) tt;
+    sound = sound-new setup.threads is.some_thread is.few_threads;
+  };
+}

@@ -1,0 +1,22 @@
+use Rattle.std.proofs.Common.{rules, ◌≡◌, Some, reverse, ap, sym, ◌∙◌}
+use Rattle.user_model.specs.declared.call.Call.TheVariants.{Await}
+use Rattle.user_model.specs.Past.{Past}
+use Rattle.user_model.specs.Idle.{last_entry, one_of, times_of}
+use Rattle.user_model.specs.Stacks.{top}
+use Rattle.core_state.specs.Frames.{wait_end}
+use Rattle.core_state.specs.Queues.{waiting_call}
+use Rattle.core_state.specs.States.{Seen}
+use Rattle.std.specs.Prelude.{option_and_then}
+use Rattle.core_state.proofs.Waits.{await_times}
+use Rattle.core_state.proofs.state.CoreState.wake_time.Goals as goal
+
+pub returns-in-Await : goal.returns-in-Await
+returns-in-Await c =
+    let s = c.self.inside in
+    let past : Past = reverse s.history.items in
+    let t = c.args.thread in
+    let waits : waiting_call (last_entry past t) ≡ Some (Await c.in-Await.field-0) = search rules in
+    ap one_of c.wait_end.ensures
+    ∙ ap (λ (v : Seen). one_of (option_and_then (wait_end v.past) (top v.past t))) (sym c.self.view_is)
+    ∙ await_times s.setup past t c.in-Await.field-0 c.self.invariant.lawful waits
+    ∙ ap (λ (v : Seen). times_of v.past (last_entry v.past t)) c.self.view_is
