@@ -1,0 +1,132 @@
+//! The calls of delivery: what each answers, and its entry.
+
+ghost use Rattle.std.specs.Prelude.{◌≡◌, ◌<◌, ◌≤◌, true, false, IfOk, OnOk, OnErr};
+ghost use Rattle.core_deliver.specs.Groups.{is_delivery, is_retrieval};
+ghost use Rattle.user_model.specs.Idle.{reply};
+ghost use Rattle.user_model.specs.Machines.{after};
+ghost use Rattle.user_model.specs.Past.{is_full};
+ghost use Rattle.user_model.specs.Replies.{is_barred_by, row};
+ghost use Rattle.user_model.specs.Stacks.{top};
+
+use crate::admission::admit;
+use crate::delivery::{get_answer, peek_answer, post_answer, post_thread_answer};
+use crate::messages::message_answer;
+use crate::sends::{
+    await_answer, dispatch_answer, in_send_answer, leave_answer, reply_answer, send_answer,
+    send_other_answer, send_timeout_answer,
+};
+use core_state::CoreState;
+use std::alloc::AllocError;
+use user_model::{Answer, Call, Entry};
+use win_num::{Filter, Thread};
+
+/// The answer of a retrieval to a running thread, where its stack allows it.
+fn retrieval_row(state: &CoreState, who: u8, call: Call) -> Answer
+    requires group { is_retrieval call ≡ true }
+    requires some { 0 < who }
+    requires known { who ≤ state.now.setup.threads }
+    ensures { result ≡ row state.now.setup state.now.past who call }
+{
+    match call {
+        Call::Peek(hwnd, min, max, flags) => {
+            peek_answer(state, who, Filter { hwnd, min, max }, flags)
+        }
+        Call::Get(hwnd, min, max) => get_answer(state, who, Filter { hwnd, min, max }),
+        _ => unreachable!(),
+    }
+}
+
+/// The answer of a call of delivery to a running thread, where its stack allows it.
+fn delivery_row(state: &CoreState, who: u8, call: Call) -> Answer
+    requires group { is_delivery call ≡ true }
+    requires room { is_full state.now.past ≡ false }
+    requires some { 0 < who }
+    requires known { who ≤ state.now.setup.threads }
+    requires allowed { is_barred_by call (top state.now.past who) ≡ false }
+    ensures { result ≡ row state.now.setup state.now.past who call }
+{
+    match call {
+        Call::Post(w, number, _, _) => post_answer(state, who, w, number),
+        Call::PostThread(to, number, _, _) => post_thread_answer(state, to, number),
+        Call::PostQuit(_) => Answer::Okay,
+        Call::Dispatch(w, number, _, _) => dispatch_answer(state, who, w, number),
+        Call::Send(w, number, _, _) => send_answer(state, who, w, number),
+        Call::SendTimeout(w, number, _, _, flags, ms) => {
+            send_timeout_answer(state, who, w, number, flags, ms)
+        }
+        Call::SendNotify(w, number, _, _) | Call::SendCallback(w, number, _, _, _, _) => {
+            send_other_answer(state, who, w, number)
+        }
+        Call::Await(send) => await_answer(state, who, send),
+        Call::Leave(value) => leave_answer(state, who, value),
+        Call::Reply(_) => reply_answer(state, who),
+        Call::InSend => in_send_answer(state, who),
+        Call::Message(name) => message_answer(state, name),
+        _ => unreachable!(),
+    }
+}
+
+/// What a retrieval answers.
+pub fn retrieval_answer(state: &CoreState, who: Thread, call: Call) -> Answer
+    requires { is_retrieval call ≡ true }
+    ensures { result ≡ reply state.now.setup state.now.past who.0 call }
+{
+    match admit(state, who, call) {
+        Some(code) => Answer::Refused(code),
+        None => retrieval_row(state, who.0, call),
+    }
+}
+
+/// What a call of delivery answers.
+pub fn delivery_answer(state: &CoreState, who: Thread, call: Call) -> Answer
+    requires { is_delivery call ≡ true }
+    ensures { result ≡ reply state.now.setup state.now.past who.0 call }
+{
+    match admit(state, who, call) {
+        Some(code) => Answer::Refused(code),
+        None => delivery_row(state, who.0, call),
+    }
+}
+
+/// Adds the entry of a call that was answered, where the history has room.
+fn enter(s: &mut CoreState, who: Thread, call: Call, answer: Answer) -> Result<Answer, AllocError>
+    requires { answer ≡ reply s.old.setup s.old.past who.0 call }
+    ensures answer { IfOk result (λ told. told ≡ answer) }
+    ensures entry { OnOk result (s.new.past ≡ after s.old.setup s.old.past who call) }
+    ensures err { OnErr result (s.new.past ≡ s.old.past) }
+    ensures setup { s.new.setup ≡ s.old.setup }
+{
+    if s.is_full() {
+        return Ok(answer);
+    }
+    s.append(Entry { who, call, answer })?;
+    Ok(answer)
+}
+
+/// Makes a get or a peek. The answer is the reply of the definitions, and stands with the call as the
+/// newest entry, unless the history is full: then it stays as it was. After want of memory nothing
+/// has changed, and the call may be made again (Microsoft, GetMessage and PeekMessage functions).
+pub fn retrieve(s: &mut CoreState, who: Thread, call: Call) -> Result<Answer, AllocError>
+    requires { is_retrieval call ≡ true }
+    ensures answer { IfOk result (λ answer. answer ≡ reply s.old.setup s.old.past who.0 call) }
+    ensures entry { OnOk result (s.new.past ≡ after s.old.setup s.old.past who call) }
+    ensures err { OnErr result (s.new.past ≡ s.old.past) }
+    ensures setup { s.new.setup ≡ s.old.setup }
+{
+    let answer = retrieval_answer(s, who, call);
+    enter(s, who, call, answer)
+}
+
+/// Makes a call of delivery. The answer is the reply of the definitions, and stands with the call as the
+/// newest entry, unless the history is full: then it stays as it was. After want of memory nothing
+/// has changed, and the call may be made again (Microsoft, SendMessage and PostMessage functions).
+pub fn deliver(s: &mut CoreState, who: Thread, call: Call) -> Result<Answer, AllocError>
+    requires { is_delivery call ≡ true }
+    ensures answer { IfOk result (λ answer. answer ≡ reply s.old.setup s.old.past who.0 call) }
+    ensures entry { OnOk result (s.new.past ≡ after s.old.setup s.old.past who call) }
+    ensures err { OnErr result (s.new.past ≡ s.old.past) }
+    ensures setup { s.new.setup ≡ s.old.setup }
+{
+    let answer = delivery_answer(s, who, call);
+    enter(s, who, call, answer)
+}

@@ -1,0 +1,158 @@
+//! What posts and retrievals answer.
+
+ghost use Rattle.std.specs.Prelude.{◌≡◌, ◌<◌, ◌≤◌, false, pos};
+ghost use Rattle.user_model.specs.Past.{is_full};
+ghost use Rattle.win_num.specs.declared.names.TheConstants.{WM_QUIT};
+ghost use Rattle.user_model.specs.Filters.{is_no_filter_window};
+ghost use Rattle.user_model.specs.Next.{next, next_quit};
+ghost use Rattle.user_model.specs.Posts.{message};
+ghost use Rattle.user_model.specs.ReplyDelivery.{get_reply, peek_reply, post_reply, post_thread_reply, post_to};
+
+use crate::codes::{INVALID_PARAMETER, INVALID_THREAD_ID, INVALID_WINDOW_HANDLE, NOT_ENOUGH_QUOTA};
+use core_state::CoreState;
+use user_model::{Answer, Origin, QUEUE_LIMIT};
+use win_num::{Filter, Hwnd, Msg, Point, names};
+
+/// The greatest number of a message.
+const LAST_MESSAGE: u64 = 65535;
+
+/// Whether a filter's window is neither none nor minus one nor a live window of the caller.
+fn is_no_filter_window(state: &CoreState, who: u8, w: u64) -> bool
+    ensures { result ≡ is_no_filter_window state.now.past who w }
+{
+    if w == 0 || w == names::NO_WINDOW {
+        return false;
+    }
+    !state.is_live(w) || state.thread_of(w) != who
+}
+
+/// What is ready, else the first posted message that passes, else quit.
+fn next(state: &CoreState, who: u8, filter: Filter) -> Option<Answer>
+    requires some { 0 < who }
+    requires known { who ≤ state.now.setup.threads }
+    ensures { result ≡ next state.now.past who filter }
+{
+    if let Some(answer) = state.next_ready(who) {
+        return Some(answer);
+    }
+    match state.first_post(who, filter) {
+        Some((number, msg)) => Some(Answer::Got {
+            origin: Origin::Posted,
+            number,
+            msg,
+        }),
+        None => next_quit(state, who),
+    }
+}
+
+/// Quit, where no posted message at all is left.
+fn next_quit(state: &CoreState, who: u8) -> Option<Answer>
+    requires some { 0 < who }
+    requires known { who ≤ state.now.setup.threads }
+    ensures { result ≡ next_quit state.now.past who }
+{
+    if state.queue_len(u64::from(who)) != 0 {
+        return None;
+    }
+    match state.quit(who) {
+        Some(code) => Some(quit(code, state.time())),
+        None => None,
+    }
+}
+
+/// Quit as a retrieval hands it out, with the clock and the cursor of the retrieval.
+fn quit(code: u64, time: u64) -> Answer
+    ensures { result ≡ Answer.Got Origin.Quit 0 (message 0 WM_QUIT code 0 time (record { x = pos 0; y = pos 0 })) }
+{
+    Answer::Got {
+        origin: Origin::Quit,
+        number: 0,
+        msg: Msg {
+            hwnd: Hwnd(0),
+            number: names::WM_QUIT,
+            wparam: code,
+            lparam: 0,
+            time,
+            point: Point { x: 0, y: 0 },
+        },
+    }
+}
+
+/// The answer of a get.
+pub fn get_answer(state: &CoreState, who: u8, filter: Filter) -> Answer
+    requires some { 0 < who }
+    requires known { who ≤ state.now.setup.threads }
+    ensures { result ≡ get_reply state.now.past who filter.hwnd filter.min filter.max }
+{
+    if is_no_filter_window(state, who, filter.hwnd) {
+        return Answer::Refused(INVALID_WINDOW_HANDLE);
+    }
+    match next(state, who, filter) {
+        Some(answer) => answer,
+        None => Answer::Wait,
+    }
+}
+
+/// The answer of a peek.
+pub fn peek_answer(state: &CoreState, who: u8, filter: Filter, flags: u64) -> Answer
+    requires some { 0 < who }
+    requires known { who ≤ state.now.setup.threads }
+    ensures { result ≡ peek_reply state.now.past who filter.hwnd filter.min filter.max flags }
+{
+    if flags > 3 {
+        return Answer::Refused(INVALID_PARAMETER);
+    }
+    if is_no_filter_window(state, who, filter.hwnd) {
+        return Answer::Refused(INVALID_WINDOW_HANDLE);
+    }
+    match next(state, who, filter) {
+        Some(answer) => answer,
+        None => Answer::Nothing,
+    }
+}
+
+/// The answer of a post to the queue of a thread.
+fn post_to(state: &CoreState, to: u64) -> Answer
+    requires room { is_full state.now.past ≡ false }
+    requires some { 0 < to }
+    requires known { to ≤ state.now.setup.threads }
+    ensures { result ≡ post_to state.now.past to }
+{
+    if state.queue_len(to) as usize >= QUEUE_LIMIT {
+        return Answer::Refused(NOT_ENOUGH_QUOTA);
+    }
+    Answer::Posted(state.next_post_number())
+}
+
+/// The answer of a post to a window, or for window 0 to the caller.
+pub fn post_answer(state: &CoreState, who: u8, w: u64, number: u64) -> Answer
+    requires room { is_full state.now.past ≡ false }
+    requires some { 0 < who }
+    requires known { who ≤ state.now.setup.threads }
+    ensures { result ≡ post_reply state.now.past who w number }
+{
+    if number > LAST_MESSAGE {
+        return Answer::Refused(INVALID_PARAMETER);
+    }
+    if w == 0 {
+        return post_to(state, u64::from(who));
+    }
+    if !state.is_live(w) {
+        return Answer::Refused(INVALID_WINDOW_HANDLE);
+    }
+    post_to(state, u64::from(state.thread_of(w)))
+}
+
+/// The answer of a post to a thread.
+pub fn post_thread_answer(state: &CoreState, to: u64, number: u64) -> Answer
+    requires { is_full state.now.past ≡ false }
+    ensures { result ≡ post_thread_reply state.now.setup state.now.past to number }
+{
+    if number > LAST_MESSAGE {
+        return Answer::Refused(INVALID_PARAMETER);
+    }
+    if !state.is_running(to) {
+        return Answer::Refused(INVALID_THREAD_ID);
+    }
+    post_to(state, to)
+}

@@ -1,0 +1,21 @@
+//! The calls of delivery, answered from the state: retrievals, posts, dispatches, sends, the calls inside
+//! them, and the registration of messages.
+//!
+//! `admission` decides what keeps a thread from any call, `delivery` posts and retrievals, `sends` dispatches,
+//! sends and the calls inside them, `messages` registrations. `calls` joins them and adds the entry.
+#![tactic(auto)]
+
+mod admission;
+mod calls;
+pub mod codes;
+mod delivery;
+mod groups;
+mod messages;
+mod sends;
+
+pub use admission::admit;
+pub use calls::{deliver, delivery_answer, retrieval_answer, retrieve};
+pub use groups::{is_delivery, is_retrieval};
+
+#[cfg(test)]
+mod tests;
