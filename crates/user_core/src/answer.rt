@@ -1,39 +1,31 @@
 //! What a call answers, from the state.
 
 ghost use Rattle.std.specs.Prelude.{◌≡◌, ◌<◌, ◌≤◌, false};
+ghost use Rattle.core_deliver.specs.Groups.{is_delivery, is_retrieval};
 ghost use Rattle.user_model.specs.Past.{is_full};
 ghost use Rattle.user_model.specs.Replies.{row, thread_reply};
 ghost use Rattle.win_num.specs.declared.code.Code.TheVariants.{Full};
 ghost use Rattle.user_model.specs.Refusals.{refuse};
 ghost use Rattle.user_model.specs.Idle.{is_wait, is_idle, is_barred, first_busy, have_all_ended, clock_row, reply};
 
-use crate::delivery::{get_answer, peek_answer, post_answer, post_thread_answer};
+use crate::clock::{advanced, sleep_until_answer, soonest, tick_answer};
 use crate::windows::{
-    Edges, Making, doom_answer, drop_answer, is_window_answer, message_answer, new_window_answer,
-    next_top_answer, parent_answer, register_answer, unmake_answer, unregister_answer,
+    Edges, Making, doom_answer, drop_answer, is_window_answer, new_window_answer, next_top_answer,
+    parent_answer, register_answer, unmake_answer, unregister_answer,
 };
+use core_deliver::{admit, delivery_answer, is_delivery, is_retrieval, retrieval_answer};
 use core_state::CoreState;
 use user_model::{Answer, Call};
-use win_num::{Code, Filter, Thread};
+use win_num::{Code, Thread};
 
-/// The answer to a thread that hasn't ended.
+/// The answer of a window call or a call of time to a running thread, where its stack allows the call.
 fn row_answer(state: &CoreState, thread: u8, call: Call) -> Answer
     requires room { is_full state.now.past ≡ false }
-    requires some { 0 < thread }
-    requires known { thread ≤ state.now.setup.threads }
+    requires no_retrieval { is_retrieval call ≡ false }
+    requires no_delivery { is_delivery call ≡ false }
     ensures { result ≡ row state.now.setup state.now.past thread call }
 {
     match call {
-        Call::Peek(hwnd, min, max, flags) => peek_answer(
-            state,
-            thread,
-            Filter { hwnd, min, max },
-            flags,
-        ),
-        Call::Get(hwnd, min, max) => get_answer(state, thread, Filter { hwnd, min, max }),
-        Call::Post(w, number, _, _) => post_answer(state, thread, w, number),
-        Call::PostThread(to, number, _, _) => post_thread_answer(state, to, number),
-        Call::Message(name) => message_answer(state, name),
         Call::Register(name, _, colour) => register_answer(state, name, colour),
         Call::Unregister(name) => unregister_answer(state, name),
         Call::NewWindow(class, _, parent, style, ex, l, t, r, b) => {
@@ -51,20 +43,40 @@ fn row_answer(state: &CoreState, thread: u8, call: Call) -> Answer
         Call::NextTop(w) => next_top_answer(state, w),
         Call::IsWindow(w) => is_window_answer(state, w),
         Call::Parent(w) => parent_answer(state, w),
-        Call::PostQuit(_) | Call::Yield => Answer::Okay,
+        Call::Yield => Answer::Okay,
         Call::EndThread => Answer::Ended,
-        Call::Advance => Answer::Refused(Code::NotNow),
+        Call::Clock => Answer::Value(state.time()),
+        Call::SleepUntil(time) => sleep_until_answer(state, time),
+        Call::Tick(_) | Call::Advance => Answer::Refused(Code::NotNow),
+        _ => unreachable!(),
     }
 }
 
-fn thread_answer(state: &CoreState, thread: u8, call: Call) -> Answer
-    requires { is_full state.now.past ≡ false }
-    ensures { result ≡ thread_reply state.now.setup state.now.past thread call }
+/// The answer of a window call or a call of time to an actor other than the clock.
+fn own_answer(state: &CoreState, who: Thread, call: Call) -> Answer
+    requires no_retrieval { is_retrieval call ≡ false }
+    requires no_delivery { is_delivery call ≡ false }
+    ensures { result ≡ refuse (is_full state.now.past) Full (thread_reply state.now.setup state.now.past who.0 call) }
 {
-    if !state.is_running(u64::from(thread)) {
-        return Answer::Refused(Code::NotNow);
+    match admit(state, who, call) {
+        Some(code) => Answer::Refused(code),
+        None => row_answer(state, who.0, call),
     }
-    row_answer(state, thread, call)
+}
+
+/// What any call answers a thread.
+#[tactic(auto, unfolding(user_model::specs::Idle::reply))]
+fn thread_answer(state: &CoreState, thread: u8, call: Call) -> Answer
+    requires { 0 < thread }
+    ensures { result ≡ refuse (is_full state.now.past) Full (thread_reply state.now.setup state.now.past thread call) }
+{
+    if is_retrieval(call) {
+        return retrieval_answer(state, Thread(thread), call);
+    }
+    if is_delivery(call) {
+        return delivery_answer(state, Thread(thread), call);
+    }
+    own_answer(state, Thread(thread), call)
 }
 
 /// Whether an actor other than the clock has no call to make now.
@@ -93,9 +105,10 @@ fn is_idle(state: &CoreState, thread: u8) -> bool
 
 /// Whether a call would wait now.
 fn would_wait(state: &CoreState, thread: u8, call: Call) -> bool
+    requires { 0 < thread }
     ensures { result ≡ is_wait (refuse (is_full state.now.past) Full (thread_reply state.now.setup state.now.past thread call)) }
 {
-    !state.is_full() && matches!(thread_answer(state, thread, call), Answer::Wait)
+    matches!(thread_answer(state, thread, call), Answer::Wait)
 }
 
 /// The lowest thread that isn't idle.
@@ -110,7 +123,8 @@ fn first_busy(state: &CoreState) -> Option<u8>
     None
 }
 
-fn have_all_ended(state: &CoreState) -> bool
+/// Whether all threads have ended.
+pub fn have_all_ended(state: &CoreState) -> bool
     ensures { result ≡ have_all_ended state.now.setup state.now.past }
 {
     for thread in 0..state.thread_count() {
@@ -129,29 +143,33 @@ pub fn is_clock_barred(state: &CoreState) -> bool
     first_busy(state).is_some() || have_all_ended(state) || state.ends_stuck()
 }
 
-#[tactic(auto, using(user_model::proofs::ClockLaws::never_soon))]
+/// The answer to the clock, where the history isn't full.
 fn clock_answer(state: &CoreState, call: Call) -> Answer
+    requires { is_full state.now.past ≡ false }
     ensures { result ≡ clock_row state.now.setup state.now.past call }
 {
     match call {
+        Call::Tick(ms) => tick_answer(state, ms),
         Call::Advance => match first_busy(state) {
             Some(thread) => Answer::Busy(Thread(thread)),
-            None => Answer::Stuck,
+            None => advanced(soonest(state)),
         },
         _ => Answer::Refused(Code::NotNow),
     }
 }
 
-/// What a call answers.
+/// What a window call or a call of time answers.
 #[tactic(auto, unfolding(user_model::specs::Idle::reply))]
 pub fn answer(state: &CoreState, who: Thread, call: Call) -> Answer
+    requires no_retrieval { is_retrieval call ≡ false }
+    requires no_delivery { is_delivery call ≡ false }
     ensures { result ≡ reply state.now.setup state.now.past who.0 call }
 {
+    if who.0 != 0 {
+        return own_answer(state, who, call);
+    }
     if state.is_full() {
         return Answer::Refused(Code::Full);
     }
-    if who.0 == 0 {
-        return clock_answer(state, call);
-    }
-    thread_answer(state, who.0, call)
+    clock_answer(state, call)
 }

@@ -1,16 +1,18 @@
 //! The machine: it decides from the state what a call answers, and adds the entry to it.
 //!
-//! `delivery` decides posts and retrievals, `windows` the calls on classes and windows, `answer` all
-//! calls and who has none to make. `User` joins them with the state.
+//! `core_deliver` answers the calls of delivery. `windows` decides the calls on classes and windows, `clock`
+//! those of time, `answer` who has no call to make. `User` joins them with the state.
 #![tactic(auto)]
 
 mod answer;
+mod clock;
 mod codes;
-mod delivery;
 mod user;
 mod windows;
 
 pub use user::User;
 
+#[cfg(test)]
+mod send_tests;
 #[cfg(test)]
 mod tests;

@@ -1,13 +1,16 @@
 //! The machine.
 
-ghost use Rattle.std.specs.Prelude.{◌≡◌, [], IfOk};
+ghost use Rattle.std.specs.Prelude.{◌≡◌, [], IfOk, reverse};
+ghost use Rattle.user_model.specs.Idle.{have_all_ended};
+ghost use Rattle.user_model.specs.Legal.{IsLegal};
 ghost use Rattle.user_model.specs.Setups.{IsSetup};
 
-use crate::answer::{answer, is_barred, is_clock_barred};
+use crate::answer::{answer, have_all_ended, is_barred, is_clock_barred};
+use core_deliver::{deliver, is_delivery, is_retrieval, retrieve};
 use core_state::CoreState;
 use std::alloc::{AllocError, Global};
 use std::marker::Model;
-use user_model::{Answer, Call, Entry, Machine, Setup};
+use user_model::{Answer, Call, Entry, Machine, SendCount, Setup};
 use win_num::Thread;
 
 /// The message machine for the threads of one script. Each of its answers is the reply of the
@@ -34,6 +37,21 @@ impl User {
         let state = CoreState::new(alloc, setup)?;
         Ok(User { state })
     }
+
+    /// All entries so far, the oldest first: a legal history.
+    pub fn legal_history(&self) -> &[Entry]
+        ensures all { result.now ≡ reverse self.now.past }
+        ensures legal { IsLegal self.now.setup result.now }
+    {
+        self.state.history()
+    }
+
+    /// Whether all threads have ended.
+    pub fn have_all_ended(&self) -> bool
+        ensures { result ≡ have_all_ended self.now.setup self.now.past }
+    {
+        have_all_ended(&self.state)
+    }
 }
 
 impl Machine for User {
@@ -42,6 +60,12 @@ impl Machine for User {
     ghost past = { λ u. u.past };
 
     fn step(&mut self, who: Thread, call: Call) -> Result<Answer, AllocError> {
+        if is_retrieval(call) {
+            return retrieve(&mut self.state, who, call);
+        }
+        if is_delivery(call) {
+            return deliver(&mut self.state, who, call);
+        }
         let answer = answer(&self.state, who, call);
         if self.state.is_full() {
             return Ok(answer);
@@ -59,5 +83,9 @@ impl Machine for User {
 
     fn history(&self) -> &[Entry] {
         self.state.history()
+    }
+
+    fn send_count(&self) -> SendCount {
+        self.state.send_count()
     }
 }

@@ -3,15 +3,16 @@
 ghost use Rattle.std.specs.Prelude.{◌≡◌, ◌-ℤ◌, false, int_lt, pos};
 ghost use Rattle.user_model.specs.Past.{is_full};
 ghost use Rattle.user_model.specs.Refusals.{if_own, is_no_rect, is_outside};
-ghost use Rattle.user_model.specs.ReplyWindows.{doom_reply, drop_reply, is_no_parent, is_no_style, is_window_reply, message_reply, new_window_reply, next_top_reply, parent_reply, register_reply, unmake_reply, unregister_reply, window_if_room};
+ghost use Rattle.user_model.specs.ReplyWindows.{doom_reply, drop_reply, is_no_parent, is_no_style, is_window_reply, new_window_reply, next_top_reply, parent_reply, register_reply, unmake_reply, unregister_reply, window_if_room};
 ghost use Rattle.user_model.specs.Windows.{has_flag};
 
 use crate::codes::{
-    ACCESS_DENIED, CANNOT_FIND_CLASS, CHILD_WITHOUT_PARENT, CLASS_ALREADY_EXISTS,
-    CLASS_DOES_NOT_EXIST, CLASS_HAS_WINDOWS, INVALID_PARAMETER, INVALID_WINDOW_HANDLE,
+    CANNOT_FIND_CLASS, CHILD_WITHOUT_PARENT, CLASS_ALREADY_EXISTS, CLASS_DOES_NOT_EXIST,
+    CLASS_HAS_WINDOWS,
 };
+use core_deliver::codes::{ACCESS_DENIED, INVALID_PARAMETER, INVALID_WINDOW_HANDLE};
 use core_state::CoreState;
-use user_model::{Answer, Call};
+use user_model::Answer;
 use win_num::names::{WS_CHILD, WS_DISABLED, WS_EX_TOPMOST, WS_POPUP};
 use win_num::{Code, Hwnd};
 
@@ -20,12 +21,6 @@ const CLASS_LIMIT: usize = 64;
 
 /// The greatest colour of a class.
 const LAST_COLOUR: u64 = 15;
-
-/// How many messages may be registered.
-const MESSAGE_LIMIT: usize = 16384;
-
-/// The number of the first registered message (Microsoft, RegisterWindowMessage function).
-const FIRST_MESSAGE: u64 = 49152;
 
 /// How many windows may be live.
 const WINDOW_LIMIT: usize = 1024;
@@ -63,20 +58,6 @@ pub fn unregister_answer(state: &CoreState, name: u32) -> Answer
         return Answer::Refused(CLASS_HAS_WINDOWS);
     }
     Answer::Okay
-}
-
-/// The number of a registered message, or for a new name the next one.
-pub fn message_answer(state: &CoreState, name: u32) -> Answer
-    ensures { result ≡ message_reply state.now.past name }
-{
-    if let Some(number) = state.message_number(name) {
-        return Answer::Value(u64::from(number));
-    }
-    let count = state.message_count();
-    if count >= MESSAGE_LIMIT {
-        return Answer::Refused(Code::Full);
-    }
-    Answer::Value(FIRST_MESSAGE + count as u64)
 }
 
 /// What is asked of a new window: its class, its parent or owner, its styles.
