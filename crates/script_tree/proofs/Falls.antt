@@ -1,15 +1,23 @@
 -- Each step leaves fewer steps before the next call.
 use Rattle.std.proofs.Common.{◌≡◌, ℕ, ◌+◌, ◌<◌, ◌≤◌, Bool, true, false, List, [], ◌∷◌, ◌++◌, refl, ap, subst, arith, eq-eqb}
-use Rattle.std.specs.Prelude.{◌==◌, if◌then◌else◌}
+use Rattle.std.specs.Prelude.{max, ◌==◌, if◌then◌else◌}
 use Rattle.user_model.specs.declared.entry.Answer.{Answer}
-use Rattle.user_model.specs.declared.call.Call.TheVariants.{Yield}
+use Rattle.user_model.specs.declared.entry.Answer.TheVariants.{Refused}
+use Rattle.user_model.specs.declared.call.Call.{Call}
+use Rattle.user_model.specs.declared.call.Call.TheVariants.{Doom, Yield}
+use Rattle.script_tree.specs.declared.messages.TheConstants.{WM_CLOSE}
 use Rattle.script_tree.specs.declared.statement.Statement.{Statement, Row_of-Statement, end_of-Statement, more_of-Statement, items-the_row-Statement}
-use Rattle.script_tree.specs.declared.statement.Statement.TheVariants.{Let, Compute, If', IfElse', While', Call as CallOf}
+use Rattle.script_tree.specs.declared.statement.Statement.TheVariants.{Let, Compute, If', IfElse', While', Return, Call as CallOf, Sleep, Create, Destroy, Default as DefaultOf}
+use Rattle.script_tree.specs.declared.frame.Run.{Run}
+use Rattle.script_tree.specs.declared.frame.Compound.{Compound}
+use Rattle.script_tree.specs.declared.frame.Next.{Next}
+use Rattle.script_tree.specs.declared.frame.Next.TheVariants.{Calls, Ends}
 use Rattle.script_tree.specs.declared.variables.Variables.{Variables}
 use Rattle.script_tree.specs.Tree.{Tree}
 use Rattle.script_tree.specs.Values.{holds}
-use Rattle.script_tree.specs.Pieces.{Piece, Lines, One, PassEnd, Making, Settle, Quiet, State, Going, Given, Step, Becomes, Asks}
-use Rattle.script_tree.specs.Steps.{step, statement, begins, takes}
+use Rattle.script_tree.specs.Compounds.{compound_after}
+use Rattle.script_tree.specs.Pieces.{Piece, Lines, One, PassEnd, Making, Again, Giving, Settle, Quiet, Sleeping, Running, Leaving, Leaves, Left, Restore, Feed, Default, Take, State, Going, Returning, Given, Step, Becomes, Asks}
+use Rattle.script_tree.specs.Steps.{step, statement, begins, returns_to, takes, goes_on, sleeps, is_callback}
 use Rattle.script_tree.specs.Weights.{weight, row_weight, lines_weight, costs, steps_left}
 
 row_lines : {n : _} (row : Row_of-Statement n) → lines_weight (items-the_row-Statement _ row) ≡ row_weight row
@@ -17,64 +25,90 @@ row_lines end_of-Statement = refl
 row_lines (more_of-Statement line rest) = ap (λ k. 2 + weight line + k) (row_lines rest)
 
 -- a step that leaves fewer than so many
-abbrev Falls : ℕ → List Piece → ℕ → Step → Type 0
-Falls n left bound (Becomes ps st) = steps_left n (ps ++ left) st < bound
-Falls n left bound (Asks call) = Unit {0}
+abbrev Falls : Tree → ℕ → List Piece → ℕ → Step → Type 0
+Falls s n left bound (Becomes ps st) = steps_left s n (ps ++ left) st < bound
+Falls s n left bound (Asks call) = Unit {0}
 
 module _ (s : Tree) (n : ℕ) (left : List Piece) where
-  either : (bound : ℕ) (b : Bool) (x y : Step) → Falls n left bound x → Falls n left bound y → Falls n left bound (if b then x else y)
+  either : (bound : ℕ) (b : Bool) (x y : Step) → Falls s n left bound x → Falls s n left bound y → Falls s n left bound (if b then x else y)
   either bound true x y f g = f
   either bound false x y f g = g
 
-  branch_falls : (b : Bool) (xs ys : List Statement) (k : ℕ) → lines_weight xs + lines_weight ys ≤ k → 1 + lines_weight (if b then xs else ys) + (costs n left).going < 3 + k + (costs n left).going
+  branch_falls : (b : Bool) (xs ys : List Statement) (k : ℕ) → lines_weight xs + lines_weight ys ≤ k → 1 + lines_weight (if b then xs else ys) + max (costs s n left).going (costs s n left).returning < 3 + k + max (costs s n left).going (costs s n left).returning
   branch_falls true xs ys k h = omega arith
   branch_falls false xs ys k h = omega arith
 
-  pass_falls : (b : Bool) (lines body k g : ℕ) → b ≡ true → lines ≡ body → 1 + lines + (if b then 1 else k) < 1 + (2 + body) + g
-  pass_falls true lines body k g e f = omega arith
-  pass_falls false lines body k g e f = absurd cc
+  pass_falls : (b : Bool) (lines body k g r : ℕ) → b ≡ true → lines ≡ body → 1 + lines + max (if b then 1 else k) (1 + r) < 1 + (2 + body) + max g r
+  pass_falls true lines body k g r e f = omega arith
+  pass_falls false lines body k g r e f = absurd cc
 
-  then_falls : (lines body g : ℕ) → lines ≡ body → 1 + lines + g < 1 + (2 + body) + g
-  then_falls lines body g f = omega arith
+  then_falls : (lines body m : ℕ) → lines ≡ body → 1 + lines + m < 1 + (2 + body) + m
+  then_falls lines body m f = omega arith
 
-  statement_falls : (line : Statement) (v : Variables) → Falls n left (steps_left n (One line ∷ left) (Going v)) (statement line v n)
+  -- the default procedure's pieces, before a `default` and before the end of a procedure
+  default_falls : (b : Bool) (call : Call) (q : Compound) (x : ℕ) (v : Variables) (bound : ℕ) → 3 + (costs s n left).going < bound → steps_left s n (((if b then Making call ∷ Feed q ∷ [] else []) ++ Default x ∷ Take ∷ []) ++ left) (Going v) < bound
+  default_falls true call q x v bound h = omega arith
+  default_falls false call q x v bound h = omega arith
+
+  leaving_falls : (b : Bool) (call : Call) (q : Compound) (x : ℕ) (run : Run) (v : Variables) → steps_left s n (((if b then Making call ∷ Feed q ∷ [] else []) ++ Default x ∷ Leaving run ∷ []) ++ left) (Going v) < 6
+  leaving_falls true call q x run v = omega arith
+  leaving_falls false call q x run v = omega arith
+
+  statement_falls : (line : Statement) (v : Variables) → Falls s n left (steps_left s n (One line ∷ left) (Going v)) (statement line v n)
   statement_falls (Let x e) v = omega arith
   statement_falls (Compute x e op f) v = omega arith
   statement_falls (If' t k a) v =
-      either _ (holds t v) _ _ (then_falls _ _ (costs n left).going (row_lines a)) (omega arith)
+      either _ (holds t v) _ _ (then_falls _ _ (max (costs s n left).going (costs s n left).returning) (row_lines a)) (omega arith)
   statement_falls (IfElse' t k a j b) v =
       let e : lines_weight (items-the_row-Statement _ a) + lines_weight (items-the_row-Statement _ b) ≤ row_weight a + row_weight b = omega (arith, row_lines a, row_lines b) in
       let f = branch_falls (holds t v) (items-the_row-Statement _ a) (items-the_row-Statement _ b) (row_weight a + row_weight b) e in
       omega (arith, f)
   statement_falls (While' t k body) v =
-      either _ (holds t v) _ _ (pass_falls (n == n) _ _ _ (costs n left).going (eq-eqb n n refl) (row_lines body)) (omega arith)
+      either _ (holds t v) _ _ (pass_falls (n == n) _ _ _ (costs s n left).going (costs s n left).returning (eq-eqb n n refl) (row_lines body)) (omega arith)
+  statement_falls (Return e) v = omega arith
   statement_falls (CallOf ask) v = omega arith
+  statement_falls (Sleep e) v = omega arith
+  statement_falls (Create c) v = omega arith
+  statement_falls (Destroy e) v = omega arith
+  statement_falls DefaultOf v = default_falls (v.parameters.number == WM_CLOSE) _ _ _ v _ (omega arith)
 
-  turn_falls : (b : Bool) (loop : Statement) (v : Variables) → Falls n left (if b then 1 else 2 + weight loop + (costs n left).going) (if b then Becomes (Making Yield ∷ Quiet ∷ One loop ∷ []) (Going v) else Becomes (One loop ∷ []) (Going v))
+  turn_falls : (b : Bool) (loop : Statement) (v : Variables) → Falls s n left (if b then 1 else 2 + weight loop + max (costs s n left).going (costs s n left).returning) (if b then Becomes (Making Yield ∷ Quiet ∷ One loop ∷ []) (Going v) else Becomes (One loop ∷ []) (Going v))
   turn_falls true loop v = omega arith
   turn_falls false loop v = omega arith
 
-  begins_falls : (p : Piece) (v : Variables) → Falls n left (steps_left n (p ∷ left) (Going v)) (begins s p v n)
+  compound_falls : (v : Variables) (next : Next) → Falls s n left (1 + (costs s n left).given) (goes_on v next)
+  compound_falls v (Calls call q) = omega arith
+  compound_falls v (Ends a) = omega arith
+
+  sleep_falls : (ms : ℕ) (v : Variables) (a : Answer) (x : ℕ) → Falls s n left (1 + (costs s n left).going) (sleeps ms v a x)
+  sleep_falls ms v (Refused code) x = omega arith
+  sleep_falls ms v _ x = omega arith
+
+  begins_falls : (p : Piece) (v : Variables) → Falls s n left (steps_left s n (p ∷ left) (Going v)) (begins s p v n)
   begins_falls (Lines []) v = omega arith
   begins_falls (Lines (line ∷ lines)) v = omega arith
   begins_falls (One line) v = statement_falls line v
   begins_falls (PassEnd loop began) v = turn_falls (n == began) loop v
   begins_falls (Making call) v = tt
-  begins_falls (Settle call) v = omega arith
-  begins_falls Quiet v = omega arith
+  begins_falls (Running run) v = omega arith
+  begins_falls (Leaving run) v = either _ (is_callback run.frame) _ _ (omega arith) (leaving_falls (run.parameters.number == WM_CLOSE) _ _ _ run v)
+  begins_falls (Leaves frame x) v = tt
+  begins_falls p v = omega arith
 
-  takes_falls : (p : Piece) (v : Variables) (a : Answer) → Falls n left (steps_left n (p ∷ left) (Given v a)) (takes p v a)
-  takes_falls (Lines lines) v a = omega arith
-  takes_falls (One line) v a = omega arith
-  takes_falls (PassEnd loop began) v a = omega arith
-  takes_falls (Making call) v a = omega arith
-  takes_falls (Settle call) v a = omega arith
-  takes_falls Quiet v a = omega arith
+  returns_falls : (p : Piece) (v : Variables) (x : ℕ) → Falls s n left (steps_left s n (p ∷ left) (Returning v x)) (returns_to p v x)
+  returns_falls (Making call) v x = tt
+  returns_falls p v x = omega arith
 
-  step_falls : (p : Piece) (st : State) → Falls n left (steps_left n (p ∷ left) st) (step s p st n)
+  takes_falls : (p : Piece) (v : Variables) (a : Answer) (x : ℕ) → Falls s n left (steps_left s n (p ∷ left) (Given v a x)) (takes p v a x)
+  takes_falls (Sleeping ms) v a x = sleep_falls ms _ a x
+  takes_falls (Feed q) v a x = compound_falls v (compound_after q a x)
+  takes_falls p v a x = omega arith
+
+  step_falls : (p : Piece) (st : State) → Falls s n left (steps_left s n (p ∷ left) st) (step s p st n)
   step_falls p (Going v) = begins_falls p v
-  step_falls p (Given v a) = takes_falls p v a
+  step_falls p (Returning v x) = returns_falls p v x
+  step_falls p (Given v a x) = takes_falls p v a x
 
   -- each step leaves fewer steps
-  pub falls : (p : Piece) (st : State) (ps : List Piece) (st' : State) → step s p st n ≡ Becomes ps st' → steps_left n (ps ++ left) st' < steps_left n (p ∷ left) st
-  falls p st ps st' e = subst (λ x. Falls n left (steps_left n (p ∷ left) st) x) e (step_falls p st)
+  pub falls : (p : Piece) (st : State) (ps : List Piece) (st' : State) → step s p st n ≡ Becomes ps st' → steps_left s n (ps ++ left) st' < steps_left s n (p ∷ left) st
+  falls p st ps st' e = subst (λ x. Falls s n left (steps_left s n (p ∷ left) st) x) e (step_falls p st)

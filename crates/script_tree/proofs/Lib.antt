@@ -1,4 +1,12 @@
 pub mod EndLaws
 pub mod Falls
+pub mod ListedAnswers
 pub mod PastLaws
+pub mod PlainCalls
+pub mod RowKinds
+pub mod RowSteps
+pub mod RowsComplete
+pub mod RowsSound
+pub mod StackLaws
+pub mod StackPasts
 pub mod TraceLaws

@@ -50,14 +50,14 @@ module _ (s : Tree) where
   ends_after p left st n (Asks call) f go = (Cut call, cut call f)
 
   -- from each place there is a next call, or nothing is left
-  ends : (k : ℕ) (ps : List Piece) (st : State) (n : ℕ) → steps_left n ps st < k → (e : End) × Makes s ps st n [] e
+  ends : (k : ℕ) (ps : List Piece) (st : State) (n : ℕ) → steps_left s n ps st < k → (e : End) × Makes s ps st n [] e
   ends zero ps st n h = absurd (omega arith)
   ends (suc k) [] st n h = (Whole, over)
   ends (suc k) (p ∷ left) st n h =
       ends_after p left st n (step s p st n) refl (λ qs st' f. ends k (qs ++ left) st' n (omega (arith, falls s n left p st qs st' f)))
 
   pub some_end : (ps : List Piece) (st : State) (n : ℕ) → (e : End) × Makes s ps st n [] e
-  some_end ps st n = ends (suc (steps_left n ps st)) ps st n (omega arith)
+  some_end ps st n = ends (suc (steps_left s n ps st)) ps st n (omega arith)
 
   -- a trace that is cut goes on with any answer, and then it has one end again
   pub goes_on : {ps : List Piece} {st : State} {n : ℕ} {tr : Trace} {e : End} (call : Call) (a : Answer) → Makes s ps st n tr e → e ≡ Cut call → (e' : End) × Makes s ps st n (tr ++ (call, a) ∷ []) e'

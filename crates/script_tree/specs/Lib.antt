@@ -1,4 +1,7 @@
+pub mod Compounds
 pub mod Pieces
+pub mod Rows
+pub mod Stacks
 pub mod Steps
 pub mod Traces
 pub mod Tree

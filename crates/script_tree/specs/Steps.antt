@@ -1,19 +1,41 @@
 -- What each piece of a program does, one line for each.
-use Rattle.std.specs.Prelude.{ℕ, ◌==◌, if◌then◌else◌, List, [], ◌∷◌}
+use Rattle.std.specs.Prelude.{ℕ, ◌==◌, Bool, true, false, if◌then◌else◌, List, [], ◌∷◌, ◌++◌}
+use Rattle.script_tree.specs.declared.messages.TheConstants.{WM_CLOSE, WM_NCCREATE}
+use Rattle.win_num.specs.declared.send.Frame.{Frame}
+use Rattle.win_num.specs.declared.send.Frame.TheVariants.{Entered, Inside as InsideFrame, Called as CalledFrame, CallbackRun}
 use Rattle.user_model.specs.declared.call.Call.{Call}
-use Rattle.user_model.specs.declared.call.Call.TheVariants.{Yield}
+use Rattle.user_model.specs.declared.call.Call.TheVariants.{Dispatch, Send, SendTimeout, SendNotify, SendCallback, Await, Leave, Doom, Clock, SleepUntil, Yield, EndThread}
 use Rattle.user_model.specs.declared.entry.Answer.{Answer}
-use Rattle.user_model.specs.declared.entry.Answer.TheVariants.{Wait}
+use Rattle.user_model.specs.declared.entry.Answer.TheVariants.{Wait, Value, Called, Inside, Begun, Enter, Callback, Done, Refused}
+use Rattle.user_model.specs.Stacks.{leaves, waits}
 use Rattle.script_tree.specs.declared.statement.Statement.{Statement, items-the_row-Statement}
-use Rattle.script_tree.specs.declared.statement.Statement.TheVariants.{Let, Compute, If', IfElse', While', Call as CallOf}
+use Rattle.script_tree.specs.declared.statement.Statement.TheVariants.{Let, Compute, If', IfElse', While', Return, Call as CallOf, Sleep, Create, Destroy, Default as DefaultOf}
+use Rattle.script_tree.specs.declared.variables.Parameters.{Parameters}
 use Rattle.script_tree.specs.declared.variables.Variables.{Variables}
-use Rattle.script_tree.specs.Tree.{Tree}
-use Rattle.script_tree.specs.Values.{value_of, computed, holds, assigned, call_of, received, settled}
-use Rattle.script_tree.specs.Pieces.{Piece, Lines, One, PassEnd, Making, Settle, Quiet, State, Going, Given, Step, Becomes, Asks}
+use Rattle.script_tree.specs.declared.frame.Run.{Run}
+use Rattle.script_tree.specs.declared.frame.Compound.TheVariants.{Making as MakingWindow, Dooming}
+use Rattle.script_tree.specs.declared.frame.Next.{Next}
+use Rattle.script_tree.specs.declared.frame.Next.TheVariants.{Calls, Ends}
+use Rattle.script_tree.specs.Tree.{Tree, procedure_of}
+use Rattle.script_tree.specs.Values.{value_of, computed, holds, assigned, call_of, creation_call, time_after, no_parameters, inside_of, resulting, received, settled}
+use Rattle.script_tree.specs.Compounds.{compound_after}
+use Rattle.script_tree.specs.Pieces.{Piece, Lines, One, PassEnd, Making, Again, Giving, Settle, Quiet, Sleeping, Running, Leaving, Leaves, Left, Restore, Feed, Default, Take, State, Going, Returning, Given, Step, Becomes, Asks}
 
 -- nothing more: the state goes to the next piece
 abbrev pub passes : State → Step
 passes st = Becomes [] st
+
+-- the pieces of the default procedure
+abbrev pub default_pieces : Parameters → List Piece
+default_pieces p = if p.number == WM_CLOSE then Making (Doom p.hwnd) ∷ Feed (Dooming p.hwnd true) ∷ [] else []
+
+-- its result
+abbrev pub default_result : Parameters → ℕ
+default_result p = if p.number == WM_NCCREATE then 1 else 0
+
+-- a call of a statement, which sets r and err
+abbrev pub makes : Call → Variables → Step
+makes call v = Becomes (Making call ∷ Settle call ∷ []) (Going v)
 
 -- one statement, after so many entries of the thread
 abbrev pub statement : Statement → Variables → ℕ → Step
@@ -22,7 +44,21 @@ statement (Compute x e op f) v n = passes (Going (assigned v x (computed (value_
 statement (If' t k a) v n = if holds t v then Becomes (Lines (items-the_row-Statement _ a) ∷ []) (Going v) else passes (Going v)
 statement (IfElse' t k a j b) v n = Becomes (Lines (if holds t v then items-the_row-Statement _ a else items-the_row-Statement _ b) ∷ []) (Going v)
 statement (While' t k body) v n = if holds t v then Becomes (Lines (items-the_row-Statement _ body) ∷ PassEnd (While' t k body) n ∷ []) (Going v) else passes (Going v)
-statement (CallOf ask) v n = Becomes (Making (call_of ask v) ∷ Settle (call_of ask v) ∷ []) (Going v)
+statement (Return e) v n = passes (Returning v (value_of e v))
+statement (CallOf ask) v n = makes (call_of ask v) v
+statement (Sleep e) v n = Becomes (Making Clock ∷ Sleeping (value_of e v) ∷ []) (Going v)
+statement (Create c) v n = Becomes (Making (creation_call c v) ∷ Feed MakingWindow ∷ Settle (creation_call c v) ∷ []) (Going v)
+statement (Destroy e) v n = Becomes (Making (Doom (value_of e v)) ∷ Feed (Dooming (value_of e v) true) ∷ Settle (Doom (value_of e v)) ∷ []) (Going v)
+statement DefaultOf v n = Becomes (default_pieces v.parameters ++ Default (default_result v.parameters) ∷ Take ∷ []) (Going v)
+
+-- whether the frame is that of a callback procedure
+abbrev pub is_callback : Frame → Bool
+is_callback CallbackRun = true
+is_callback _ = false
+
+-- the end of a procedure's statements: a callback gives 0, any other what the default procedure gives
+abbrev pub leaving : Run → Variables → Step
+leaving run v = if is_callback run.frame then Becomes (Leaves run.frame 0 ∷ Left 0 ∷ []) (Going v) else Becomes (default_pieces run.parameters ++ Default (default_result run.parameters) ∷ Leaving run ∷ []) (Going v)
 
 -- what a piece does that gets the variables alone, after so many entries of the thread
 abbrev pub begins : Tree → Piece → Variables → ℕ → Step
@@ -31,30 +67,111 @@ begins s (Lines (line ∷ lines)) v n = Becomes (One line ∷ Lines lines ∷ []
 begins s (One line) v n = statement line v n
 begins s (PassEnd loop began) v n = if n == began then Becomes (Making Yield ∷ Quiet ∷ One loop ∷ []) (Going v) else Becomes (One loop ∷ []) (Going v)
 begins s (Making call) v n = Asks call
+begins s (Running run) v n = Becomes (Lines (procedure_of s run.procedure) ∷ Leaving run ∷ Restore v.parameters ∷ []) (Going (inside_of v run.parameters))
+begins s (Leaving run) v n = leaving run v
+begins s (Leaves frame x) v n = Asks (Leave x)
+begins s (Restore p) v n = passes (Going (inside_of v p))
+begins s (Default x) v n = passes (Returning v x)
 begins s p v n = passes (Going v)
 
--- what a piece does that gets the answer to a call
-abbrev pub takes : Piece → Variables → Answer → Step
-takes (Settle call) v a = passes (Going (settled v call a))
-takes Quiet v a = passes (Going v)
-takes p v a = passes (Given v a)
+-- what a piece does that gets the value of a `return` or the result of a procedure; a thread that returns comes to its end
+abbrev pub returns_to : Piece → Variables → ℕ → Step
+returns_to (Making call) v x = Asks call
+returns_to (Again call) v x = Becomes (Making call ∷ []) (Going v)
+returns_to (Giving a) v x = passes (Given v a x)
+returns_to (Leaving run) v x = Becomes (Leaves run.frame x ∷ Left x ∷ []) (Going v)
+returns_to (Restore p) v x = passes (Returning (inside_of v p) x)
+returns_to Take v x = passes (Going (resulting v x 0))
+returns_to p v x = passes (Returning v x)
+
+-- what a compound does next
+abbrev pub goes_on : Variables → Next → Step
+goes_on v (Calls call q) = Becomes (Making call ∷ Feed q ∷ []) (Going v)
+goes_on v (Ends a) = passes (Given v a 0)
+
+-- a `sleep` whose `clock` answered so: a refusal ends it
+abbrev pub sleeps : ℕ → Variables → Answer → ℕ → Step
+sleeps ms v (Refused code) x = passes (Going v)
+sleeps ms v _ x = makes (SleepUntil (time_after x ms)) v
+
+-- what a piece does that gets the answer to a call and its result
+abbrev pub takes : Piece → Variables → Answer → ℕ → Step
+takes (Settle call) v a x = passes (Going (settled v call a x))
+takes Quiet v a x = passes (Going v)
+takes (Sleeping ms) v a x = sleeps ms (settled v Clock a x) a x
+takes (Left result) v a x = passes (Returning v result)
+takes (Feed q) v a x = goes_on v (compound_after q a x)
+takes (Default result) v a x = passes (Returning v result)
+takes p v a x = passes (Given v a x)
 
 -- what a piece of that script does
 abbrev pub step : Tree → Piece → State → ℕ → Step
 step s p (Going v) n = begins s p v n
-step s p (Given v a) n = takes p v a
+step s p (Returning v x) n = returns_to p v x
+step s p (Given v a x) n = takes p v a x
 
--- the pieces that follow a call and its answer: after `wait` the same call
+-- parameters from their numbers
+abbrev pub parameters_from : ℕ → ℕ → ℕ → ℕ → Parameters
+parameters_from w number p q = record { hwnd = w; number = number; wparam = p; lparam = q }
+
+-- the parameters of the procedure that a call runs
+abbrev pub parameters_of : Call → Parameters
+parameters_of (Dispatch w m p q) = parameters_from w m p q
+parameters_of (Send w m p q) = parameters_from w m p q
+parameters_of (SendTimeout w m p q flags ms) = parameters_from w m p q
+parameters_of (SendNotify w m p q) = parameters_from w m p q
+parameters_of (SendCallback w m p q proc_no extra) = parameters_from w m p q
+parameters_of _ = no_parameters
+
+-- a run from its parts
+abbrev pub run_of : ℕ → Parameters → Frame → Run
+run_of proc_no p frame = record { procedure = proc_no; parameters = p; frame = frame }
+
+-- the result of an answer
+abbrev pub result_of : Answer → ℕ
+result_of (Value n) = n
+result_of (Done n cause) = n
+result_of _ = 0
+
+-- whether the call is the last of a thread
+abbrev pub is_last : Call → Bool
+is_last EndThread = true
+is_last _ = false
+
+-- the pieces that follow a call and an answer other than `wait`: the procedure that runs, the same call after an attempt, the wait for a send
+abbrev pub following : Call → Answer → List Piece
+following call (Enter s proc_no w number wparam lparam) = Running (run_of proc_no (parameters_from w.0 number wparam lparam) (Entered s)) ∷ Again call ∷ []
+following call (Callback s proc_no w number extra result) = Running (run_of proc_no (parameters_from w.0 number extra result) CallbackRun) ∷ (if leaves call then Giving (Callback s proc_no w number extra result) else Again call) ∷ []
+following call (Inside s proc_no) = Running (run_of proc_no (parameters_of call) (InsideFrame s)) ∷ Giving (Inside s proc_no) ∷ []
+following call (Called proc_no) = Running (run_of proc_no (parameters_of call) CalledFrame) ∷ Giving (Called proc_no) ∷ []
+following call (Begun s) = if waits call then Making (Await s.0) ∷ [] else []
+following call a = []
+
+-- the pieces that follow a call and its answer: after `wait` the same call, and nothing after the last call of a thread
 abbrev pub follows : Call → Answer → List Piece
 follows call Wait = Making call ∷ []
-follows call a = []
+follows call a = if is_last call then [] else following call a
+
+-- the state behind an answer with nothing else to follow: a message that was got is got at once
+abbrev pub given : Variables → Answer → State
+given v a = Given (received v a) a (result_of a)
+
+-- the state after a call and an answer other than `wait`
+abbrev pub after_answer : Call → Answer → Variables → State
+after_answer call (Enter s proc_no w number wparam lparam) v = Going v
+after_answer call (Callback s proc_no w number extra result) v = Going v
+after_answer call (Inside s proc_no) v = Going v
+after_answer call (Called proc_no) v = Going v
+after_answer call (Begun s) v = if waits call then Going v else given v (Begun s)
+after_answer call a v = given v a
 
 -- the state after a call and its answer
 abbrev pub answered : Call → Answer → Variables → State
 answered call Wait v = Going v
-answered call a v = Given (received v a) a
+answered call a v = if is_last call then given v a else after_answer call a v
 
 -- the variables of a state
 abbrev pub variables_of : State → Variables
 variables_of (Going v) = v
-variables_of (Given v a) = v
+variables_of (Returning v x) = v
+variables_of (Given v a x) = v

@@ -1,12 +1,15 @@
 -- The values of variables, operands and tests, and what a statement does to the variables.
-use Rattle.std.specs.Prelude.{ℕ, ◌+◌, ◌-◌, ◌%◌, ◌^◌, ◌==◌, nat_lt, bit_and, bit_or, Bool, not, if◌then◌else◌, pos, slice_get, unwrap_or}
+use Rattle.std.specs.Int.{cast_signed, w64}
+use Rattle.std.specs.Prelude.{ℕ, ◌+◌, ◌-◌, ◌%◌, ◌^◌, ◌==◌, nat_lt, bit_and, bit_or, Bool, not, if◌then◌else◌, ℤ, pos, slice_get, unwrap_or, min}
 use Rattle.win_num.specs.declared.message.Msg.{Msg}
 use Rattle.win_num.specs.Codes.{number_of}
 use Rattle.name_table.specs.Constants.{constant_values}
 use Rattle.user_model.specs.declared.call.Call.{Call}
-use Rattle.user_model.specs.declared.call.Call.TheVariants.{Peek, Get, Post, PostThread, PostQuit, Message as MessageCall, Yield}
+use Rattle.user_model.specs.declared.call.Call.TheVariants.{Peek, Get, Post, PostThread, PostQuit, Dispatch, Send, SendTimeout, SendNotify, SendCallback, Reply, InSend, Message as MessageCall, Register, Unregister, NewWindow, NextTop, IsWindow, Parent, Clock, Yield}
 use Rattle.user_model.specs.declared.entry.Answer.{Answer}
-use Rattle.user_model.specs.declared.entry.Answer.TheVariants.{Nothing, Value, Window as WindowAnswer, Got, Refused}
+use Rattle.user_model.specs.declared.entry.Answer.TheVariants.{Okay, Nothing, Value, Window as WindowAnswer, Called, Inside, Done, Got, Refused}
+use Rattle.win_num.specs.declared.send.Cause.{Cause}
+use Rattle.win_num.specs.declared.send.Cause.TheVariants.{Loss, Timeout}
 use Rattle.script_tree.specs.declared.operand.Letter.{Letter}
 use Rattle.script_tree.specs.declared.operand.Letter.TheVariants.{A, B, C, D, E, F, G, H}
 use Rattle.script_tree.specs.declared.operand.Variable.{Variable}
@@ -19,8 +22,10 @@ use Rattle.script_tree.specs.declared.operand.Comparison.{Comparison}
 use Rattle.script_tree.specs.declared.operand.Comparison.TheVariants.{Equal, Different, Below}
 use Rattle.script_tree.specs.declared.operand.Test.{Test}
 use Rattle.script_tree.specs.declared.statement.CallStatement.{CallStatement}
-use Rattle.script_tree.specs.declared.statement.CallStatement.TheVariants.{Peek as PeekStatement, Get as GetStatement, Post as PostStatement, PostThread as PostThreadStatement, PostQuit as PostQuitStatement, Message as MessageStatement, Yield as YieldStatement}
+use Rattle.script_tree.specs.declared.statement.CallStatement.TheVariants.{Peek as PeekStatement, Get as GetStatement, Post as PostStatement, PostThread as PostThreadStatement, PostQuit as PostQuitStatement, Dispatch as DispatchStatement, Send as SendStatement, SendTimeout as SendTimeoutStatement, SendNotify as SendNotifyStatement, SendCallback as SendCallbackStatement, Reply as ReplyStatement, InSend as InSendStatement, Message as MessageStatement, Register as RegisterStatement, Unregister as UnregisterStatement, IsWindow as IsWindowStatement, Parent as ParentStatement, NextTop as NextTopStatement, Clock as ClockStatement, Yield as YieldStatement}
+use Rattle.script_tree.specs.declared.statement.Creation.{Creation}
 use Rattle.script_tree.specs.declared.variables.Letters.{Letters}
+use Rattle.script_tree.specs.declared.variables.Parameters.{Parameters}
 use Rattle.script_tree.specs.declared.variables.Variables.{Variables}
 
 -- the value of a letter
@@ -44,10 +49,10 @@ variable_value GotMessage v = v.got.number
 variable_value GotWparam v = v.got.wparam
 variable_value GotLparam v = v.got.lparam
 variable_value GotTime v = v.got.time
-variable_value Window v = 0
-variable_value MessageOf v = 0
-variable_value Wparam v = 0
-variable_value Lparam v = 0
+variable_value Window v = v.parameters.hwnd
+variable_value MessageOf v = v.parameters.number
+variable_value Wparam v = v.parameters.wparam
+variable_value Lparam v = v.parameters.lparam
 
 -- the value of an operand
 abbrev pub value_of : Operand → Variables → ℕ
@@ -74,6 +79,10 @@ compared x Below y = nat_lt x y
 abbrev pub holds : Test → Variables → Bool
 holds t v = compared (value_of t.left v) t.comparison (value_of t.right v)
 
+-- the message handed to its window's procedure
+abbrev pub dispatch_of : Msg → Call
+dispatch_of got = Dispatch got.hwnd.0 got.number got.wparam got.lparam
+
 -- the call of a statement, with the values of its operands
 abbrev pub call_of : CallStatement → Variables → Call
 call_of (PeekStatement w min max flags) v = Peek (value_of w v) (value_of min v) (value_of max v) (value_of flags v)
@@ -81,16 +90,67 @@ call_of (GetStatement w min max) v = Get (value_of w v) (value_of min v) (value_
 call_of (PostStatement w m p q) v = Post (value_of w v) (value_of m v) (value_of p v) (value_of q v)
 call_of (PostThreadStatement t m p q) v = PostThread (value_of t v) (value_of m v) (value_of p v) (value_of q v)
 call_of (PostQuitStatement code) v = PostQuit (value_of code v)
+call_of DispatchStatement v = dispatch_of v.got
+call_of (SendStatement w m p q) v = Send (value_of w v) (value_of m v) (value_of p v) (value_of q v)
+call_of (SendTimeoutStatement w m p q flags ms) v = SendTimeout (value_of w v) (value_of m v) (value_of p v) (value_of q v) (value_of flags v) (value_of ms v)
+call_of (SendNotifyStatement w m p q) v = SendNotify (value_of w v) (value_of m v) (value_of p v) (value_of q v)
+call_of (SendCallbackStatement w m p q proc_no extra) v = SendCallback (value_of w v) (value_of m v) (value_of p v) (value_of q v) proc_no (value_of extra v)
+call_of (ReplyStatement x) v = Reply (value_of x v)
+call_of InSendStatement v = InSend
 call_of (MessageStatement name) v = MessageCall name
+call_of (RegisterStatement class proc_no colour) v = Register class proc_no (value_of colour v)
+call_of (UnregisterStatement class) v = Unregister class
+call_of (IsWindowStatement w) v = IsWindow (value_of w v)
+call_of (ParentStatement w) v = Parent (value_of w v)
+call_of (NextTopStatement w) v = NextTop (value_of w v)
+call_of ClockStatement v = Clock
 call_of YieldStatement v = Yield
+
+-- a statement that sends
+abbrev pub IsSend : CallStatement → Type 0
+IsSend (SendStatement w m p q) = Unit {0}
+IsSend (SendTimeoutStatement w m p q flags ms) = Unit {0}
+IsSend (SendNotifyStatement w m p q) = Unit {0}
+IsSend (SendCallbackStatement w m p q proc_no extra) = Unit {0}
+IsSend _ = ⊥
+
+-- a statement with one operand at most
+abbrev pub IsShort : CallStatement → Type 0
+IsShort (PeekStatement w min max flags) = ⊥
+IsShort (GetStatement w min max) = ⊥
+IsShort (PostStatement w m p q) = ⊥
+IsShort (PostThreadStatement t m p q) = ⊥
+IsShort (PostQuitStatement code) = ⊥
+IsShort DispatchStatement = ⊥
+IsShort (SendStatement w m p q) = ⊥
+IsShort (SendTimeoutStatement w m p q flags ms) = ⊥
+IsShort (SendNotifyStatement w m p q) = ⊥
+IsShort (SendCallbackStatement w m p q proc_no extra) = ⊥
+IsShort _ = Unit {0}
+
+-- the value of an operand as a number with sign, by two's complement of 64 bits
+abbrev pub edge_of : Operand → Variables → ℤ
+edge_of e v = cast_signed w64 (value_of e v)
+
+-- the call that makes the window of a `create`
+abbrev pub creation_call : Creation → Variables → Call
+creation_call c v = NewWindow c.class c.title (value_of c.parent v) (value_of c.style v) (value_of c.extended_style v) (edge_of c.left v) (edge_of c.top v) (edge_of c.right v) (edge_of c.bottom v)
+
+-- the time so many milliseconds after another, or the last there is
+abbrev pub time_after : ℕ → ℕ → ℕ
+time_after time ms = min (time + ms) (2 ^ 64 - 1)
 
 -- a message of zeros
 abbrev pub no_message : Msg
 no_message = record { hwnd = record { 0 = 0 }; number = 0; wparam = 0; lparam = 0; time = 0; point = record { x = pos 0; y = pos 0 } }
 
+-- parameters of zeros
+abbrev pub no_parameters : Parameters
+no_parameters = record { hwnd = 0; number = 0; wparam = 0; lparam = 0 }
+
 -- at a thread's start all variables are 0
 abbrev pub start : Variables
-start = record { letters = record { a = 0; b = 0; c = 0; d = 0; e = 0; f = 0; g = 0; h = 0 }; last_result = 0; last_error = 0; got = no_message }
+start = record { letters = record { a = 0; b = 0; c = 0; d = 0; e = 0; f = 0; g = 0; h = 0 }; last_result = 0; last_error = 0; got = no_message; parameters = no_parameters }
 
 -- the letters with one of them set
 abbrev pub with_letter : Letters → Letter → ℕ → Letters
@@ -107,6 +167,10 @@ with_letter l H n = record l { h = n }
 abbrev pub assigned : Variables → Letter → ℕ → Variables
 assigned v x n = record v { letters = with_letter v.letters x n }
 
+-- the variables inside of a procedure with these parameters
+abbrev pub inside_of : Variables → Parameters → Variables
+inside_of v p = record v { parameters = p }
+
 -- the variables with r and err set
 abbrev pub resulting : Variables → ℕ → ℕ → Variables
 resulting v r err = record v { last_result = r; last_error = err }
@@ -121,11 +185,31 @@ abbrev pub refused_result : Call → ℕ
 refused_result (Get w min max) = 18446744073709551615
 refused_result _ = 0
 
--- the variables after a statement whose call had this answer
-abbrev pub settled : Variables → Call → Answer → Variables
-settled v call (Refused code) = resulting v (refused_result call) (number_of code)
-settled v call (Value n) = resulting v n 0
-settled v call (WindowAnswer w) = resulting v w.0 0
-settled v call (Got origin number msg) = resulting v (if msg.number == 18 then 0 else 1) 0
-settled v call Nothing = resulting v 0 0
-settled v call _ = resulting v 1 0
+-- what r is where a call went inside, and its procedure gave that result: a callback send doesn't tell it
+abbrev pub inside_result : Call → ℕ → ℕ
+inside_result (SendCallback w m p q proc_no extra) x = 1
+inside_result _ x = x
+
+-- what r is where a call was done: a dispatch for no window has no result
+abbrev pub okay_result : Call → ℕ
+okay_result (Dispatch w m p q) = 0
+okay_result _ = 1
+
+-- what err is where a send was answered so
+abbrev pub cause_number : Cause → ℕ
+cause_number Timeout = 1460
+cause_number Loss = 1400
+cause_number _ = 0
+
+-- the variables after a statement whose call had this answer, and this result of the procedure that ran for it
+abbrev pub settled : Variables → Call → Answer → ℕ → Variables
+settled v call (Refused code) x = resulting v (refused_result call) (number_of code)
+settled v call (Done result cause) x = resulting v result (cause_number cause)
+settled v call (Value n) x = resulting v n 0
+settled v call (WindowAnswer w) x = resulting v w.0 0
+settled v call (Got origin number msg) x = resulting v (if msg.number == 18 then 0 else 1) 0
+settled v call Nothing x = resulting v 0 0
+settled v call (Called proc_no) x = resulting v x 0
+settled v call (Inside s proc_no) x = resulting v (inside_result call x) 0
+settled v call Okay x = resulting v (okay_result call) 0
+settled v call _ x = resulting v 1 0

@@ -2,18 +2,19 @@
 //! traces of a thread's program.
 #![tactic(auto)]
 
+mod compound;
+mod frame;
 mod laws;
+pub mod messages;
 mod operand;
 mod script;
 mod statement;
 mod values;
 mod variables;
 
-pub use laws::{ends_once, one_next_call, traces_agree};
+pub use frame::{Compound, Next, Run};
+pub use laws::{calls_come_in_turn, calls_fit_the_stack, ends_once, one_next_call, traces_agree};
 pub use operand::{Comparison, Letter, Operand, Operator, Test, Variable};
-pub use script::{Body, Name, Script};
-pub use statement::{CallStatement, Statement};
-pub use variables::{Letters, Variables};
-
-#[cfg(test)]
-mod tests;
+pub use script::{Body, Name, Procedure, Script};
+pub use statement::{CallStatement, Creation, Statement};
+pub use variables::{Letters, Parameters, Variables};

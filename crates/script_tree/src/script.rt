@@ -5,7 +5,7 @@ ghost use Rattle.std.specs.Prelude.{◌≡◌, ◌<◌, ◌≤◌, length};
 use crate::statement::Statement;
 use std::marker::Model;
 
-/// A name of a class, a title or a message. Contracts see its bytes.
+/// A name of a class, a title, a message or a procedure. Contracts see its bytes.
 #[derive(Drop)]
 pub struct Name {
     text: Vec<u8>,
@@ -35,7 +35,7 @@ impl Name {
     }
 }
 
-/// The statements of one thread, in order. Contracts see the list.
+/// The statements of one thread or procedure, in order. Contracts see the list.
 #[derive(Drop)]
 pub struct Body {
     statements: Vec<Statement>,
@@ -70,8 +70,50 @@ impl Body {
     }
 }
 
-/// A script: the screen, how many entries a thread may make, the order list, the names, and the
-/// threads. Contracts see the tree.
+/// A window or callback procedure. Contracts see its name and its statements.
+#[derive(Drop)]
+pub struct Procedure {
+    name: Name,
+    body: Body,
+}
+
+impl Model for Procedure {
+    ghost use Rattle.std.specs.Coded.{codes};
+    ghost use Rattle.script_tree.specs.Tree.{ProcedureTree};
+    ghost use Rattle.script_tree.specs.contracts.statement.Statement as statement_words;
+
+    ghost Value = { ProcedureTree };
+
+    ghost coded = { Prim.hlevel (codes, statement_words.the_row.coded) };
+
+    ghost view = { λ p. record { name = p.name; body = p.body } };
+}
+
+impl Procedure {
+    /// The procedure of this name.
+    pub fn new(name: Name, body: Body) -> Procedure
+        ensures { result ≡ record { name = name; body = body } }
+    {
+        Procedure { name, body }
+    }
+
+    /// Its name.
+    pub fn name(&self) -> &Name
+        ensures { result.now ≡ self.now.name }
+    {
+        &self.name
+    }
+
+    /// Its statements.
+    pub fn body(&self) -> &Body
+        ensures { result.now ≡ self.now.body }
+    {
+        &self.body
+    }
+}
+
+/// A script: the screen, how many entries a thread may make, the order list, the names, the procedures,
+/// and the threads. Contracts see the tree.
 #[derive(Drop)]
 pub struct Script {
     width: u16,
@@ -79,6 +121,7 @@ pub struct Script {
     budget: u32,
     order: Vec<u8>,
     names: Vec<Name>,
+    procedures: Vec<Procedure>,
     threads: Vec<Body>,
 }
 
@@ -91,7 +134,7 @@ impl Model for Script {
 
     ghost coded = { Prim.hlevel (codes, statement_words.the_row.coded) };
 
-    ghost view = { λ s. record { width = s.width; height = s.height; budget = s.budget; order = s.order.items; names = s.names.items; threads = s.threads.items } };
+    ghost view = { λ s. record { width = s.width; height = s.height; budget = s.budget; order = s.order.items; names = s.names.items; procedures = s.procedures.items; threads = s.threads.items } };
 }
 
 impl Script {
@@ -104,9 +147,10 @@ impl Script {
         budget: u32,
         order: Vec<u8>,
         names: Vec<Name>,
+        procedures: Vec<Procedure>,
         threads: Vec<Body>,
     ) -> Script
-        ensures { result ≡ record { width = width; height = height; budget = budget; order = order.items; names = names.items; threads = threads.items } }
+        ensures { result ≡ record { width = width; height = height; budget = budget; order = order.items; names = names.items; procedures = procedures.items; threads = threads.items } }
     {
         Script {
             width,
@@ -114,6 +158,7 @@ impl Script {
             budget,
             order,
             names,
+            procedures,
             threads,
         }
     }
@@ -151,6 +196,13 @@ impl Script {
         ensures { result.now ≡ self.now.names }
     {
         &self.names
+    }
+
+    /// The procedures, with distinct names; classes and callback sends name them by their place, from 0.
+    pub fn procedures(&self) -> &[Procedure]
+        ensures { result.now ≡ self.now.procedures }
+    {
+        &self.procedures
     }
 
     /// The threads' bodies, thread 1 first.

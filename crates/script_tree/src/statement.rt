@@ -2,7 +2,9 @@
 
 use crate::operand::{Letter, Operand, Operator, Test};
 
-/// A statement that makes one call, with its operands in the order in which they are written.
+/// A statement that makes one call, with its operands in the order in which they are written. A class, a
+/// title or a name is its place in the list of names, and a procedure its place in the list of procedures,
+/// both from 0.
 #[derive(Clone, Copy, Debug, PartialEq, Eq)]
 pub enum CallStatement {
     /// `peek W MIN MAX FLAGS` (Microsoft, PeekMessage function).
@@ -15,11 +17,54 @@ pub enum CallStatement {
     PostThread(Operand, Operand, Operand, Operand),
     /// `post_quit V` (Microsoft, PostQuitMessage function).
     PostQuit(Operand),
-    /// `message NAME`: the name's place in the list of names, from 0 (Microsoft, RegisterWindowMessage
-    /// function).
+    /// `dispatch`, with the last message got (Microsoft, DispatchMessage function).
+    Dispatch,
+    /// `send W M P Q` (Microsoft, SendMessage function).
+    Send(Operand, Operand, Operand, Operand),
+    /// `send_timeout W M P Q FLAGS MS` (Microsoft, SendMessageTimeout function).
+    SendTimeout(Operand, Operand, Operand, Operand, Operand, Operand),
+    /// `send_notify W M P Q` (Microsoft, SendNotifyMessage function).
+    SendNotify(Operand, Operand, Operand, Operand),
+    /// `send_callback W M P Q PROC EXTRA` (Microsoft, SendMessageCallback function).
+    SendCallback(Operand, Operand, Operand, Operand, u32, Operand),
+    /// `reply V` (Microsoft, ReplyMessage function).
+    Reply(Operand),
+    /// `in_send` (Microsoft, InSendMessageEx function).
+    InSend,
+    /// `message NAME` (Microsoft, RegisterWindowMessage function).
     Message(u32),
+    /// `register CLASS PROC COLOUR` (Microsoft, RegisterClass function).
+    Register(u32, u32, Operand),
+    /// `unregister CLASS` (Microsoft, UnregisterClass function).
+    Unregister(u32),
+    /// `is_window W` (Microsoft, IsWindow function).
+    IsWindow(Operand),
+    /// `parent W` (Microsoft, GetParent function).
+    Parent(Operand),
+    /// `next_top W`
+    NextTop(Operand),
+    /// `clock` (Microsoft, GetTickCount64 function).
+    Clock,
     /// `yield`
     Yield,
+}
+
+/// What `create` makes a window of (Microsoft, CreateWindowEx function).
+#[derive(Clone, Copy, Debug, PartialEq, Eq)]
+pub struct Creation {
+    /// The class, a place in the list of names.
+    pub class: u32,
+    /// The title, a place in the list of names.
+    pub title: u32,
+    /// The parent or owner, or 0.
+    pub parent: Operand,
+    pub style: Operand,
+    pub extended_style: Operand,
+    /// The edges in pixels; a value from 2^63 on is a number below 0, by two's complement.
+    pub left: Operand,
+    pub top: Operand,
+    pub right: Operand,
+    pub bottom: Operand,
 }
 
 /// A statement.
@@ -35,6 +80,16 @@ pub enum Statement {
     IfElse(Test, Vec<Statement>, Vec<Statement>),
     /// `while A CMP B`, its body, `end`
     While(Test, Vec<Statement>),
+    /// `return A`: ends its procedure with this result. In the body of a thread it ends that body.
+    Return(Operand),
     /// A statement that makes a call.
     Call(CallStatement),
+    /// `sleep MS` (Microsoft, Sleep function).
+    Sleep(Operand),
+    /// `create CLASS TITLE PARENT STYLE EX L T R B` (Microsoft, CreateWindowEx function).
+    Create(Creation),
+    /// `destroy W` (Microsoft, DestroyWindow function).
+    Destroy(Operand),
+    /// `default`, with the message of the procedure (Microsoft, DefWindowProc function).
+    Default,
 }

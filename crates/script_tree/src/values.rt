@@ -1,13 +1,14 @@
 //! The values of operands and tests, and the calls of statements.
 
 ghost use Rattle.std.specs.Prelude.{◌≡◌};
-ghost use Rattle.script_tree.specs.Values.{value_of, computed, compared, holds as holds_of, call_of};
+ghost use Rattle.script_tree.specs.Values.{value_of, edge_of, computed, compared, holds as holds_of, call_of, creation_call, dispatch_of, IsSend, IsShort};
 
 use crate::operand::{Comparison, Operand, Operator, Test};
-use crate::statement::CallStatement;
+use crate::statement::{CallStatement, Creation};
 use crate::variables::Variables;
 use name_table::constant_value;
 use user_model::Call;
+use win_num::Msg;
 
 impl Operand {
     /// Its value where the variables are these; a constant of no ordinal is 0.
@@ -21,6 +22,13 @@ impl Operand {
             Operand::Constant(ordinal) => constant_value(*ordinal).unwrap_or(0),
             Operand::Variable(variable) => variables.get(*variable),
         }
+    }
+
+    /// The same as a number with sign, by two's complement of 64 bits.
+    fn edge(&self, variables: &Variables) -> i64
+        ensures { result ≡ edge_of self.now variables.now }
+    {
+        self.value(variables).cast_signed()
     }
 }
 
@@ -62,6 +70,26 @@ impl Test {
     }
 }
 
+impl Creation {
+    /// The call that makes the window, with the values that its operands have where the variables are
+    /// these.
+    pub fn call(&self, variables: &Variables) -> Call
+        ensures { result ≡ creation_call self.now variables.now }
+    {
+        Call::NewWindow(
+            self.class,
+            self.title,
+            self.parent.value(variables),
+            self.style.value(variables),
+            self.extended_style.value(variables),
+            self.left.edge(variables),
+            self.top.edge(variables),
+            self.right.edge(variables),
+            self.bottom.edge(variables),
+        )
+    }
+}
+
 impl CallStatement {
     /// Its call, with the values that its operands have where the variables are these.
     pub fn call(&self, variables: &Variables) -> Call
@@ -92,8 +120,86 @@ impl CallStatement {
                 lparam.value(variables),
             ),
             CallStatement::PostQuit(code) => Call::PostQuit(code.value(variables)),
-            CallStatement::Message(name) => Call::Message(*name),
-            CallStatement::Yield => Call::Yield,
+            CallStatement::Dispatch => dispatch(&variables.got),
+            CallStatement::Send(_, _, _, _) => self.send(variables),
+            CallStatement::SendTimeout(_, _, _, _, _, _) => self.send(variables),
+            CallStatement::SendNotify(_, _, _, _) => self.send(variables),
+            CallStatement::SendCallback(_, _, _, _, _, _) => self.send(variables),
+            _ => self.short_call(variables),
         }
     }
+
+    fn send(&self, variables: &Variables) -> Call
+        requires { IsSend self.now }
+        ensures { result ≡ call_of self.now variables.now }
+    {
+        match self {
+            CallStatement::Send(window, number, wparam, lparam) => Call::Send(
+                window.value(variables),
+                number.value(variables),
+                wparam.value(variables),
+                lparam.value(variables),
+            ),
+            CallStatement::SendTimeout(window, number, wparam, lparam, flags, ms) => {
+                Call::SendTimeout(
+                    window.value(variables),
+                    number.value(variables),
+                    wparam.value(variables),
+                    lparam.value(variables),
+                    flags.value(variables),
+                    ms.value(variables),
+                )
+            }
+            CallStatement::SendNotify(window, number, wparam, lparam) => Call::SendNotify(
+                window.value(variables),
+                number.value(variables),
+                wparam.value(variables),
+                lparam.value(variables),
+            ),
+            CallStatement::SendCallback(window, number, wparam, lparam, procedure, extra) => {
+                Call::SendCallback(
+                    window.value(variables),
+                    number.value(variables),
+                    wparam.value(variables),
+                    lparam.value(variables),
+                    *procedure,
+                    extra.value(variables),
+                )
+            }
+            _ => unreachable!(),
+        }
+    }
+
+    fn short_call(&self, variables: &Variables) -> Call
+        requires { IsShort self.now }
+        ensures { result ≡ call_of self.now variables.now }
+    {
+        match self {
+            CallStatement::Reply(value) => Call::Reply(value.value(variables)),
+            CallStatement::InSend => Call::InSend,
+            CallStatement::Message(name) => Call::Message(*name),
+            CallStatement::Register(class, procedure, colour) => {
+                Call::Register(*class, *procedure, colour.value(variables))
+            }
+            CallStatement::Unregister(class) => Call::Unregister(*class),
+            CallStatement::IsWindow(window) => Call::IsWindow(window.value(variables)),
+            CallStatement::Parent(window) => Call::Parent(window.value(variables)),
+            CallStatement::NextTop(window) => Call::NextTop(window.value(variables)),
+            CallStatement::Clock => Call::Clock,
+            CallStatement::Yield => Call::Yield,
+            _ => unreachable!(),
+        }
+    }
+}
+
+/// Hands the last message got to its window's procedure.
+fn dispatch(got: &Msg) -> Call
+    ensures { result ≡ dispatch_of got.now }
+{
+    Call::Dispatch(
+        u64::from(got.hwnd.0),
+        u64::from(got.number),
+        got.wparam,
+        got.lparam,
+    )
 }

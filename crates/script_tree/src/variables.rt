@@ -1,11 +1,11 @@
 //! The variables of a thread.
 
 ghost use Rattle.std.specs.Prelude.{◌≡◌};
-ghost use Rattle.script_tree.specs.Values.{start as start_of, variable_value, assigned, received, settled, refused_result};
+ghost use Rattle.script_tree.specs.Values.{start as start_of, no_parameters, variable_value, assigned, received, settled, refused_result, cause_number, inside_result, okay_result};
 
 use crate::operand::{Letter, Variable};
 use user_model::{Answer, Call};
-use win_num::{Hwnd, Msg, Point, names};
+use win_num::{Cause, Hwnd, Msg, Point, names};
 
 /// The variables that a script sets.
 #[derive(Clone, Copy, Debug, PartialEq, Eq)]
@@ -20,7 +20,16 @@ pub struct Letters {
     pub h: u64,
 }
 
-/// The variables of a thread outside of procedures, where `hwnd`, `msg`, `wp` and `lp` are 0.
+/// What a window procedure is called with (Microsoft, WNDPROC callback function).
+#[derive(Clone, Copy, Debug, PartialEq, Eq)]
+pub struct Parameters {
+    pub hwnd: u64,
+    pub number: u64,
+    pub wparam: u64,
+    pub lparam: u64,
+}
+
+/// The variables of a thread.
 #[derive(Clone, Copy, Debug, PartialEq, Eq)]
 pub struct Variables {
     /// `a` to `h`.
@@ -31,6 +40,22 @@ pub struct Variables {
     pub last_error: u16,
     /// The last message got, for `ghwnd`, `gmsg`, `gwp`, `glp` and `gtime`; zeros before the first.
     pub got: Msg,
+    /// `hwnd`, `msg`, `wp` and `lp` of the innermost running procedure; zeros outside of one.
+    pub parameters: Parameters,
+}
+
+impl Parameters {
+    /// Zeros, as outside of procedures.
+    pub fn none() -> Parameters
+        ensures { result ≡ no_parameters }
+    {
+        Parameters {
+            hwnd: 0,
+            number: 0,
+            wparam: 0,
+            lparam: 0,
+        }
+    }
 }
 
 impl Variables {
@@ -61,6 +86,7 @@ impl Variables {
             last_result: 0,
             last_error: 0,
             got,
+            parameters: Parameters::none(),
         }
     }
 
@@ -77,7 +103,10 @@ impl Variables {
             Variable::GotWparam => self.got.wparam,
             Variable::GotLparam => self.got.lparam,
             Variable::GotTime => self.got.time,
-            Variable::Window | Variable::Message | Variable::Wparam | Variable::Lparam => 0,
+            Variable::Window => self.parameters.hwnd,
+            Variable::Message => self.parameters.number,
+            Variable::Wparam => self.parameters.wparam,
+            Variable::Lparam => self.parameters.lparam,
         }
     }
 
@@ -121,16 +150,21 @@ impl Variables {
         }
     }
 
-    /// A statement that made this call is over: its answer sets `r` and `err`.
-    pub fn settle(&mut self, call: &Call, answer: &Answer)
-        ensures { self.new ≡ settled self.old call.now answer.now }
+    /// A statement that made this call is over: its answer, and the result of the procedure that ran for
+    /// it, set `r` and `err`.
+    pub fn settle(&mut self, call: &Call, answer: &Answer, value: u64)
+        ensures { self.new ≡ settled self.old call.now answer.now value }
     {
         let (last_result, last_error) = match answer {
             Answer::Refused(code) => (refused(call), code.number()),
-            Answer::Value(value) => (*value, 0),
+            Answer::Done { result, cause } => (*result, error_of(*cause)),
+            Answer::Value(number) => (*number, 0),
             Answer::Window(window) => (u64::from(window.0), 0),
             Answer::Got { msg, .. } => (u64::from(msg.number != names::WM_QUIT), 0),
             Answer::Nothing => (0, 0),
+            Answer::Called(_) => (value, 0),
+            Answer::Inside(_, _) => (inside(call, value), 0),
+            Answer::Okay => (okay(call), 0),
             _ => (1, 0),
         };
         self.last_result = last_result;
@@ -144,6 +178,38 @@ fn refused(call: &Call) -> u64
 {
     match call {
         Call::Get(_, _, _) => 18446744073709551615,
+        _ => 0,
+    }
+}
+
+/// What `r` is after this call went inside, where its procedure gave that result: a callback send doesn't
+/// tell it (Microsoft, SendMessageCallback function).
+fn inside(call: &Call, value: u64) -> u64
+    ensures { result ≡ inside_result call.now value }
+{
+    match call {
+        Call::SendCallback(_, _, _, _, _, _) => 1,
+        _ => value,
+    }
+}
+
+/// What `r` is after this call was done: a dispatch for no window has no result.
+fn okay(call: &Call) -> u64
+    ensures { result ≡ okay_result call.now }
+{
+    match call {
+        Call::Dispatch(_, _, _, _) => 0,
+        _ => 1,
+    }
+}
+
+/// What `err` is after a send was answered so (Microsoft, SendMessageTimeout function).
+fn error_of(cause: Cause) -> u16
+    ensures { result ≡ cause_number cause }
+{
+    match cause {
+        Cause::Timeout => 1460,
+        Cause::Loss => 1400,
         _ => 0,
     }
 }

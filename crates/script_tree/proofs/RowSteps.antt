@@ -1,0 +1,138 @@
+-- Where the places of compounds and the answers to calls lead, as the rows say it.
+use Rattle.std.proofs.Common.{◌≡◌, ◌≢◌, ℕ, ◌+◌, Bool, true, false, List, [], ◌∷◌, length, refl, ap, arith}
+use Rattle.std.proofs.lemmas.Bool.Decides.{nat_tests}
+use Rattle.std.specs.Prelude.{if◌then◌else◌, ◌==◌, not}
+use Rattle.user_model.specs.declared.call.Call.{Call}
+use Rattle.user_model.specs.declared.entry.Answer.{Answer}
+use Rattle.user_model.specs.declared.entry.Answer.TheVariants.{Wait, Value, Window as WindowMade, Called, Inside, Begun, Enter, Callback, Tell, Last, Refused}
+use Rattle.user_model.specs.Stacks.{waits}
+use Rattle.script_tree.specs.declared.messages.TheConstants.{WM_CLOSE, WM_NCCREATE, WM_CREATE}
+use Rattle.script_tree.specs.declared.variables.Parameters.{Parameters}
+use Rattle.script_tree.specs.declared.variables.Variables.{Variables}
+use Rattle.script_tree.specs.declared.frame.Compound.TheVariants.{Telling}
+use Rattle.script_tree.specs.declared.frame.Next.TheVariants.{Calls as CallsNext, Ends}
+use Rattle.script_tree.specs.Compounds.{sent, dooms, unmakes, ends_with, after_making, after_greeting, kept_or_doomed, after_telling, after_dooming, after_unmaking}
+use Rattle.script_tree.specs.Pieces.{Piece, State, Trace}
+use Rattle.script_tree.specs.Steps.{default_result, following, follows, given, after_answer, answered, is_last}
+use Rattle.script_tree.specs.Rows.{ends_call, is_final, is_refusal, is_made, is_undone}
+
+pub same_number : (x y : ℕ) → x ≡ y → (x == y) ≡ true
+same_number x y h = grind (arith, nat_tests)
+
+pub other_number : (x y : ℕ) → x ≢ y → (x == y) ≡ false
+other_number x y h = grind (arith, nat_tests)
+
+pub number_is : (x y : ℕ) → (x == y) ≡ true → x ≡ y
+number_is x y h = grind (arith, nat_tests)
+
+pub number_isnt : (x y : ℕ) → (x == y) ≡ false → x ≢ y
+number_isnt x y h = grind (arith, nat_tests)
+
+-- a pass with an entry, and one with none
+pub counted : (first : Trace) (n m : ℕ) → first ≢ [] → m ≡ n + length first → (m == n) ≡ false
+counted [] n m h e = absurd (h refl)
+counted (x ∷ first) n m h e = other_number m n (λ f. omega arith)
+
+pub uncounted : (n m : ℕ) → m ≡ n + length {A = Call × Answer} [] → (m == n) ≡ true
+uncounted n m e = same_number m n (omega arith)
+
+-- the places of a destruction
+pub doom_goes : (w : ℕ) (alone : Bool) (a : Answer) → is_refusal a ≡ false → after_dooming w alone a ≡ unmakes w alone
+doom_goes w alone (Refused code) h = absurd cc
+doom_goes w alone _ h = refl
+
+pub doom_ends : (w : ℕ) (alone : Bool) (a : Answer) → is_refusal a ≡ true → after_dooming w alone a ≡ ends_with alone a
+doom_ends w alone (Refused code) h = refl
+doom_ends w alone _ h = absurd cc
+
+pub unmade_ends : (w : ℕ) (alone : Bool) (a : Answer) → is_refusal a ≡ true → after_unmaking w alone a ≡ ends_with alone a
+unmade_ends w alone (Refused code) h = refl
+unmade_ends w alone _ h = absurd cc
+
+pub unmade_done : (w : ℕ) (alone : Bool) (a : Answer) → is_undone a ≡ false → after_unmaking w alone a ≡ ends_with alone (Value 1)
+unmade_done w alone (Tell v) h = absurd cc
+unmade_done w alone (Last v) h = absurd cc
+unmade_done w alone (Refused code) h = absurd cc
+unmade_done w alone _ h = refl
+
+-- the places of a `create`
+pub made_ends : (a : Answer) → is_refusal a ≡ true → after_making a ≡ Ends a
+made_ends (Refused code) h = refl
+made_ends _ h = absurd cc
+
+pub made_none : (a : Answer) → is_made a ≡ false → after_making a ≡ Ends (Value 0)
+made_none (WindowMade w) h = absurd cc
+made_none (Refused code) h = absurd cc
+made_none _ h = refl
+
+pub greeted_zero : (w x : ℕ) → x ≡ 0 → after_greeting w x ≡ dooms w false
+greeted_zero w x h = ap (λ z. if z then dooms w false else CallsNext (sent w WM_CREATE) (Telling w)) (same_number x 0 h)
+
+pub greeted_more : (w x : ℕ) → x ≢ 0 → after_greeting w x ≡ CallsNext (sent w WM_CREATE) (Telling w)
+greeted_more w x h = ap (λ z. if z then dooms w false else CallsNext (sent w WM_CREATE) (Telling w)) (other_number x 0 h)
+
+pub telling_refused : (w : ℕ) (a : Answer) (x : ℕ) → is_refusal a ≡ true → after_telling w a x ≡ dooms w false
+telling_refused w (Refused code) x h = refl
+telling_refused w _ x h = absurd cc
+
+pub telling_kept : (w : ℕ) (a : Answer) (x : ℕ) → is_refusal a ≡ false → after_telling w a x ≡ kept_or_doomed w x
+telling_kept w (Refused code) x h = absurd cc
+telling_kept w _ x h = refl
+
+pub kept_no : (w x : ℕ) → x ≡ 18446744073709551615 → kept_or_doomed w x ≡ dooms w false
+kept_no w x h = ap (λ z. if z then dooms w false else Ends (Value w)) (same_number x 18446744073709551615 h)
+
+pub kept_yes : (w x : ℕ) → x ≢ 18446744073709551615 → kept_or_doomed w x ≡ Ends (Value w)
+kept_yes w x h = ap (λ z. if z then dooms w false else Ends (Value w)) (other_number x 18446744073709551615 h)
+
+-- the default procedure
+
+pub close_result : (p : Parameters) → p.number ≡ WM_CLOSE → default_result p ≡ 0
+close_result p h = ap (λ z. if z then 1 else 0) (other_number p.number WM_NCCREATE (λ e. absurd (omega arith)))
+
+pub other_result : (p : Parameters) → p.number ≢ WM_NCCREATE → default_result p ≡ 0
+other_result p h = ap (λ z. if z then 1 else 0) (other_number p.number WM_NCCREATE h)
+
+pub greeting_result : (p : Parameters) → p.number ≡ WM_NCCREATE → default_result p ≡ 1
+greeting_result p h = ap (λ z. if z then 1 else 0) (same_number p.number WM_NCCREATE h)
+
+-- an answer that is the last of its call
+begun_follows : (b : Bool) (ps : List Piece) → not b ≡ true → (if b then ps else []) ≡ []
+begun_follows true ps h = absurd cc
+begun_follows false ps h = refl
+
+ends_follows : (call : Call) (a : Answer) → ends_call call a ≡ true → following call a ≡ []
+ends_follows call (Enter sid proc_no w number wparam lparam) h = absurd cc
+ends_follows call (Callback sid proc_no w number extra result) h = absurd cc
+ends_follows call (Inside sid proc_no) h = absurd cc
+ends_follows call (Called proc_no) h = absurd cc
+ends_follows call (Begun sid) h = begun_follows (waits call) _ h
+ends_follows call _ h = refl
+
+either_follows : (b : Bool) (call : Call) (a : Answer) → (if b then true else ends_call call a) ≡ true → (if b then [] else following call a) ≡ []
+either_follows true call a h = refl
+either_follows false call a h = ends_follows call a h
+
+pub final_follows : (call : Call) (a : Answer) → is_final call a ≡ true → follows call a ≡ []
+final_follows call Wait h = absurd cc
+final_follows call a h = either_follows (is_last call) call a h
+
+begun_answered : (b : Bool) (x y : State) → not b ≡ true → (if b then x else y) ≡ y
+begun_answered true x y h = absurd cc
+begun_answered false x y h = refl
+
+ends_answered : (call : Call) (a : Answer) (v : Variables) → ends_call call a ≡ true → after_answer call a v ≡ given v a
+ends_answered call (Enter sid proc_no w number wparam lparam) v h = absurd cc
+ends_answered call (Callback sid proc_no w number extra result) v h = absurd cc
+ends_answered call (Inside sid proc_no) v h = absurd cc
+ends_answered call (Called proc_no) v h = absurd cc
+ends_answered call (Begun sid) v h = begun_answered (waits call) _ _ h
+ends_answered call _ v h = refl
+
+either_answered : (b : Bool) (call : Call) (a : Answer) (v : Variables) → (if b then true else ends_call call a) ≡ true → (if b then given v a else after_answer call a v) ≡ given v a
+either_answered true call a v h = refl
+either_answered false call a v h = ends_answered call a v h
+
+pub final_answered : (call : Call) (a : Answer) (v : Variables) → is_final call a ≡ true → answered call a v ≡ given v a
+final_answered call Wait v h = absurd cc
+final_answered call a v h = either_answered (is_last call) call a v h
