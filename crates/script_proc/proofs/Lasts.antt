@@ -23,15 +23,12 @@ last_of [] h = absurd (h refl)
 last_of (x ∷ []) h = ([], x, refl)
 last_of (x ∷ y ∷ xs) h = let r = last_of (y ∷ xs) (λ e. absurd cc) in (x ∷ r.0, r.1, ap (λ ys. x ∷ ys) r.2)
 
-take_all : {A : Type 0} (xs ys : List A) → take (length xs) (xs ++ ys) ≡ xs
-take_all [] ys = refl
-take_all (x ∷ xs) ys = ap (λ zs. x ∷ zs) (take_all xs ys)
+pub take_seam : {A : Type 0} (below : List A) (item : A) → take (length below) (below ++ item ∷ []) ≡ below
+take_seam [] item = refl
+take_seam (x ∷ below) item = ap (λ xs. x ∷ xs) (take_seam below item)
 
--- all but the last
-pub before_last : {A : Type 0} (xs below : List A) (item : A) (n : ℕ) → xs ≡ below ++ item ∷ [] → n ≡ length xs → take (n - 1) xs ≡ below
-before_last xs below item n e h =
+-- the last taken away
+pub popped : {A : Type 0} (xs below ys : List A) (item : A) (n : ℕ) → xs ≡ below ++ item ∷ [] → ys ≡ take (n - 1) xs → n ≡ length xs → ys ≡ below
+popped xs below ys item n e r h =
     let place : n - 1 ≡ length below = omega (arith, ap length e, length-append below (item ∷ [])) in
-    ap (λ ys. take (n - 1) ys) e ∙ ap (λ k. take k (below ++ item ∷ [])) place ∙ take_all below (item ∷ [])
-
-pub before_last_of : {A : Type 0} (xs ys below : List A) (item : A) (n : ℕ) → xs ≡ below ++ item ∷ [] → ys ≡ xs → n ≡ length xs → take (n - 1) ys ≡ below
-before_last_of xs ys below item n e f h = ap (λ zs. take (n - 1) zs) f ∙ before_last xs below item n e h
+    r ∙ ap (λ zs. take (n - 1) zs) e ∙ ap (λ k. take k (below ++ item ∷ [])) place ∙ take_seam below item

@@ -1,27 +1,24 @@
 -- What the last item does keeps the traces of all items.
-use Rattle.std.proofs.Common.{◌≡◌, ◌≢◌, ℕ, zero, suc, ◌+◌, ◌-◌, ◌==◌, Bool, true, false, List, [], ◌∷◌, ◌++◌, Option, Some, None, refl, sym, ap, ◌∙◌, subst, arith, add-one, append-nil, drop, eq-eqb}
-use Rattle.std.specs.Prelude.{slice_get, if◌then◌else◌}
-use Rattle.std.proofs.lemmas.Bool.{ne_eqb}
+use Rattle.std.proofs.Common.{◌≡◌, ℕ, zero, suc, ◌+◌, ◌-◌, List, [], ◌∷◌, ◌++◌, Option, Some, None, refl, sym, ap, ◌∙◌, subst, arith, add-one, append-nil, drop}
+use Rattle.std.specs.Prelude.{slice_get}
 use Rattle.std.proofs.lemmas.List.Sums.{fold-append}
 use Rattle.user_model.specs.declared.call.Call.{Call}
-use Rattle.user_model.specs.declared.call.Call.TheVariants.{Yield}
 use Rattle.user_model.specs.declared.entry.Answer.{Answer}
-use Rattle.script_tree.specs.declared.operand.Test.{Test}
-use Rattle.script_tree.specs.declared.statement.Statement.{Statement, items-the_row-Statement}
-use Rattle.script_tree.specs.declared.statement.Statement.TheVariants.{Let, Compute, If', IfElse', While', Call as CallOf}
+use Rattle.script_tree.specs.declared.statement.Statement.{Statement}
 use Rattle.script_tree.specs.declared.variables.Variables.{Variables}
 use Rattle.script_tree.specs.Tree.{Tree}
-use Rattle.script_tree.specs.Values.{holds}
-use Rattle.script_tree.specs.Pieces.{Piece, Lines, One, State, Going, Given, Becomes}
-use Rattle.script_tree.specs.Steps.{step, statement, begins, takes}
-use Rattle.script_tree.specs.Traces.{silent}
+use Rattle.script_tree.specs.Pieces.{Piece, Lines, One, State, Going, Becomes, Asks}
+use Rattle.script_tree.specs.Steps.{step, statement, follows, answered, variables_of}
+use Rattle.script_tree.specs.Traces.{Makes, silent, entry}
 use Rattle.script_tree.proofs.Falls.{falls}
 use Rattle.script_proc.specs.declared.item.Way.{Way}
-use Rattle.script_proc.specs.declared.item.Way.TheVariants.{First, Second, Loop}
 use Rattle.script_proc.specs.declared.item.Item.{Item}
-use Rattle.script_proc.specs.declared.item.Item.TheVariants.{Block, Once, PassEnd as PassEndItem, Making as MakingItem, Settle as SettleItem, Quiet as QuietItem}
+use Rattle.script_proc.specs.declared.item.Item.TheVariants.{Block, Making as MakingItem, Leaves as LeavesItem}
 use Rattle.script_proc.specs.declared.item.Mode.{Mode}
-use Rattle.script_proc.specs.Items.{grown, standing, piece, once_of, pass_end_of, loop_test, block_of, above, over, added, changed, state_of, Leads}
+use Rattle.script_proc.specs.declared.item.Mode.TheVariants.{Going as GoingMode, Returning as ReturningMode, Given as GivenMode}
+use Rattle.script_proc.specs.declared.item.Few.TheVariants.{Nothing}
+use Rattle.script_proc.specs.declared.item.Move.{Move}
+use Rattle.script_proc.specs.Items.{grown, standing, piece, block_of, above, over, few_items, state_of, step_of, asks, Leads, Enters, Asking, IsMove, GoesOver}
 
 -- the list from a place on is the element there and the list behind it
 drop_at : {A : Type 0} (xs : List A) (i : ℕ) (x : A) → slice_get xs i ≡ Some x → drop i xs ≡ x ∷ drop (suc i) xs
@@ -35,23 +32,11 @@ drop_past [] (suc i) h = refl
 drop_past (y ∷ xs) zero h = absurd cc
 drop_past (y ∷ xs) (suc i) h = drop_past xs i h
 
--- what is no `while` isn't repeated
-no_loop : (o : Option Statement) → loop_test o ≡ None → (once_of o ≡ Lines []) × ((n : ℕ) → pass_end_of o n ≡ Lines [])
-no_loop None h = (refl, λ n. refl)
-no_loop (Some (Let x e)) h = (refl, λ n. refl)
-no_loop (Some (Compute x e op f)) h = (refl, λ n. refl)
-no_loop (Some (If' u k a)) h = (refl, λ n. refl)
-no_loop (Some (IfElse' u k a j b)) h = (refl, λ n. refl)
-no_loop (Some (While' u k body)) h = absurd cc
-no_loop (Some (CallOf ask)) h = (refl, λ n. refl)
+pieces_of : {ps qs : List Piece} {st st' : State} → Becomes ps st ≡ Becomes qs st' → ps ≡ qs
+pieces_of e = cc
 
-if_becomes : (b : Bool) (f : List Item → List Piece) (xs : List Item) (st : State) → f [] ≡ [] → Becomes (f (if b then xs else [])) st ≡ (if b then Becomes (f xs) st else Becomes [] st)
-if_becomes true f xs st h = refl
-if_becomes false f xs st h = ap (λ ps. Becomes ps st) h
-
-branch_lines : (b : Bool) (f : Way → List Statement) (xs ys : List Statement) → f First ≡ xs → f Second ≡ ys → f (if b then First else Second) ≡ (if b then xs else ys)
-branch_lines true f xs ys g h = g
-branch_lines false f xs ys g h = h
+states_of : {ps qs : List Piece} {st st' : State} → Becomes ps st ≡ Becomes qs st' → st ≡ st'
+states_of e = cc
 
 module _ (s : Tree) where
   -- items over some pieces and more are the items over some, and then more
@@ -59,130 +44,120 @@ module _ (s : Tree) where
   over-append [] around left more = refl
   over-append (item ∷ items) around left more = over-append items _ (piece s around item ∷ left) more
 
-  pub by_step : (p : Piece) (left : List Piece) (st : State) (ps : List Piece) (st' : State) (n : ℕ) → step s p st n ≡ Becomes ps st' → Leads s (p ∷ left) st (ps ++ left) st' n
+  by_step : (p : Piece) (left : List Piece) (st : State) (ps : List Piece) (st' : State) (n : ℕ) → step s p st n ≡ Becomes ps st' → Leads s (p ∷ left) st (ps ++ left) st' n
   by_step p left st ps st' n h = record { by = λ tr e m. silent ps st' h m; fewer = falls s n left p st ps st' h }
 
-  pub leads_on : (ps qs rs : List Piece) (a b c : State) (n : ℕ) → Leads s ps a qs b n → Leads s qs b rs c n → Leads s ps a rs c n
+  leads_on : (ps qs rs : List Piece) (a b c : State) (n : ℕ) → Leads s ps a qs b n → Leads s qs b rs c n → Leads s ps a rs c n
   leads_on ps qs rs a b c n l m = record { by = λ tr e x. l.by tr e (m.by tr e x); fewer = omega (arith, l.fewer, m.fewer) }
 
-  -- the items that a statement adds stand for what it becomes
-  statement_adds : (line : Statement) (v : Variables) (n : ℕ) → statement line v n ≡ Becomes (above s (Some line) (added line v n)) (Going (changed line v))
-  statement_adds (Let x e) v n = refl
-  statement_adds (Compute x e op f) v n = refl
-  statement_adds (If' t k a) v n = sym (if_becomes (holds t v) (above s (Some (If' t k a))) (Block First 0 ∷ []) (Going v) refl)
-  statement_adds (IfElse' t k a j c) v n =
-      ap (λ ls. Becomes (Lines ls ∷ []) (Going v)) (sym (branch_lines (holds t v) (λ w. drop 0 (block_of s w (Some (IfElse' t k a j c)))) (items-the_row-Statement _ a) (items-the_row-Statement _ c) refl refl))
-  statement_adds (While' t k body) v n = sym (if_becomes (holds t v) (above s (Some (While' t k body))) (PassEndItem n ∷ Block Loop 0 ∷ []) (Going v) refl)
-  statement_adds (CallOf ask) v n = refl
-
-  -- an item that becomes items in one step
-  item_step : (item : Item) (around : Option Statement) (more : List Item) (st st' : State) (n : ℕ) → step s (piece s around item) st n ≡ Becomes (above s around more) st' → (left : List Piece) → Leads s (piece s around item ∷ left) st (over s around left more) st' n
-  item_step item around more st st' n h left =
-      subst (λ ps. Leads s (piece s around item ∷ left) st ps st' n) (sym (over-append more around [] left)) (by_step (piece s around item) left st (above s around more) st' n h)
-
-  -- what the last item does, all items do
-  replaced : (items below new : List Item) (item : Item) (more : List Item) (st st' : State) (n : ℕ) → items ≡ below ++ item ∷ [] → new ≡ below ++ more → ((left : List Piece) → Leads s (piece s (standing s below).around item ∷ left) st (over s (standing s below).around left more) st' n) → Leads s (standing s items).left st (standing s new).left st' n
-  replaced items below new item more st st' n e f m =
-      let a : (standing s items).left ≡ piece s (standing s below).around item ∷ (standing s below).left = ap (λ xs. (standing s xs).left) e ∙ ap (λ x. x.left) (fold-append (grown s) (record { around = None; left = [] }) below (item ∷ [])) in
-      let b : (standing s new).left ≡ over s (standing s below).around (standing s below).left more = ap (λ xs. (standing s xs).left) f ∙ ap (λ x. x.left) (fold-append (grown s) (record { around = None; left = [] }) below more) in
-      subst (λ ps. Leads s ps st (standing s new).left st' n) (sym a)
-      (subst (λ ps. Leads s (piece s (standing s below).around item ∷ (standing s below).left) st ps st' n) (sym b) (m (standing s below).left))
-
-  stepped : (items below new : List Item) (item : Item) (more : List Item) (st st' : State) (n : ℕ) → items ≡ below ++ item ∷ [] → new ≡ below ++ more → step s (piece s (standing s below).around item) st n ≡ Becomes (above s (standing s below).around more) st' → Leads s (standing s items).left st (standing s new).left st' n
-  stepped items below new item more st st' n e f h =
-      replaced items below new item more st st' n e f (item_step item (standing s below).around more st st' n h)
-
-  none_more : (new below : List Item) → new ≡ below → new ≡ below ++ []
-  none_more new below e = e ∙ sym (append-nil below)
+  -- the step of an item that isn't a block
+  pub item_move : (item : Item) (around : Option Statement) (v : Variables) (mode : Mode) (n : ℕ) (m : Move) → step_of s around m ≡ step s (piece s around item) (state_of v mode) n → IsMove s item around v mode n m
+  item_move item around v mode n m h = λ left.
+      subst (λ ps. Leads s (piece s around item ∷ left) (state_of v mode) ps (state_of m.variables m.mode) n) (sym (over-append (few_items m.items) around [] left))
+      (by_step (piece s around item) left (state_of v mode) (above s around (few_items m.items)) (state_of m.variables m.mode) n (sym h))
 
   -- the end of a block
-  pub block_over : (items below new : List Item) (way : Way) (at : ℕ) (v : Variables) (n : ℕ) → items ≡ below ++ Block way at ∷ [] → new ≡ below → slice_get (block_of s way (standing s below).around) at ≡ None → Leads s (standing s items).left (Going v) (standing s new).left (Going v) n
-  block_over items below new way at v n e f h =
-      let lines = block_of s way (standing s below).around in
-      stepped items below new (Block way at) [] (Going v) (Going v) n e (none_more new below f) (ap (λ ls. begins s (Lines ls) v n) (drop_past lines at h))
+  pub block_ends : (way : Way) (at : ℕ) (around : Option Statement) (v : Variables) (n : ℕ) (m : Move) → slice_get (block_of s way around) at ≡ None → m ≡ record { items = Nothing; variables = v; mode = GoingMode } → IsMove s (Block way at) around v GoingMode n m
+  block_ends way at around v n m h e = subst (λ x. IsMove s (Block way at) around v GoingMode n x) (sym e) (λ left.
+      subst (λ lines. Leads s (Lines lines ∷ left) (Going v) left (Going v) n) (sym (drop_past (block_of s way around) at h)) (by_step (Lines []) left (Going v) [] (Going v) n refl))
 
   -- a line of a block
-  line_goes_on : (way : Way) (at : ℕ) (around : Option Statement) (line : Statement) (v : Variables) (n : ℕ) → slice_get (block_of s way around) at ≡ Some line → (left : List Piece) → Leads s (piece s around (Block way at) ∷ left) (Going v) (over s around left (Block way (at + 1) ∷ added line v n)) (Going (changed line v)) n
-  line_goes_on way at around line v n h left =
+  block_goes_on : (way : Way) (at : ℕ) (around : Option Statement) (line : Statement) (v : Variables) (n : ℕ) (few full : List Item) (st' : State) → slice_get (block_of s way around) at ≡ Some line → full ≡ Block way (at + 1) ∷ few → Becomes (above s (Some line) few) st' ≡ statement line v n → (left : List Piece) → Leads s (piece s around (Block way at) ∷ left) (Going v) (over s around left full) st' n
+  block_goes_on way at around line v n few full st' h f g left =
       let lines = block_of s way around in
-      let more = added line v n in
       let rest = Lines (drop (suc at) lines) in
-      let v' = changed line v in
       let first : Leads s (Lines (line ∷ drop (suc at) lines) ∷ left) (Going v) (One line ∷ rest ∷ left) (Going v) n = by_step (Lines (line ∷ drop (suc at) lines)) left (Going v) (One line ∷ rest ∷ []) (Going v) n refl in
-      let second : Leads s (One line ∷ rest ∷ left) (Going v) (above s (Some line) more ++ rest ∷ left) (Going v') n = by_step (One line) (rest ∷ left) (Going v) (above s (Some line) more) (Going v') n (statement_adds line v n) in
+      let second : Leads s (One line ∷ rest ∷ left) (Going v) (above s (Some line) few ++ rest ∷ left) st' n = by_step (One line) (rest ∷ left) (Going v) (above s (Some line) few) st' n (sym g) in
       let both = leads_on _ _ _ _ _ _ n first second in
       let before : at + 1 - 1 ≡ at = omega arith in
-      let grows : over s around left (Block way (at + 1) ∷ more) ≡ above s (Some line) more ++ rest ∷ left =
-      ap (λ k. over s (slice_get lines k) (Lines (drop (at + 1) lines) ∷ left) more) before
-      ∙ ap (λ k. over s (slice_get lines at) (Lines (drop k lines) ∷ left) more) (add-one at)
-      ∙ ap (λ o. over s o (rest ∷ left) more) h
-      ∙ over-append more (Some line) [] (rest ∷ left) in
-      subst (λ ps. Leads s (Lines (drop at lines) ∷ left) (Going v) ps (Going v') n) (sym grows)
-      (subst (λ ls. Leads s (Lines ls ∷ left) (Going v) (above s (Some line) more ++ rest ∷ left) (Going v') n) (sym (drop_at lines at line h)) both)
+      let grows : over s around left full ≡ above s (Some line) few ++ rest ∷ left =
+      ap (over s around left) f
+      ∙ ap (λ k. over s (slice_get lines k) (Lines (drop (at + 1) lines) ∷ left) few) before
+      ∙ ap (λ k. over s (slice_get lines at) (Lines (drop k lines) ∷ left) few) (add-one at)
+      ∙ ap (λ o. over s o (rest ∷ left) few) h
+      ∙ over-append few (Some line) [] (rest ∷ left) in
+      subst (λ ps. Leads s (Lines (drop at lines) ∷ left) (Going v) ps st' n) (sym grows)
+      (subst (λ ls. Leads s (Lines ls ∷ left) (Going v) (above s (Some line) few ++ rest ∷ left) st' n) (sym (drop_at lines at line h)) both)
 
-  pub block_line : (items below new : List Item) (way : Way) (at : ℕ) (line : Statement) (v v' : Variables) (n : ℕ) → items ≡ below ++ Block way at ∷ [] → new ≡ below ++ Block way (at + 1) ∷ added line v n → v' ≡ changed line v → slice_get (block_of s way (standing s below).around) at ≡ Some line → Leads s (standing s items).left (Going v) (standing s new).left (Going v') n
-  block_line items below new way at line v v' n e f g h =
-      subst (λ x. Leads s (standing s items).left (Going v) (standing s new).left (Going x) n) (sym g)
-      (replaced items below new (Block way at) (Block way (at + 1) ∷ added line v n) (Going v) (Going (changed line v)) n e f (line_goes_on way at (standing s below).around line v n h))
+  pub block_line : (way : Way) (at : ℕ) (around : Option Statement) (line : Statement) (v : Variables) (n : ℕ) (m full : Move) → slice_get (block_of s way around) at ≡ Some line → GoesOver (Block way (at + 1)) m full → step_of s (Some line) m ≡ statement line v n → IsMove s (Block way at) around v GoingMode n full
+  block_line way at around line v n m full h o g = λ left.
+      let l = block_goes_on way at around line v n (few_items m.items) (few_items full.items) (state_of m.variables m.mode) h o.0 g left in
+      let pieces = over s around left (few_items full.items) in
+      let from = piece s around (Block way at) ∷ left in
+      subst (λ x. Leads s from (Going v) pieces (state_of x full.mode) n) (sym o.1)
+      (subst (λ x. Leads s from (Going v) pieces (state_of m.variables x) n) (sym o.2) l)
 
-  -- without a `while` around there is nothing to repeat
-  pub once_over : (items below new : List Item) (v : Variables) (n : ℕ) → items ≡ below ++ Once ∷ [] → new ≡ below → loop_test (standing s below).around ≡ None → Leads s (standing s items).left (Going v) (standing s new).left (Going v) n
-  once_over items below new v n e f h =
-      stepped items below new Once [] (Going v) (Going v) n e (none_more new below f) (ap (λ p. begins s p v n) (no_loop (standing s below).around h).0)
+  pub block_move : (item : Item) (way : Way) (at : ℕ) (around : Option Statement) (v : Variables) (mode : Mode) (n : ℕ) (m : Move) → item ≡ Block way at → mode ≡ GoingMode → IsMove s (Block way at) around v GoingMode n m → IsMove s item around v mode n m
+  block_move item way at around v mode n m e f h =
+      subst (λ x. IsMove s x around v mode n m) (sym e) (subst (λ x. IsMove s (Block way at) around v x n m) (sym f) h)
 
-  pub pass_end_over : (items below new : List Item) (began : ℕ) (v : Variables) (n : ℕ) → items ≡ below ++ PassEndItem began ∷ [] → new ≡ below → loop_test (standing s below).around ≡ None → Leads s (standing s items).left (Going v) (standing s new).left (Going v) n
-  pass_end_over items below new began v n e f h =
-      stepped items below new (PassEndItem began) [] (Going v) (Going v) n e (none_more new below f) (ap (λ p. begins s p v n) ((no_loop (standing s below).around h).1 began))
+  -- the last item comes first
+  last_first : (items below : List Item) (item : Item) → items ≡ below ++ item ∷ [] → (standing s items).left ≡ piece s (standing s below).around item ∷ (standing s below).left
+  last_first items below item e =
+      ap (λ xs. (standing s xs).left) e ∙ ap (λ x. x.left) (fold-append (grown s) (record { around = None; left = [] }) below (item ∷ []))
 
-  -- the test of a `while` again: the step, where the test holds and where it fails
-  once_adds : (o : Option Statement) (t : Test) (v : Variables) (n : ℕ) → loop_test o ≡ Some t → begins s (once_of o) v n ≡ Becomes (above s o (if holds t v then PassEndItem n ∷ Block Loop 0 ∷ [] else [])) (Going v)
-  once_adds None t v n h = absurd cc
-  once_adds (Some (Let x e)) t v n h = absurd cc
-  once_adds (Some (Compute x e op f)) t v n h = absurd cc
-  once_adds (Some (If' u k a)) t v n h = absurd cc
-  once_adds (Some (IfElse' u k a j b)) t v n h = absurd cc
-  once_adds (Some (While' u k body)) t v n h =
-      let e : u ≡ t = cc in
-      statement_adds (While' u k body) v n ∙ ap (λ x. Becomes (above s (Some (While' u k body)) (if holds x v then PassEndItem n ∷ Block Loop 0 ∷ [] else [])) (Going v)) e
-  once_adds (Some (CallOf ask)) t v n h = absurd cc
+  few_first : (new below few : List Item) → new ≡ below ++ few → (standing s new).left ≡ over s (standing s below).around (standing s below).left few
+  few_first new below few f =
+      ap (λ xs. (standing s xs).left) f ∙ ap (λ x. x.left) (fold-append (grown s) (record { around = None; left = [] }) below few)
 
-  pub once_passes : (items below new : List Item) (t : Test) (v : Variables) (n : ℕ) → items ≡ below ++ Once ∷ [] → new ≡ below ++ PassEndItem n ∷ Block Loop 0 ∷ [] → loop_test (standing s below).around ≡ Some t → holds t v ≡ true → Leads s (standing s items).left (Going v) (standing s new).left (Going v) n
-  once_passes items below new t v n e f h b =
+  -- what the last item does over what is left does the same for all items
+  last_leads : (items below new few : List Item) (item : Item) (st st' : State) (n : ℕ) → items ≡ below ++ item ∷ [] → new ≡ below ++ few → Leads s (piece s (standing s below).around item ∷ (standing s below).left) st (over s (standing s below).around (standing s below).left few) st' n → Leads s (standing s items).left st (standing s new).left st' n
+  last_leads items below new few item st st' n e f h =
+      subst (λ ps. Leads s ps st (standing s new).left st' n) (sym (last_first items below item e))
+      (subst (λ ps. Leads s (piece s (standing s below).around item ∷ (standing s below).left) st ps st' n) (sym (few_first new below few f)) h)
+
+  -- what an item does in the place of the last does the same for all items
+  pub last_moves : (items below new : List Item) (item : Item) (v : Variables) (mode : Mode) (n : ℕ) (m : Move) → items ≡ below ++ item ∷ [] → new ≡ below ++ few_items m.items → IsMove s item (standing s below).around v mode n m → Leads s (standing s items).left (state_of v mode) (standing s new).left (state_of m.variables m.mode) n
+  last_moves items below new item v mode n m e f h = last_leads items below new (few_items m.items) item (state_of v mode) (state_of m.variables m.mode) n e f (h (standing s below).left)
+
+  -- a step of the last item
+  pub item_leads : (items below new few : List Item) (item : Item) (st st' : State) (n : ℕ) → items ≡ below ++ item ∷ [] → new ≡ below ++ few → step s (piece s (standing s below).around item) st n ≡ Becomes (above s (standing s below).around few) st' → Leads s (standing s items).left st (standing s new).left st' n
+  item_leads items below new few item st st' n e f h =
       let o = (standing s below).around in
-      stepped items below new Once (PassEndItem n ∷ Block Loop 0 ∷ []) (Going v) (Going v) n e f (once_adds o t v n h ∙ ap (λ x. Becomes (above s o (if x then PassEndItem n ∷ Block Loop 0 ∷ [] else [])) (Going v)) b)
+      let left = (standing s below).left in
+      last_leads items below new few item st st' n e f (subst (λ ps. Leads s (piece s o item ∷ left) st ps st' n) (sym (over-append few o [] left)) (by_step (piece s o item) left st (above s o few) st' n h))
 
-  pub once_ends : (items below new : List Item) (t : Test) (v : Variables) (n : ℕ) → items ≡ below ++ Once ∷ [] → new ≡ below → loop_test (standing s below).around ≡ Some t → holds t v ≡ false → Leads s (standing s items).left (Going v) (standing s new).left (Going v) n
-  once_ends items below new t v n e f h b =
+  -- a line of the last block
+  pub line_leads : (items below new few : List Item) (way : Way) (at : ℕ) (line : Statement) (v v' : Variables) (n : ℕ) → slice_get (block_of s way (standing s below).around) at ≡ Some line → items ≡ below ++ Block way at ∷ [] → new ≡ below ++ Block way (at + 1) ∷ few → Becomes (above s (Some line) few) (Going v') ≡ statement line v n → Leads s (standing s items).left (Going v) (standing s new).left (Going v') n
+  line_leads items below new few way at line v v' n h e f g =
       let o = (standing s below).around in
-      stepped items below new Once [] (Going v) (Going v) n e (none_more new below f) (once_adds o t v n h ∙ ap (λ x. Becomes (above s o (if x then PassEndItem n ∷ Block Loop 0 ∷ [] else [])) (Going v)) b)
+      last_leads items below new (Block way (at + 1) ∷ few) (Block way at) (Going v) (Going v') n e f (block_goes_on way at o line v n few (Block way (at + 1) ∷ few) (Going v') h refl g (standing s below).left)
 
-  -- the end of a pass
-  turn_adds : (o : Option Statement) (t : Test) (began : ℕ) (v : Variables) (n : ℕ) → loop_test o ≡ Some t → begins s (pass_end_of o began) v n ≡ (if n == began then Becomes (above s o (Once ∷ QuietItem ∷ MakingItem Yield ∷ [])) (Going v) else Becomes (above s o (Once ∷ [])) (Going v))
-  turn_adds None t began v n h = absurd cc
-  turn_adds (Some (Let x e)) t began v n h = absurd cc
-  turn_adds (Some (Compute x e op f)) t began v n h = absurd cc
-  turn_adds (Some (If' u k a)) t began v n h = absurd cc
-  turn_adds (Some (IfElse' u k a j b)) t began v n h = absurd cc
-  turn_adds (Some (While' u k body)) t began v n h = refl
-  turn_adds (Some (CallOf ask)) t began v n h = absurd cc
+  -- the end of the last block
+  pub end_leads : (items below new : List Item) (way : Way) (at : ℕ) (v : Variables) (n : ℕ) → slice_get (block_of s way (standing s below).around) at ≡ None → items ≡ below ++ Block way at ∷ [] → new ≡ below → Leads s (standing s items).left (Going v) (standing s new).left (Going v) n
+  end_leads items below new way at v n h e f =
+      item_leads items below new [] (Block way at) (Going v) (Going v) n e (f ∙ sym (append-nil below)) (ap (λ lines. step s (Lines lines) (Going v) n) (drop_past (block_of s way (standing s below).around) at h))
 
-  pub pass_end_yields : (items below new : List Item) (t : Test) (began : ℕ) (v : Variables) (n : ℕ) → items ≡ below ++ PassEndItem began ∷ [] → new ≡ below ++ Once ∷ QuietItem ∷ MakingItem Yield ∷ [] → loop_test (standing s below).around ≡ Some t → n ≡ began → Leads s (standing s items).left (Going v) (standing s new).left (Going v) n
-  pass_end_yields items below new t began v n e f h b =
+  state_variables : (v : Variables) (mode : Mode) → variables_of (state_of v mode) ≡ v
+  state_variables v GoingMode = refl
+  state_variables v (ReturningMode x) = refl
+  state_variables v (GivenMode a x) = refl
+
+  -- the item that asks for a call makes it
+  pub asks_so : (item : Item) (mode : Mode) (call : Call) (around : Option Statement) (v : Variables) (n : ℕ) → asks item mode ≡ Some call → step s (piece s around item) (state_of v mode) n ≡ Asks call
+  asks_so (MakingItem c) GoingMode call around v n h = let e : c ≡ call = cc in ap Asks e
+  asks_so (MakingItem c) (ReturningMode x) call around v n h = let e : c ≡ call = cc in ap Asks e
+  asks_so (LeavesItem frame x) GoingMode call around v n h = cc
+  asks_so item mode call around v n h = absurd cc
+
+  -- what follows an answer, in the place of the item that made the call
+  pub last_enters : (items below new : List Item) (item : Item) (v : Variables) (mode : Mode) (n : ℕ) (m : Move) (call : Call) (a : Answer) → items ≡ below ++ item ∷ [] → asks item mode ≡ Some call → new ≡ below ++ few_items m.items → step_of s (standing s below).around m ≡ Becomes (follows call a) (answered call a v) → Enters s (standing s items).left (state_of v mode) (standing s new).left (state_of m.variables m.mode) n call a
+  last_enters items below new item v mode n m call a e h f g =
+      let under = (standing s below).left in
       let o = (standing s below).around in
-      stepped items below new (PassEndItem began) (Once ∷ QuietItem ∷ MakingItem Yield ∷ []) (Going v) (Going v) n e f (turn_adds o t began v n h ∙ ap (λ x. if x then Becomes (above s o (Once ∷ QuietItem ∷ MakingItem Yield ∷ [])) (Going v) else Becomes (above s o (Once ∷ [])) (Going v)) (eq-eqb n began b))
+      let p = piece s o item in
+      let lasts : (standing s items).left ≡ p ∷ under = last_first items below item e in
+      let news : (standing s new).left ≡ follows call a ++ under = few_first new below (few_items m.items) f ∙ over-append (few_items m.items) o [] under ∙ ap (λ ps. ps ++ under) (pieces_of g) in
+      let asks : step s p (state_of v mode) n ≡ Asks call = asks_so item mode call o v n h in
+      let states : state_of m.variables m.mode ≡ answered call a (variables_of (state_of v mode)) = states_of g ∙ ap (answered call a) (sym (state_variables v mode)) in
+      record {
+        by = λ tr end k.
+            subst (λ ps. Makes s ps (state_of v mode) n ((call, a) ∷ tr) end) (sym lasts)
+            (entry call a asks (subst (λ st. Makes s (follows call a ++ under) st (suc n) tr end) states (subst (λ ps. Makes s ps (state_of m.variables m.mode) (suc n) tr end) news k)));
+      }
 
-  pub pass_end_goes_on : (items below new : List Item) (t : Test) (began : ℕ) (v : Variables) (n : ℕ) → items ≡ below ++ PassEndItem began ∷ [] → new ≡ below ++ Once ∷ [] → loop_test (standing s below).around ≡ Some t → n ≢ began → Leads s (standing s items).left (Going v) (standing s new).left (Going v) n
-  pass_end_goes_on items below new t began v n e f h b =
-      let o = (standing s below).around in
-      stepped items below new (PassEndItem began) (Once ∷ []) (Going v) (Going v) n e f (turn_adds o t began v n h ∙ ap (λ x. if x then Becomes (above s o (Once ∷ QuietItem ∷ MakingItem Yield ∷ [])) (Going v) else Becomes (above s o (Once ∷ [])) (Going v)) (ne_eqb n began b))
-
-  -- what waits for an answer passes without one
-  pub settle_passes : (items below new : List Item) (call : Call) (v : Variables) (n : ℕ) → items ≡ below ++ SettleItem call ∷ [] → new ≡ below → Leads s (standing s items).left (Going v) (standing s new).left (Going v) n
-  settle_passes items below new call v n e f = stepped items below new (SettleItem call) [] (Going v) (Going v) n e (none_more new below f) refl
-
-  pub quiet_passes : (items below new : List Item) (v : Variables) (n : ℕ) → items ≡ below ++ QuietItem ∷ [] → new ≡ below → Leads s (standing s items).left (Going v) (standing s new).left (Going v) n
-  quiet_passes items below new v n e f = stepped items below new QuietItem [] (Going v) (Going v) n e (none_more new below f) refl
-
-  -- an item that gets an answer
-  pub given_moves : (items below new : List Item) (item : Item) (v v' : Variables) (a : Answer) (mode : Mode) (n : ℕ) → items ≡ below ++ item ∷ [] → new ≡ below → Becomes [] (state_of v' mode) ≡ takes (piece s (standing s below).around item) v a → Leads s (standing s items).left (Given v a) (standing s new).left (state_of v' mode) n
-  given_moves items below new item v v' a mode n e f h = stepped items below new item [] (Given v a) (state_of v' mode) n e (none_more new below f) (sym h)
+  -- the last item makes the call
+  pub last_asks : (items : List Item) (v : Variables) (mode : Mode) (n : ℕ) (call : Call) → Asking items mode call → (p : Piece) × (left : List Piece) × ((standing s items).left ≡ p ∷ left) × (step s p (state_of v mode) n ≡ Asks call)
+  last_asks items v mode n call h =
+      let o = (standing s h.0).around in
+      (piece s o h.1, (standing s h.0).left, last_first items h.0 h.1 h.2, asks_so h.1 mode call o v n h.3)

@@ -1,11 +1,11 @@
 //! The statements that items speak of.
 
 ghost use Rattle.std.specs.Prelude.{◌≡◌, option_map};
-ghost use Rattle.script_tree.specs.Tree.{body_of};
-ghost use Rattle.script_proc.specs.Items.{block_of, opened as opened_of, loop_test, standing};
+ghost use Rattle.script_tree.specs.Tree.{body_of, procedure_of};
+ghost use Rattle.script_proc.specs.Items.{block_of, opened as opened_of, standing};
 
 use crate::item::{Item, Way};
-use script_tree::{Script, Statement, Test};
+use script_tree::{Script, Statement};
 
 fn body<'s>(script: &'s Script, thread: u8) -> &'s [Statement]
     ensures { result.now ≡ body_of script.now thread }
@@ -16,12 +16,22 @@ fn body<'s>(script: &'s Script, thread: u8) -> &'s [Statement]
     }
 }
 
+fn procedure<'s>(script: &'s Script, procedure: u32) -> &'s [Statement]
+    ensures { result.now ≡ procedure_of script.now procedure }
+{
+    match script.procedures().get(procedure as usize) {
+        Some(procedure) => procedure.body().statements(),
+        None => &[],
+    }
+}
+
 /// The statements of a block, where that statement is around it.
 pub fn block<'s>(script: &'s Script, way: Way, around: Option<&'s Statement>) -> &'s [Statement]
     ensures { result.now ≡ block_of script.now way (option_map (λ l. l.now) around.entry) }
 {
     match way {
         Way::Thread(thread) => body(script, thread),
+        Way::Procedure(number) => procedure(script, number),
         Way::First => match around {
             Some(Statement::If(_, lines)) => lines.as_slice(),
             Some(Statement::IfElse(_, lines, _)) => lines.as_slice(),
@@ -31,7 +41,7 @@ pub fn block<'s>(script: &'s Script, way: Way, around: Option<&'s Statement>) ->
             Some(Statement::IfElse(_, _, lines)) => lines.as_slice(),
             _ => &[],
         },
-        Way::Loop => match around {
+        Way::Pass => match around {
             Some(Statement::While(_, lines)) => lines.as_slice(),
             _ => &[],
         },
@@ -61,14 +71,4 @@ pub fn around<'s>(script: &'s Script, below: &[Item]) -> Option<&'s Statement>
         found = opened(script, item, found);
     }
     found
-}
-
-/// The test of a `while`.
-pub fn test_of<'s>(around: Option<&'s Statement>) -> Option<&'s Test>
-    ensures { option_map (λ t. t.now) result ≡ loop_test (option_map (λ l. l.now) around.entry) }
-{
-    match around {
-        Some(Statement::While(test, _)) => Some(test),
-        _ => None,
-    }
 }

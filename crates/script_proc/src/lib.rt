@@ -2,10 +2,15 @@
 #![tactic(auto)]
 
 mod block;
+mod here;
 mod item;
 mod moves;
+mod replies;
+mod top;
+mod turn;
 mod worker;
 
+pub use turn::Turn;
 pub use worker::Worker;
 
 #[cfg(test)]

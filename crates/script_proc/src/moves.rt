@@ -1,44 +1,94 @@
-//! What the last item does.
+//! What items do that make no call.
 
-ghost use Rattle.std.specs.Prelude.{◌≡◌, ℕ, [], ◌++◌, Option, OnOk, OnErr};
+ghost use Rattle.std.specs.Prelude.{◌≡◌, ℕ, [], ◌∷◌, ◌++◌, Option, Some, option_map};
 ghost use Rattle.script_tree.specs.Tree.{Tree};
 ghost use Rattle.script_tree.specs.declared.statement.Statement.{Statement};
-ghost use Rattle.script_tree.specs.declared.variables.Variables.{Variables as VariablesOf};
-ghost use Rattle.script_tree.specs.Pieces.{Going, Becomes};
-ghost use Rattle.script_tree.specs.Steps.{takes};
-ghost use Rattle.script_proc.specs.Items.{added, changed, piece, state_of, EndsWith, IsSilent, LeadsTo};
+ghost use Rattle.script_tree.specs.Pieces.{Default, Going, Becomes};
+ghost use Rattle.script_tree.specs.Steps.{statement as statement_of, begins, returns_to, takes, goes_on, sleeps as sleeps_of, default_pieces, default_result as default_of, is_callback as is_callback_of};
+ghost use Rattle.script_proc.specs.Items.{piece, above, once_of, pass_end_of, few_items, step_of, IsAtMostFour, IsLater, IsLonger, IsSilent};
 
-use crate::block::{around, block, test_of};
-use crate::item::{Item, Mode, Way};
-use script_tree::{Script, Statement, Variables};
-use std::alloc::AllocError;
+use crate::item::{Few, Item, Mode, Move, Way};
+use script_tree::messages::{WM_CLOSE, WM_NCCREATE};
+use script_tree::{Compound, Next, Parameters, Run, Statement, Variables};
 use user_model::{Answer, Call};
+use win_num::Frame;
 
-/// A statement changes the variables, or adds what it has left to do, after so many entries of its
-/// thread.
-fn statement(
-    line: &Statement,
-    items: &mut Vec<Item>,
-    variables: &mut Variables,
-    used: u32,
-) -> Result<(), AllocError>
-    ensures items { OnOk result (items.new.items ≡ items.old.items ++ added line.now variables.old used) }
-    ensures variables { OnOk result (variables.new ≡ changed line.now variables.old) }
-    ensures err_items { OnErr result (items.new.items ≡ items.old.items) }
-    ensures err_variables { OnErr result (variables.new ≡ variables.old) }
+/// Becomes these items, with nothing to hand on.
+pub fn goes(items: Few, variables: Variables) -> Move
+    ensures { result ≡ record { items = items; variables = variables; mode = Mode.Going } }
+{
+    Move {
+        items,
+        variables,
+        mode: Mode::Going,
+    }
+}
+
+/// Hands this on.
+pub fn hands(variables: Variables, mode: Mode) -> Move
+    ensures { result ≡ record { items = Few.Nothing; variables = variables; mode = mode } }
+{
+    Move {
+        items: Few::Nothing,
+        variables,
+        mode,
+    }
+}
+
+/// What the default procedure gives where it makes no call.
+fn default_result(parameters: &Parameters) -> u64
+    ensures { result ≡ default_of parameters.now }
+{
+    if parameters.number == u64::from(WM_NCCREATE) {
+        1
+    } else {
+        0
+    }
+}
+
+/// The default procedure, over one item (Microsoft, DefWindowProc function).
+fn default_over(below: Item, parameters: &Parameters) -> Few
+    ensures small { IsAtMostFour result }
+    ensures pieces { (s : Tree) (around : Option Statement) → above s around (few_items result) ≡ default_pieces parameters.now ++ Default (default_of parameters.now) ∷ piece s around below ∷ [] }
+{
+    let result = Item::Default(default_result(parameters));
+    if parameters.number == u64::from(WM_CLOSE) {
+        let window = parameters.hwnd;
+        let feed = Item::Feed(Compound::Dooming(window, true));
+        Few::Four(below, result, feed, Item::Making(Call::Doom(window)))
+    } else {
+        Few::Two(below, result)
+    }
+}
+
+/// A call of a statement.
+fn makes(call: Call) -> Few
+    ensures small { IsAtMostFour result }
+    ensures items { few_items result ≡ Item.Settle call ∷ Item.Making call ∷ [] }
+{
+    Few::Two(Item::Settle(call), Item::Making(call))
+}
+
+/// A compound's first call.
+fn begins_with(call: Call, place: Compound) -> Few
+    ensures small { IsAtMostFour result }
+    ensures items { few_items result ≡ Item.Settle call ∷ Item.Feed place ∷ Item.Making call ∷ [] }
+{
+    Few::Three(Item::Settle(call), Item::Feed(place), Item::Making(call))
+}
+
+/// What a statement becomes that neither sets variables nor returns, above the block that it stands in.
+fn becomes(line: &Statement, variables: &Variables, used: u32) -> Few
+    requires { IsLonger line.now }
+    ensures small { IsAtMostFour result }
+    ensures step { (s : Tree) → Becomes (above s (Some line.now) (few_items result)) (Going variables.now) ≡ statement_of line.now variables.now used }
 {
     match line {
-        Statement::Let(letter, operand) => {
-            let value = operand.value(variables);
-            variables.assign(*letter, value);
-        }
-        Statement::Compute(letter, left, operator, right) => {
-            let value = operator.compute(left.value(variables), right.value(variables));
-            variables.assign(*letter, value);
-        }
         Statement::If(test, _) => {
             if test.holds(variables) {
-                items.push(Item::Block(Way::First, 0))?;
+                Few::Single(Item::Block(Way::First, 0))
+            } else {
+                Few::Nothing
             }
         }
         Statement::IfElse(test, _, _) => {
@@ -47,137 +97,201 @@ fn statement(
             } else {
                 Way::Second
             };
-            items.push(Item::Block(way, 0))?;
+            Few::Single(Item::Block(way, 0))
         }
         Statement::While(test, _) => {
             if test.holds(variables) {
-                items.extend_from_slice(&[Item::PassEnd(used), Item::Block(Way::Loop, 0)])?;
-            }
-        }
-        Statement::Call(call) => {
-            let call = call.call(variables);
-            items.extend_from_slice(&[Item::Settle(call), Item::Making(call)])?;
-        }
-    }
-    Ok(())
-}
-
-/// The next statement of a block, or its end.
-fn in_block(
-    script: &Script,
-    way: Way,
-    at: usize,
-    items: &mut Vec<Item>,
-    variables: &mut Variables,
-    used: u32,
-) -> Result<(), AllocError>
-    requires { EndsWith items.old.items (Item.Block way at) }
-    ensures ok { OnOk result
-        (LeadsTo script.now used items.old.items (Going variables.old) items.new.items (Going variables.new)) }
-    ensures err_items { OnErr result (items.new.items ≡ items.old.items) }
-    ensures err_variables { OnErr result (variables.new ≡ variables.old) }
-{
-    let last = items.len() - 1;
-    let around = around(script, &items[..last]);
-    match block(script, way, around).get(at) {
-        None => {
-            items.pop();
-        }
-        Some(line) => {
-            statement(line, items, variables, used)?;
-            items[last] = Item::Block(way, at + 1);
-        }
-    }
-    Ok(())
-}
-
-/// The test of a `while` again.
-fn once(
-    script: &Script,
-    items: &mut Vec<Item>,
-    variables: &Variables,
-    used: u32,
-) -> Result<(), AllocError>
-    requires { EndsWith items.old.items Item.Once }
-    ensures ok { OnOk result
-        (LeadsTo script.now used items.old.items (Going variables.now) items.new.items (Going variables.now)) }
-    ensures err_items { OnErr result (items.new.items ≡ items.old.items) }
-{
-    let last = items.len() - 1;
-    match test_of(around(script, &items[..last])) {
-        None => {
-            items.pop();
-        }
-        Some(test) => {
-            if test.holds(variables) {
-                items.push(Item::Block(Way::Loop, 0))?;
-                items[last] = Item::PassEnd(used);
+                Few::Two(Item::PassEnd(used), Item::Block(Way::Pass, 0))
             } else {
-                items.pop();
+                Few::Nothing
             }
         }
+        Statement::Call(call) => makes(call.call(variables)),
+        Statement::Sleep(ms) => Few::Two(
+            Item::Sleeping(ms.value(variables)),
+            Item::Making(Call::Clock),
+        ),
+        Statement::Create(creation) => begins_with(creation.call(variables), Compound::Making),
+        Statement::Destroy(window) => {
+            let window = window.value(variables);
+            begins_with(Call::Doom(window), Compound::Dooming(window, true))
+        }
+        Statement::Default => default_over(Item::Take, &variables.parameters),
+        _ => unreachable!(),
     }
-    Ok(())
+}
+
+/// What a statement does, above the block that it stands in, after so many entries of its thread.
+pub fn statement(line: &Statement, variables: Variables, used: u32) -> Move
+    ensures small { IsAtMostFour result.items }
+    ensures step { (s : Tree) → step_of s (Some line.now) result ≡ statement_of line.now variables used }
+{
+    match line {
+        Statement::Let(letter, operand) => {
+            let mut next = variables;
+            next.assign(*letter, operand.value(&variables));
+            goes(Few::Nothing, next)
+        }
+        Statement::Compute(letter, left, operator, right) => {
+            let value = operator.compute(left.value(&variables), right.value(&variables));
+            let mut next = variables;
+            next.assign(*letter, value);
+            goes(Few::Nothing, next)
+        }
+        Statement::Return(operand) => {
+            hands(variables, Mode::Returning(operand.value(&variables)))
+        }
+        _ => goes(becomes(line, &variables, used), variables),
+    }
+}
+
+/// The statement before the place once more.
+pub fn once(around: Option<&Statement>, variables: Variables, used: u32) -> Move
+    ensures { (s : Tree) → let o = option_map (λ l. l.now) around.entry in step_of s o result ≡ begins s (once_of o) variables used }
+{
+    match around {
+        Some(line) => statement(line, variables, used),
+        None => goes(Few::Nothing, variables),
+    }
 }
 
 /// The end of a pass: without an entry in it comes a `yield`, and then the test again.
-fn pass_end(script: &Script, began: u32, items: &mut Vec<Item>, used: u32) -> Result<(), AllocError>
-    requires { EndsWith items.old.items (Item.PassEnd began) }
-    ensures ok { OnOk result ((v : VariablesOf) → LeadsTo script.now used items.old.items (Going v) items.new.items (Going v)) }
-    ensures err_items { OnErr result (items.new.items ≡ items.old.items) }
+pub fn pass_end(began: u32, around: Option<&Statement>, variables: Variables, used: u32) -> Move
+    ensures { (s : Tree) → let o = option_map (λ l. l.now) around.entry in step_of s o result ≡ begins s (pass_end_of o began) variables used }
 {
-    let last = items.len() - 1;
-    match test_of(around(script, &items[..last])) {
-        None => {
-            items.pop();
-        }
+    let items = match around {
+        None => Few::Nothing,
         Some(_) => {
             if used == began {
-                items.extend_from_slice(&[Item::Quiet, Item::Making(Call::Yield)])?;
+                Few::Three(Item::Once, Item::Quiet, Item::Making(Call::Yield))
+            } else {
+                Few::Single(Item::Once)
             }
-            items[last] = Item::Once;
         }
-    }
-    Ok(())
+    };
+    goes(items, variables)
 }
 
-/// The step of the last item, which makes no call.
-pub fn going(
-    script: &Script,
-    item: Item,
-    items: &mut Vec<Item>,
-    variables: &mut Variables,
-    used: u32,
-) -> Result<(), AllocError>
-    requires last { EndsWith items.old.items item }
-    requires silent { IsSilent item }
-    ensures ok { OnOk result
-        (LeadsTo script.now used items.old.items (Going variables.old) items.new.items (Going variables.new)) }
-    ensures err_items { OnErr result (items.new.items ≡ items.old.items) }
-    ensures err_variables { OnErr result (variables.new ≡ variables.old) }
+fn is_callback(frame: Frame) -> bool
+    ensures { result ≡ is_callback_of frame }
+{
+    match frame {
+        Frame::CallbackRun => true,
+        _ => false,
+    }
+}
+
+/// The `leave` of a procedure with its result.
+fn leaves(run: Run, value: u64) -> Few
+    ensures { few_items result ≡ Item.Left value ∷ Item.Leaves run.frame value ∷ [] }
+{
+    Few::Two(Item::Left(value), Item::Leaves(run.frame, value))
+}
+
+/// The step of an item that gets nothing.
+pub fn going(item: Item, variables: Variables) -> Move
+    requires later { IsLater item }
+    requires silent { IsSilent item Mode.Going }
+    ensures { (s : Tree) (around : Option Statement) (n : ℕ) → step_of s around result ≡ begins s (piece s around item) variables n }
 {
     match item {
-        Item::Block(way, at) => in_block(script, way, at, items, variables, used),
-        Item::Once => once(script, items, variables, used),
-        Item::PassEnd(began) => pass_end(script, began, items, used),
-        Item::Settle(_) | Item::Quiet => {
-            items.pop();
-            Ok(())
+        Item::Running(run) => {
+            let restore = Item::Restore(variables.parameters);
+            let body = Item::Block(Way::Procedure(run.procedure), 0);
+            let inner = Variables {
+                parameters: run.parameters,
+                ..variables
+            };
+            goes(Few::Three(restore, Item::Leaving(run), body), inner)
         }
-        Item::Making(_) => unreachable!(),
+        Item::Leaving(run) => {
+            if is_callback(run.frame) {
+                return goes(leaves(run, 0), variables);
+            }
+            goes(default_over(item, &run.parameters), variables)
+        }
+        Item::Restore(parameters) => {
+            let outer = Variables {
+                parameters,
+                ..variables
+            };
+            goes(Few::Nothing, outer)
+        }
+        Item::Default(value) => hands(variables, Mode::Returning(value)),
+        _ => goes(Few::Nothing, variables),
     }
 }
 
-/// What an item does that gets an answer, and what the next item gets.
-pub fn given(item: &Item, answer: Answer, variables: &mut Variables) -> Mode
-    ensures { (s : Tree) (around : Option Statement) → Becomes [] (state_of variables.new result) ≡ takes (piece s around item.now) variables.old answer }
+/// The step of an item that gets the value of a `return` or the result of a procedure.
+pub fn returning(item: Item, variables: Variables, value: u64) -> Move
+    requires { IsSilent item (Mode.Returning value) }
+    ensures { (s : Tree) (around : Option Statement) → step_of s around result ≡ returns_to (piece s around item) variables value }
+{
+    match item {
+        Item::Again(call) => goes(Few::Single(Item::Making(call)), variables),
+        Item::Giving(answer) => hands(variables, Mode::Given(answer, value)),
+        Item::Leaving(run) => goes(leaves(run, value), variables),
+        Item::Restore(parameters) => {
+            let outer = Variables {
+                parameters,
+                ..variables
+            };
+            hands(outer, Mode::Returning(value))
+        }
+        Item::Take => {
+            let next = Variables {
+                last_result: value,
+                last_error: 0,
+                ..variables
+            };
+            goes(Few::Nothing, next)
+        }
+        _ => hands(variables, Mode::Returning(value)),
+    }
+}
+
+/// What a `sleep` does whose `clock` was answered so.
+fn sleeps(ms: u64, variables: Variables, answer: &Answer, value: u64) -> Move
+    ensures { (s : Tree) (around : Option Statement) → step_of s around result ≡ sleeps_of ms variables answer.now value }
+{
+    match answer {
+        Answer::Refused(_) => goes(Few::Nothing, variables),
+        _ => goes(makes(Call::SleepUntil(value.saturating_add(ms))), variables),
+    }
+}
+
+/// What a compound does next.
+fn compound(next: Next, variables: Variables) -> Move
+    ensures { (s : Tree) (around : Option Statement) → step_of s around result ≡ goes_on variables next }
+{
+    match next {
+        Next::Calls(call, place) => goes(
+            Few::Two(Item::Feed(place), Item::Making(call)),
+            variables,
+        ),
+        Next::Ends(answer) => hands(variables, Mode::Given(answer, 0)),
+    }
+}
+
+/// The step of an item that gets the answer to a call and its result.
+pub fn given(item: Item, variables: Variables, answer: Answer, value: u64) -> Move
+    ensures { (s : Tree) (around : Option Statement) → step_of s around result ≡ takes (piece s around item) variables answer value }
 {
     match item {
         Item::Settle(call) => {
-            variables.settle(call, &answer);
-            Mode::Going
+            let mut next = variables;
+            next.settle(&call, &answer, value);
+            goes(Few::Nothing, next)
         }
-        Item::Quiet => Mode::Going,
-        _ => Mode::Given(answer),
+        Item::Quiet => goes(Few::Nothing, variables),
+        Item::Sleeping(ms) => {
+            let mut next = variables;
+            next.settle(&Call::Clock, &answer, value);
+            sleeps(ms, next, &answer, value)
+        }
+        Item::Feed(place) => compound(place.after(&answer, value), variables),
+        Item::Left(result) => hands(variables, Mode::Returning(result)),
+        Item::Default(result) => hands(variables, Mode::Returning(result)),
+        _ => hands(variables, Mode::Given(answer, value)),
     }
 }

@@ -1,12 +1,13 @@
 use crate::worker::Worker;
 use script_tree::{
-    Body, CallStatement, Comparison, Letter, Operand, Operator, Script, Statement, Test, Variable,
+    Body, CallStatement, Comparison, Creation, Letter, Name, Operand, Operator, Procedure, Script,
+    Statement, Test, Variable,
 };
 use std::alloc::{AllocError, Global};
 use std::process::Abort;
 use std::test::Fail;
 use user_model::{Answer, Call, Origin};
-use win_num::{Code, Hwnd, Msg, Point, names};
+use win_num::{Cause, Code, Hwnd, Msg, Point, SendId, names};
 
 fn number(number: u64) -> Operand {
     Operand::Number(number)
@@ -80,12 +81,114 @@ fn branches(alloc: Global) -> Result<Body, AllocError> {
     Ok(Body::new(statements))
 }
 
+/// `send W M P 0`
+fn send(window: Operand, message: u32, wparam: u64) -> Statement {
+    let message = Operand::Message(message);
+    Statement::Call(CallStatement::Send(window, message, number(wparam), number(0)))
+}
+
+fn quits(variable: Variable) -> Statement {
+    Statement::Call(CallStatement::PostQuit(Operand::Variable(variable)))
+}
+
+fn named(alloc: Global, body: Vec<Statement>) -> Result<Procedure, AllocError> {
+    Ok(Procedure::new(Name::new(Vec::new(alloc)), Body::new(body)))
+}
+
+/// Hands WM_USER to its own window as 1025 and returns what that gives, which is 9.
+fn hands_on(alloc: Global) -> Result<Procedure, AllocError> {
+    let mut user = Vec::new(alloc);
+    user.push(send(Operand::Variable(Variable::Window), 1025, 0))?;
+    user.push(Statement::Return(Operand::Variable(Variable::Result)))?;
+    let mut next = Vec::new(alloc);
+    next.push(Statement::Return(number(9)))?;
+    let message = Operand::Variable(Variable::Message);
+    let mut body = Vec::new(alloc);
+    body.push(Statement::If(is(message, Comparison::Equal, 1024), user))?;
+    body.push(Statement::If(is(message, Comparison::Equal, 1025), next))?;
+    named(alloc, body)
+}
+
+/// Registers a class, makes a window, tells thread 1 its number, and serves one send.
+fn serves(alloc: Global) -> Result<Body, AllocError> {
+    let creation = Creation {
+        class: 0,
+        title: 1,
+        parent: number(0),
+        style: number(0),
+        extended_style: number(0),
+        left: Operand::Minus(1),
+        top: number(0),
+        right: number(2),
+        bottom: number(3),
+    };
+    let window = Operand::Variable(Variable::Result);
+    let message = Operand::Message(1024);
+    let mut body = Vec::new(alloc);
+    body.push(Statement::Call(CallStatement::Register(0, 0, number(0))))?;
+    body.push(Statement::Create(creation))?;
+    body.push(Statement::Call(CallStatement::PostThread(number(1), message, window, number(0))))?;
+    body.push(get())?;
+    Ok(Body::new(body))
+}
+
+/// Gets a window's number, and sends to it.
+fn asks(alloc: Global) -> Result<Body, AllocError> {
+    let mut body = Vec::new(alloc);
+    body.push(get())?;
+    body.push(send(Operand::Variable(Variable::GotWparam), 1024, 5))?;
+    body.push(quits(Variable::Result))?;
+    Ok(Body::new(body))
+}
+
+/// Sleeps, and sends with a time and with a callback.
+fn waits_for_others(alloc: Global) -> Result<Body, AllocError> {
+    let window = number(16);
+    let zero = number(0);
+    let timeout = CallStatement::SendTimeout(window, number(1024), zero, zero, zero, number(50));
+    let callback = CallStatement::SendCallback(window, number(1024), zero, zero, 0, number(7));
+    let mut body = Vec::new(alloc);
+    body.push(Statement::Sleep(number(5)))?;
+    body.push(Statement::Call(timeout))?;
+    body.push(quits(Variable::Error))?;
+    body.push(Statement::Call(callback))?;
+    body.push(quits(Variable::Result))?;
+    Ok(Body::new(body))
+}
+
+/// Dispatches nothing, destroys a window, and returns.
+fn destroys(alloc: Global) -> Result<Body, AllocError> {
+    let mut body = Vec::new(alloc);
+    body.push(Statement::Call(CallStatement::Dispatch))?;
+    body.push(quits(Variable::Result))?;
+    body.push(Statement::Destroy(number(18)))?;
+    body.push(quits(Variable::Result))?;
+    body.push(Statement::Return(number(3)))?;
+    body.push(get())?;
+    Ok(Body::new(body))
+}
+
 fn script(alloc: Global) -> Result<Script, AllocError> {
+    let mut procedures = Vec::new(alloc);
+    procedures.push(hands_on(alloc)?)?;
+    procedures.push(named(alloc, Vec::new(alloc))?)?;
     let mut threads = Vec::new(alloc);
     threads.push(posts(alloc)?)?;
     threads.push(adds(alloc)?)?;
     threads.push(branches(alloc)?)?;
-    Ok(Script::new(8, 4, 100, Vec::new(alloc), Vec::new(alloc), threads))
+    threads.push(serves(alloc)?)?;
+    threads.push(asks(alloc)?)?;
+    threads.push(waits_for_others(alloc)?)?;
+    threads.push(destroys(alloc)?)?;
+    Ok(Script::new(
+        8,
+        4,
+        100,
+        Vec::new(alloc),
+        Vec::new(alloc),
+        procedures,
+        threads,
+    ))
 }
 
 fn got(number: u32, wparam: u64) -> Answer {
@@ -102,6 +205,25 @@ fn got(number: u32, wparam: u64) -> Answer {
         number: 1,
         msg,
     }
+}
+
+fn enter(send: u32, proc_no: u32, number: u32, wparam: u64) -> Answer {
+    Answer::Enter {
+        send: SendId(send),
+        proc_no,
+        hwnd: Hwnd(16),
+        number,
+        wparam,
+        lparam: 0,
+    }
+}
+
+fn inside(send: u32, proc_no: u32) -> Answer {
+    Answer::Inside(SendId(send), proc_no)
+}
+
+fn left(send: u32) -> Answer {
+    Answer::Left(SendId(send))
 }
 
 /// The thread's program makes exactly these calls where they are answered so, and then has ended.
@@ -175,5 +297,125 @@ fn yields_after_a_pass_without_a_call(rt: HostRuntime) -> Result<(), Fail> {
     makes(&rt, &mut worker, &script, &wanted)?;
     assert!(rt; worker.next_call(&script)? == None);
     assert_eq!(rt; worker.used(), 5);
+    Ok(())
+}
+
+#[test]
+fn makes_a_window_and_serves(rt: HostRuntime) -> Result<(), Fail> {
+    let script = script(rt.alloc())?;
+    let mut worker = Worker::new(rt.alloc(), &script, 4)?;
+    let wanted = [
+        (Call::Register(0, 0, 0), Answer::Value(1)),
+        (
+            Call::NewWindow(0, 1, 0, 0, 0, -1, 0, 2, 3),
+            Answer::Window(Hwnd(16)),
+        ),
+        (Call::Send(16, 129, 0, 0), inside(1, 0)),
+        (Call::Leave(1), left(1)),
+        (Call::Send(16, 1, 0, 0), inside(2, 0)),
+        (Call::Leave(0), left(2)),
+        (Call::PostThread(1, 1024, 16, 0), Answer::Posted(1)),
+        (Call::Get(0, 0, 0), Answer::Wait),
+        (Call::Get(0, 0, 0), enter(3, 0, 1024, 5)),
+        (Call::Send(16, 1025, 0, 0), inside(4, 0)),
+        (Call::Leave(9), left(4)),
+        (Call::Leave(9), left(3)),
+        (Call::Get(0, 0, 0), Answer::Wait),
+        (Call::Get(0, 0, 0), got(18, 0)),
+        (Call::EndThread, Answer::Ended),
+    ];
+    makes(&rt, &mut worker, &script, &wanted)?;
+    assert!(rt; worker.next_call(&script)? == None);
+    assert_eq!(rt; worker.used(), 15);
+    Ok(())
+}
+
+#[test]
+fn sends_and_serves_meanwhile(rt: HostRuntime) -> Result<(), Fail> {
+    let script = script(rt.alloc())?;
+    let mut worker = Worker::new(rt.alloc(), &script, 5)?;
+    let done = Answer::Done {
+        result: 9,
+        cause: Cause::Proc,
+    };
+    let wanted = [
+        (Call::Get(0, 0, 0), got(1024, 16)),
+        (Call::Send(16, 1024, 5, 0), Answer::Begun(SendId(3))),
+        (Call::Await(3), Answer::Wait),
+        (Call::Await(3), enter(4, 1, 16, 0)),
+        (Call::Doom(16), Answer::Refused(Code::Win(1400))),
+        (Call::Leave(0), left(4)),
+        (Call::Await(3), Answer::Wait),
+        (Call::Await(3), done),
+        (Call::PostQuit(9), Answer::Okay),
+        (Call::EndThread, Answer::Ended),
+    ];
+    makes(&rt, &mut worker, &script, &wanted)?;
+    assert!(rt; worker.next_call(&script)? == None);
+    assert_eq!(rt; worker.used(), 10);
+    Ok(())
+}
+
+#[test]
+fn sleeps_times_out_and_is_called_back(rt: HostRuntime) -> Result<(), Fail> {
+    let script = script(rt.alloc())?;
+    let mut worker = Worker::new(rt.alloc(), &script, 6)?;
+    let timed_out = Answer::Done {
+        result: 0,
+        cause: Cause::Timeout,
+    };
+    let called_back = Answer::Callback {
+        send: SendId(2),
+        proc_no: 0,
+        hwnd: Hwnd(16),
+        number: 1024,
+        extra: 7,
+        result: 0,
+    };
+    let wanted = [
+        (Call::Clock, Answer::Value(100)),
+        (Call::SleepUntil(105), Answer::Wait),
+        (Call::SleepUntil(105), Answer::Okay),
+        (
+            Call::SendTimeout(16, 1024, 0, 0, 0, 50),
+            Answer::Begun(SendId(1)),
+        ),
+        (Call::Await(1), timed_out),
+        (Call::PostQuit(1460), Answer::Okay),
+        (Call::SendCallback(16, 1024, 0, 0, 0, 7), inside(2, 1)),
+        (Call::Leave(0), called_back),
+        (Call::Send(16, 1025, 0, 0), Answer::Refused(Code::Win(1400))),
+        (Call::Leave(0), left(0)),
+        (Call::PostQuit(1), Answer::Okay),
+        (Call::EndThread, Answer::Ended),
+    ];
+    makes(&rt, &mut worker, &script, &wanted)?;
+    assert!(rt; worker.next_call(&script)? == None);
+    assert_eq!(rt; worker.used(), 12);
+    Ok(())
+}
+
+#[test]
+fn destroys_and_returns(rt: HostRuntime) -> Result<(), Fail> {
+    let script = script(rt.alloc())?;
+    let mut worker = Worker::new(rt.alloc(), &script, 7)?;
+    let wanted = [
+        (Call::Dispatch(0, 0, 0, 0), Answer::Okay),
+        (Call::PostQuit(0), Answer::Okay),
+        (Call::Doom(18), Answer::Okay),
+        (Call::Unmake(18), Answer::Tell(Hwnd(18))),
+        (Call::Send(18, 2, 0, 0), inside(1, 1)),
+        (Call::Leave(0), left(1)),
+        (Call::Unmake(18), Answer::Last(Hwnd(18))),
+        (Call::Send(18, 130, 0, 0), inside(2, 1)),
+        (Call::Leave(0), left(2)),
+        (Call::Drop(18), Answer::Okay),
+        (Call::Unmake(18), Answer::Gone),
+        (Call::PostQuit(1), Answer::Okay),
+        (Call::EndThread, Answer::Ended),
+    ];
+    makes(&rt, &mut worker, &script, &wanted)?;
+    assert!(rt; worker.next_call(&script)? == None);
+    assert_eq!(rt; worker.used(), 13);
     Ok(())
 }

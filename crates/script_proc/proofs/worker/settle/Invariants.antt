@@ -7,4 +7,4 @@ invariant-steps l =
     Keeps l.script (standing l.script l.initial.items.items).left (state_of l.initial.variables l.initial.mode) (standing l.script l.items.items).left (state_of l.variables l.mode) l.used
 
 abbrev pub decreases-steps : goal.decreases-steps
-decreases-steps l = steps_left l.used (standing l.script l.items.items).left (state_of l.variables l.mode)
+decreases-steps l = steps_left l.script l.used (standing l.script l.items.items).left (state_of l.variables l.mode)

@@ -1,0 +1,88 @@
+use Rattle.std.proofs.Common.{◌≡◌, ◌<◌, OnErr, sym, subst, arith}
+use Rattle.user_model.specs.Tellers.{GoesOn}
+use Rattle.script_tree.specs.Pieces.{Cut, Whole}
+use Rattle.script_tree.specs.Traces.{IsTrace}
+use Rattle.script_proc.specs.Workers.{uses, end_of}
+use Rattle.script_proc.specs.Turns.{Asked, IsCut, Stays}
+use Rattle.script_proc.proofs.WorkerLaws.{if_ok}
+use Rattle.script_proc.proofs.TurnLaws.{goes_on_itself, not_both, if_any, on_err, asked_did, asks_somebody}
+use Rattle.script_proc.proofs.worker.Worker.turn.Goals as goal
+
+pub returns-in_default-clause-did : goal.returns-in_default-clause-did
+returns-in_default-clause-did g c =
+    let s = c.args.script.now in
+    let whole : IsCut s c.args.self.now Whole = λ t tr w. subst (λ o. IsTrace s t tr (end_of o)) c.in_default.is (c.in_ok-call.ensures.next t tr w) in
+    record { whole = whole; stays = record { worker = c.next_call.ensures.worker; used = c.next_call.ensures.used } }
+
+pub returns-in_default-clause-spent : goal.returns-in_default-clause-spent
+returns-in_default-clause-spent g c =
+    let s = c.args.script.now in
+    let whole : IsCut s c.args.self.now Whole = λ t tr w. subst (λ o. IsTrace s t tr (end_of o)) c.in_default.is (c.in_ok-call.ensures.next t tr w) in
+    λ t tr call w cut full. absurd (not_both s t tr call (whole t tr w) cut)
+
+pub returns-in_default-clause-goes_on : goal.returns-in_default-clause-goes_on
+returns-in_default-clause-goes_on g c = goes_on_itself _ _ _
+
+pub returns-in_default-clause-still : goal.returns-in_default-clause-still
+returns-in_default-clause-still g c = g.met.T.Teller.still_itself c.args.teller.now
+
+pub returns-then-spent-clause-did : goal.returns-then-spent-clause-did
+returns-then-spent-clause-did g c =
+    let s = c.args.script.now in
+    let next : IsCut s c.args.self.now (Cut c.in-Some.call) = λ t tr w. subst (λ o. IsTrace s t tr (end_of o)) c.in-Some.is (c.in_ok-call.ensures.next t tr w) in
+    record { call = c.in-Some.call; next = next; spent = omega (arith, c.if-spent.true, c.budget.ensures, c.used.ensures.used, c.next_call.ensures.used); stays = record { worker = c.next_call.ensures.worker; used = c.next_call.ensures.used } }
+
+pub returns-then-spent-clause-ended : goal.returns-then-spent-clause-ended
+returns-then-spent-clause-ended g c =
+    let s = c.args.script.now in
+    let next : IsCut s c.args.self.now (Cut c.in-Some.call) = λ t tr w. subst (λ o. IsTrace s t tr (end_of o)) c.in-Some.is (c.in_ok-call.ensures.next t tr w) in
+    λ t tr w whole. absurd (not_both s t tr c.in-Some.call whole (next t tr w))
+
+pub returns-then-spent-clause-goes_on : goal.returns-then-spent-clause-goes_on
+returns-then-spent-clause-goes_on g c = goes_on_itself _ _ _
+
+pub returns-then-spent-clause-still : goal.returns-then-spent-clause-still
+returns-then-spent-clause-still g c = g.met.T.Teller.still_itself c.args.teller.now
+
+pub returns-clause-did : goal.returns-clause-did
+returns-clause-did g c =
+    let s = c.args.script.now in
+    let next : IsCut s c.args.self.now (Cut c.in-Some.call) = λ t tr w. subst (λ o. IsTrace s t tr (end_of o)) c.in-Some.is (c.in_ok-call.ensures.next t tr w) in
+    let stays : Stays s c.args.self.now c.next_call.new.self = record { worker = c.next_call.ensures.worker; used = c.next_call.ensures.used } in
+    let left : uses c.args.self.now < s.budget = omega (arith, c.if-spent.false, c.budget.ensures, c.used.ensures.used, c.next_call.ensures.used) in
+    if_ok (Asked c.next_call.new.self c.ask.new.worker (g.T.Teller.view c.args.teller.now) (g.T.Teller.view c.ask.new.teller) c.in-Some.call) _ c.ask.result (asked_did s c.args.self.now c.next_call.new.self c.ask.new.worker (g.T.Teller.view c.args.teller.now) (g.T.Teller.view c.ask.new.teller) c.in-Some.call (record { next = next; left = left }) stays c.next_call.ensures.thread) c.ask.ensures.asked
+
+pub returns-clause-ended : goal.returns-clause-ended
+returns-clause-ended g c =
+    let s = c.args.script.now in
+    let next : IsCut s c.args.self.now (Cut c.in-Some.call) = λ t tr w. subst (λ o. IsTrace s t tr (end_of o)) c.in-Some.is (c.in_ok-call.ensures.next t tr w) in
+    if_any _ c.ask.result (λ turn t tr w whole. absurd (not_both s t tr c.in-Some.call whole (next t tr w)))
+
+pub returns-clause-spent : goal.returns-clause-spent
+returns-clause-spent g c =
+    let s = c.args.script.now in
+    let left : uses c.args.self.now < s.budget = omega (arith, c.if-spent.false, c.budget.ensures, c.used.ensures.used, c.next_call.ensures.used) in
+    if_any _ c.ask.result (λ turn t tr call w cut full. absurd (omega (arith, left, full)))
+
+pub returns-clause-untouched : goal.returns-clause-untouched
+returns-clause-untouched g c =
+    let s = c.args.script.now in
+    if_ok (Asked c.next_call.new.self c.ask.new.worker (g.T.Teller.view c.args.teller.now) (g.T.Teller.view c.ask.new.teller) c.in-Some.call) _ c.ask.result (λ turn h nobody. absurd (asks_somebody s c.args.self.now c.next_call.new.self c.ask.new.worker (g.T.Teller.view c.args.teller.now) (g.T.Teller.view c.ask.new.teller) c.in-Some.call turn h nobody)) c.ask.ensures.asked
+
+pub returns-clause-no_memory : goal.returns-clause-no_memory
+returns-clause-no_memory g c =
+    let s = c.args.script.now in
+    let stays : Stays s c.args.self.now c.next_call.new.self = record { worker = c.next_call.ensures.worker; used = c.next_call.ensures.used } in
+    on_err (c.ask.new.worker ≡ c.next_call.new.self) _ c.ask.result (λ e. subst (λ w. Stays s c.args.self.now w) (sym e) stays) c.ask.ensures.no_memory
+
+pub returns-clause-no_entry : goal.returns-clause-no_entry
+returns-clause-no_entry g c =
+    let before = g.T.Teller.view c.args.teller.now in
+    let after = g.T.Teller.view c.ask.new.teller in
+    subst (λ n. OnErr c.ask.result (after.mine n ≡ before.mine n)) c.next_call.ensures.thread c.ask.ensures.no_entry
+
+pub returns-clause-goes_on : goal.returns-clause-goes_on
+returns-clause-goes_on g c =
+    let before = g.T.Teller.view c.args.teller.now in
+    let after = g.T.Teller.view c.ask.new.teller in
+    subst (λ n. GoesOn before after (g.T.Teller.serves c.args.teller.now) n) c.next_call.ensures.thread c.ask.ensures.goes_on

@@ -1,0 +1,50 @@
+//! The last of a list of items.
+
+ghost use Rattle.std.specs.Prelude.{◌≡◌, ◌≢◌, ◌+◌, ◌≤◌, [], ◌∷◌, ◌++◌, List, vec_len, vec_capacity, IsOk, OnOk, OnErr};
+ghost use Rattle.script_proc.specs.declared.item.Item.{Item};
+ghost use Rattle.script_proc.specs.Items.{few_items};
+
+use crate::item::{Few, Item};
+use std::alloc::AllocError;
+
+/// Puts a few items in the place of the last.
+pub fn replace_last(items: &mut Vec<Item>, few: Few) -> Result<(), AllocError>
+    requires { items.old.items ≢ [] }
+    ensures succeeds { vec_len items.old + 4 ≤ vec_capacity items.old → IsOk result }
+    ensures ok { OnOk result ((below : List Item) (item : Item) → items.old.items ≡ below ++ item ∷ [] → items.new.items ≡ below ++ few_items few) }
+    ensures err { OnErr result (items.new.items ≡ items.old.items) }
+{
+    let last = items.len() - 1;
+    match few {
+        Few::Nothing => {
+            items.pop();
+        }
+        Few::Single(first) => items[last] = first,
+        Few::Two(first, a) => {
+            items.extend_from_slice(&[a])?;
+            items[last] = first;
+        }
+        Few::Three(first, a, b) => {
+            items.extend_from_slice(&[a, b])?;
+            items[last] = first;
+        }
+        Few::Four(first, a, b, c) => {
+            items.extend_from_slice(&[a, b, c])?;
+            items[last] = first;
+        }
+        Few::Five(first, a, b, c, d) => {
+            items.extend_from_slice(&[a, b, c, d])?;
+            items[last] = first;
+        }
+    }
+    Ok(())
+}
+
+/// The same where there is room.
+pub fn set_last(items: &mut Vec<Item>, few: Few)
+    requires room { vec_len items.old + 4 ≤ vec_capacity items.old }
+    requires some { items.old.items ≢ [] }
+    ensures { (below : List Item) (item : Item) → items.old.items ≡ below ++ item ∷ [] → items.new.items ≡ below ++ few_items few }
+{
+    let _ = replace_last(items, few);
+}
