@@ -1,0 +1,362 @@
+-- Where the table leads from the pieces that a stage stands for.
+use Rattle.std.proofs.Common.{◌≡◌, ℕ, Bool, true, false, List, [], ◌∷◌, ◌++◌, Option, Some, None, refl, sym, ap, ◌∙◌, subst, lit<}
+use Rattle.std.specs.Prelude.{if◌then◌else◌, ◌==◌, ℤ}
+use Rattle.win_num.specs.declared.message.Hwnd.{Hwnd}
+use Rattle.win_num.specs.declared.send.SendId.{SendId}
+use Rattle.win_num.specs.declared.send.Frame.TheVariants.{Entered, Inside as InsideFrame, Called as CalledFrame, CallbackRun}
+use Rattle.user_model.specs.Stacks.{waits, leaves}
+use Rattle.user_model.specs.declared.call.Call.{Call}
+use Rattle.user_model.specs.declared.call.Call.TheVariants.{Leave, Await, Doom}
+use Rattle.user_model.specs.declared.entry.Answer.{Answer}
+use Rattle.user_model.specs.declared.entry.Answer.TheVariants.{Wait, Window, Tell, Last, Enter, Callback, Inside, Called, Begun, Refused}
+use Rattle.script_tree.specs.declared.frame.Run.{Run}
+use Rattle.script_tree.specs.declared.frame.Compound.{Compound as Place}
+use Rattle.script_tree.specs.declared.frame.Compound.TheVariants.{Making as MakingWindow, Greeting, Telling, Dooming, Unmaking, Destroying, Parting, Dropping}
+use Rattle.script_tree.specs.declared.frame.Next.{Next as Lead}
+use Rattle.script_tree.specs.declared.frame.Next.TheVariants.{Calls, Ends}
+use Rattle.script_tree.specs.declared.variables.Parameters.{Parameters}
+use Rattle.script_tree.specs.declared.variables.Variables.{Variables}
+use Rattle.script_tree.specs.Compounds.{compound_after}
+use Rattle.script_tree.specs.Values.{settled, received, inside_of}
+use Rattle.script_tree.specs.Tree.{Tree}
+use Rattle.script_tree.specs.Pieces.{Piece, Making, Again, Giving, Settle, Running, Leaving, Leaves, Left, Restore, Feed, Default, Take, State, Going, Returning, Given, Becomes}
+use Rattle.script_tree.specs.Steps.{step, follows, following, answered, after_answer, given, result_of, is_last, goes_on, run_of, parameters_from, parameters_of}
+use Rattle.win_calls.specs.declared.compound.Compound.{Compound}
+use Rattle.win_calls.specs.declared.compound.Compound.TheVariants.{Create, Destroy, Default as DefaultOf}
+use Rattle.script_tree.specs.declared.messages.TheConstants.{WM_CLOSE, WM_NCCREATE}
+use Rattle.win_calls.specs.declared.compound.Got.{Got}
+use Rattle.win_calls.specs.declared.compound.Got.TheVariants.{Start, Answered, Returned}
+use Rattle.win_calls.specs.declared.compound.Next.{Next}
+use Rattle.win_calls.specs.declared.compound.Next.TheVariants.{Make, Run as RunOf, Done}
+use Rattle.win_calls.specs.declared.stage.Ending.TheVariants.{Settles, Gives}
+use Rattle.win_calls.specs.declared.stage.Turn.{Turn}
+use Rattle.win_calls.specs.declared.stage.Then.{Then}
+use Rattle.win_calls.specs.declared.stage.Then.TheVariants.{Again as AgainThen, Giving as GivingThen}
+use Rattle.win_calls.specs.declared.stage.Stage.{Stage}
+use Rattle.win_calls.specs.declared.stage.Stage.TheVariants.{Asked, Running as RunningStage, Leaving as LeavingStage, Over}
+use Rattle.win_calls.specs.declared.stage.Step.{Step}
+use Rattle.win_calls.specs.Table.{silent, calls, runs, over, IsNoRun, runs_first, asked_of, begun, begun_with, first_call}
+use Rattle.win_calls.specs.States.{Suits, IsTurn, IsSentTo, IsPlaceOf, EntersNot, Awaits, Accepts, IsRun, told, end_pieces, behind, then_piece, then_of, Hands, first, more, Below, is_first, is_later, is_asked, is_running, is_leaving, is_over, Leads}
+
+-- what a turn needs of the next call and its place
+abbrev pub LeadSuits : Hwnd → Lead → Type 0
+LeadSuits window (Calls call q) = Suits window call q
+LeadSuits window (Ends a) = Unit {0}
+
+either : (b : Bool) (window : Hwnd) (x y : Lead) → LeadSuits window x → LeadSuits window y → LeadSuits window (if b then x else y)
+either true window x y f g = f
+either false window x y f g = g
+
+pub plain : {window : Hwnd} {call : Call} {q : Place} → IsSentTo window call → IsPlaceOf window q → leaves call ≡ false → is_last call ≡ false → Suits window call q
+plain a b c d = record { sent = a; leads = b; stays = c; goes_on = d }
+
+-- where a place leads suits the window that is told next
+pub lead_suits : (q : Place) (a : Answer) (x : ℕ) (window : Hwnd) → IsPlaceOf window q → LeadSuits (told q a window) (compound_after q a x)
+lead_suits MakingWindow (Window w) x window h = plain (refl, lit< tt) refl refl refl
+lead_suits MakingWindow (Refused code) x window h = tt
+lead_suits MakingWindow a x window h = tt
+lead_suits (Greeting w) a x window h = either (x == 0) window _ _ (plain tt tt refl refl) (plain (h, lit< tt) tt refl refl)
+lead_suits (Telling w) (Refused code) x window h = plain tt tt refl refl
+lead_suits (Telling w) a x window h = either (x == 18446744073709551615) window _ _ (plain tt tt refl refl) tt
+lead_suits (Dooming w true) (Refused code) x window h = tt
+lead_suits (Dooming w false) (Refused code) x window h = tt
+lead_suits (Dooming w alone) a x window h = plain tt tt refl refl
+lead_suits (Unmaking w alone) (Tell v) x window h = plain (refl, lit< tt) tt refl refl
+lead_suits (Unmaking w alone) (Last v) x window h = plain (refl, lit< tt) tt refl refl
+lead_suits (Unmaking w true) (Refused code) x window h = tt
+lead_suits (Unmaking w false) (Refused code) x window h = tt
+lead_suits (Unmaking w true) a x window h = tt
+lead_suits (Unmaking w false) a x window h = tt
+lead_suits (Destroying w alone) a x window h = plain tt tt refl refl
+lead_suits (Parting w v alone) a x window h = plain tt tt refl refl
+lead_suits (Dropping w alone) a x window h = plain tt tt refl refl
+
+-- what is asked for at a stage is what it accepts
+pub asked_accepts : (turn : Turn) (g : Got) → Awaits (Make turn.call) g → Accepts (Asked turn) g
+asked_accepts turn Start h = absurd h
+asked_accepts turn (Answered a) h = h
+asked_accepts turn (Returned x) h = absurd h
+
+pub running_accepts : (turn : Turn) (after : Then) (x : Option ℕ) (next : Next) (g : Got) → IsRun next → Awaits next g → Accepts (RunningStage turn after x) g
+running_accepts turn after x (RunOf proc_no w number wparam lparam callback) Start r h = absurd h
+running_accepts turn after x (RunOf proc_no w number wparam lparam callback) (Answered a) r h = absurd h
+running_accepts turn after x (RunOf proc_no w number wparam lparam callback) (Returned y) r h = tt
+running_accepts turn after x next g r h = absurd r
+
+pub leaving_accepts : (turn : Turn) (after : Then) (x value : ℕ) (g : Got) → Awaits (Make (Leave value)) g → Accepts (LeavingStage turn after x value) g
+leaving_accepts turn after x value Start h = absurd h
+leaving_accepts turn after x value (Answered a) h = h
+leaving_accepts turn after x value (Returned y) h = absurd h
+
+pub over_accepts : (r err : ℕ) (g : Got) → Awaits (Done r err) g → Accepts Over g
+over_accepts r err Start h = absurd h
+over_accepts r err (Answered a) h = absurd h
+over_accepts r err (Returned x) h = absurd h
+
+-- r and err after a statement don't depend on the variables before it
+settled_same : (v w : Variables) (call : Call) (a : Answer) (x : ℕ) → Done (settled v call a x).last_result (settled v call a x).last_error ≡ Done (settled w call a x).last_result (settled w call a x).last_error
+settled_same v w call (Refused code) x = refl
+settled_same v w call a x = refl
+
+-- the answer of a call other than the last one is followed so
+follows_on : (call : Call) (a : Answer) → is_last call ≡ false → (a ≡ Wait → ⊥) → follows call a ≡ following call a
+follows_on call Wait e h = absurd (h refl)
+follows_on call a e h = ap (λ b. if b then [] else following call a) e
+
+answered_on : (call : Call) (a : Answer) (v : Variables) → is_last call ≡ false → (a ≡ Wait → ⊥) → answered call a v ≡ after_answer call a v
+answered_on call Wait v e h = absurd (h refl)
+answered_on call a v e h = ap (λ b. if b then given v a else after_answer call a v) e
+
+-- an answer behind which nothing follows a call
+abbrev pub IsPlain : Call → Answer → Type 0
+IsPlain call Wait = ⊥
+IsPlain call (Begun sn) = ⊥
+IsPlain call (Enter sn q w number wparam lparam) = ⊥
+IsPlain call (Callback sn q w number extra result) = ⊥
+IsPlain call (Inside sn q) = ⊥
+IsPlain call (Called q) = ⊥
+IsPlain call a = Unit {0}
+
+plain_waits_not : (call : Call) (a : Answer) → IsPlain call a → a ≡ Wait → ⊥
+plain_waits_not call a p e = let P : Answer → Type 0 = λ x. IsPlain call x in subst P e p
+
+plain_follows : (call : Call) (a : Answer) → IsPlain call a → following call a ≡ []
+plain_follows call Wait p = absurd p
+plain_follows call (Begun sn) p = absurd p
+plain_follows call (Enter sn q w number wparam lparam) p = absurd p
+plain_follows call (Callback sn q w number extra result) p = absurd p
+plain_follows call (Inside sn q) p = absurd p
+plain_follows call (Called q) p = absurd p
+plain_follows call a p = refl
+
+plain_answers : (call : Call) (a : Answer) (v : Variables) → IsPlain call a → after_answer call a v ≡ given v a
+plain_answers call Wait v p = absurd p
+plain_answers call (Begun sn) v p = absurd p
+plain_answers call (Enter sn q w number wparam lparam) v p = absurd p
+plain_answers call (Callback sn q w number extra result) v p = absurd p
+plain_answers call (Inside sn q) v p = absurd p
+plain_answers call (Called q) v p = absurd p
+plain_answers call a v p = refl
+
+-- an answer behind which no procedure runs is plain, or one of two others
+pub is_plain : (call : Call) (a : Answer) → (a ≡ Wait → ⊥) → ((sn : SendId) → a ≡ Begun sn → ⊥) → None ≡ runs_first (following call a) → IsPlain call a
+is_plain call Wait h k e = absurd (h refl)
+is_plain call (Begun sn) h k e = absurd (k sn refl)
+is_plain call (Enter sn q w number wparam lparam) h k e = absurd cc
+is_plain call (Callback sn q w number extra result) h k e = absurd cc
+is_plain call (Inside sn q) h k e = absurd cc
+is_plain call (Called q) h k e = absurd cc
+is_plain call a h k e = tt
+
+-- an await is no procedure
+begun_runs_none : (b : Bool) (next : Next) (sn : SendId) → Some next ≡ runs_first (if b then Making (Await sn.0) ∷ [] else []) → ⊥
+begun_runs_none true next sn e = absurd cc
+begun_runs_none false next sn e = absurd cc
+
+-- the pieces of a compound begin with its first call
+pub begins_create : {class title parent style extended : ℕ} {left top right bottom : ℤ} (c : Compound) (call : Call) → c ≡ Create class title parent style extended left top right bottom → call ≡ first_call c → begun c ≡ Making call ∷ Feed MakingWindow ∷ Settle call ∷ []
+begins_create c call e f = ap begun e ∙ ap (λ x. begun_with x (Feed MakingWindow)) (sym (f ∙ ap first_call e))
+
+pub begins_destroy : {w : ℕ} (c : Compound) (call : Call) → c ≡ Destroy w → call ≡ first_call c → begun c ≡ Making call ∷ Feed (Dooming w true) ∷ Settle call ∷ []
+begins_destroy {w} c call e f = ap begun e ∙ ap (λ x. begun_with x (Feed (Dooming w true))) (sym (f ∙ ap first_call e))
+
+closing : {w : ℕ} (b : Bool) (call : Call) (x y : ℕ) → b ≡ true → call ≡ Doom w → x ≡ y → (if b then Making (Doom w) ∷ Feed (Dooming w true) ∷ [] else []) ++ Default y ∷ Take ∷ [] ≡ Making call ∷ Feed (Dooming w true) ∷ Default x ∷ Take ∷ []
+closing {w} true call x y e f g = ap (λ a. Making a ∷ Feed (Dooming w true) ∷ Default y ∷ Take ∷ []) (sym f) ∙ ap (λ z. Making call ∷ Feed (Dooming w true) ∷ Default z ∷ Take ∷ []) (sym g)
+closing false call x y e f g = absurd cc
+
+leaving_alone : (w : ℕ) (b : Bool) (x y : ℕ) → b ≡ false → x ≡ y → (if b then Making (Doom w) ∷ Feed (Dooming w true) ∷ [] else []) ++ Default y ∷ Take ∷ [] ≡ Default x ∷ Take ∷ []
+leaving_alone w false x y e g = ap (λ z. Default z ∷ Take ∷ []) (sym g)
+leaving_alone w true x y e g = absurd cc
+
+pub begins_close : {w number p q : ℕ} (c : Compound) (call : Call) (x : ℕ) → c ≡ DefaultOf w number p q → call ≡ first_call c → (number == WM_CLOSE) ≡ true → x ≡ (if number == WM_NCCREATE then 1 else 0) → begun c ≡ Making call ∷ Feed (Dooming w true) ∷ Default x ∷ Take ∷ []
+begins_close {number = number} c call x e f t g = ap begun e ∙ closing (number == WM_CLOSE) call x (if number == WM_NCCREATE then 1 else 0) t (f ∙ ap first_call e) g
+
+pub begins_alone : {w number p q : ℕ} (c : Compound) (x : ℕ) → c ≡ DefaultOf w number p q → (number == WM_CLOSE) ≡ false → x ≡ (if number == WM_NCCREATE then 1 else 0) → begun c ≡ Default x ∷ Take ∷ []
+begins_alone {w} {number} c x e t g = ap begun e ∙ leaving_alone w (number == WM_CLOSE) x (if number == WM_NCCREATE then 1 else 0) t g
+
+first_suits : (c : Compound) (window : Hwnd) (q : Place) → IsPlaceOf window q → Suits window (first_call c) q
+first_suits (Create class title parent style extended left top right bottom) window q h = plain tt h refl refl
+first_suits (Destroy w) window q h = plain tt h refl refl
+first_suits (DefaultOf w number p r) window q h = plain tt h refl refl
+
+pub call_suits : (c : Compound) (call : Call) (window : Hwnd) (q : Place) → call ≡ first_call c → IsPlaceOf window q → Suits window call q
+call_suits c call window q e h = subst (λ x. Suits window x q) (sym e) (first_suits c window q h)
+
+module _ (s : Tree) (n : ℕ) where
+  -- the same for a step that is equal
+  pub carry : (ps : List Piece) (st : State) (stage : Stage) (next : Next) (r : Step) → r ≡ record { stage = stage; next = next } → Leads s n ps st stage next → Leads s n ps st r.stage r.next
+  carry ps st stage next r e l = subst (λ x. Leads s n ps st x.stage x.next) (sym e) l
+
+  -- the same before a silent step
+  before : (p : Piece) (left ps : List Piece) (st st' : State) (stage : Stage) (next : Next) → IsNoRun p → step s p st n ≡ Becomes ps st' → Leads s n (ps ++ left) st' stage next → Leads s n (p ∷ left) st stage next
+  before p left ps st st' stage next h e l = record { left = l.left; state = l.state; comes = silent ps st' h e l.comes; stands = l.stands }
+
+  -- a call is made
+  pub asks_leads : (turn : Turn) (v : Variables) → IsTurn turn → Leads s n (Making turn.call ∷ behind turn) (Going v) (Asked turn) (Make turn.call)
+  asks_leads turn v h = record { left = Making turn.call ∷ behind turn; state = Going v; comes = calls turn.call refl; stands = is_asked turn v h }
+
+  -- the end of a statement that sets r and err
+  pub settles_leads : (call : Call) (a : Answer) (v w : Variables) → Leads s n (end_pieces (Settles call)) (Given v a 0) Over (Done (settled w call a 0).last_result (settled w call a 0).last_error)
+  settles_leads call a v w =
+      let l : Leads s n (Settle call ∷ []) (Given v a 0) Over (Done (settled v call a 0).last_result (settled v call a 0).last_error) = record { left = []; state = Going (settled v call a 0); comes = silent [] (Going (settled v call a 0)) tt refl over; stands = is_over (settled v call a 0) } in
+      subst (λ x. Leads s n (Settle call ∷ []) (Given v a 0) Over x) (settled_same v w call a 0) l
+
+  -- the end of the default procedure
+  default_leads : (x : ℕ) (v : Variables) → Leads s n (Take ∷ []) (Returning v x) Over (Done x 0)
+  default_leads x v = record { left = []; state = Going (record v { last_result = x; last_error = 0 }); comes = silent [] (Going (record v { last_result = x; last_error = 0 })) tt refl over; stands = is_over (record v { last_result = x; last_error = 0 }) }
+
+  pub gives_leads : (x : ℕ) (a : Answer) (y : ℕ) (v : Variables) → Leads s n (end_pieces (Gives x)) (Given v a y) Over (Done x 0)
+  gives_leads x a y v = before (Default x) (Take ∷ []) [] (Given v a y) (Returning v x) Over (Done x 0) tt refl (default_leads x v)
+
+  pub default_goes : (x : ℕ) (v : Variables) → Leads s n (end_pieces (Gives x)) (Going v) Over (Done x 0)
+  default_goes x v = before (Default x) (Take ∷ []) [] (Going v) (Returning v x) Over (Done x 0) tt refl (default_leads x v)
+
+  -- the answer of a call leads on to the next
+  pub feed_calls : (turn : Turn) (a : Answer) (x : ℕ) (v : Variables) (call : Call) (q : Place) → IsTurn turn → Calls call q ≡ compound_after turn.place a x → Leads s n (behind turn) (Given v a x) (Asked (record { call = call; place = q; window = told turn.place a turn.window; ending = turn.ending })) (Make call)
+  feed_calls turn a x v call q h e =
+      let next : Turn = record { call = call; place = q; window = told turn.place a turn.window; ending = turn.ending } in
+      let suits : IsTurn next = subst (LeadSuits (told turn.place a turn.window)) (sym e) (lead_suits turn.place a x turn.window h.leads) in
+      before (Feed turn.place) (end_pieces turn.ending) (Making call ∷ Feed q ∷ []) (Given v a x) (Going v) (Asked next) (Make call) tt (ap (goes_on v) (sym e)) (asks_leads next v suits)
+
+  -- or to the end
+  pub feed_ends : (turn : Turn) (a b : Answer) (x : ℕ) (v : Variables) (stage : Stage) (next : Next) → Ends b ≡ compound_after turn.place a x → Leads s n (end_pieces turn.ending) (Given v b 0) stage next → Leads s n (behind turn) (Given v a x) stage next
+  feed_ends turn a b x v stage next e l =
+      before (Feed turn.place) (end_pieces turn.ending) [] (Given v a x) (Given v b 0) stage next tt (ap (goes_on v) (sym e)) l
+
+  -- what hands a result on leads where that result leads
+  pub hands_lead : {x : ℕ} {rest qs : List Piece} {stage : Stage} {next : Next} → Hands x rest qs → ((w : Variables) → Leads s n rest (Returning w x) stage next) → (v : Variables) (a : Answer) (y : ℕ) → Leads s n qs (Given v a y) stage next
+  hands_lead {x} {rest} {qs} {stage} {next} (first p) l v a y =
+      before (Left x) (Restore p ∷ rest) [] (Given v a y) (Returning v x) stage next tt refl
+      (before (Restore p) rest [] (Returning v x) (Returning (inside_of v p) x) stage next tt refl (l (inside_of v p)))
+  hands_lead {x} {rest} {qs} {stage} {next} (more {ps = ps} z p b h) l v a y =
+      before (Left z) (Restore p ∷ Giving b ∷ ps) [] (Given v a y) (Returning v z) stage next tt refl
+      (before (Restore p) (Giving b ∷ ps) [] (Returning v z) (Returning (inside_of v p) z) stage next tt refl
+      (before (Giving b) ps [] (Returning (inside_of v p) z) (Given (inside_of v p) b z) stage next tt refl (hands_lead h l (inside_of v p) b z)))
+
+  -- a procedure has given its result, and is left
+  left_at : (turn : Turn) (next : Then) (x value : ℕ) (run : Run) (left : List Piece) (v : Variables) → IsTurn turn → Hands x (then_piece turn.call next ∷ behind turn) (Left value ∷ left) → Leads s n (Leaving run ∷ left) (Returning v value) (LeavingStage turn next x value) (Make (Leave value))
+  left_at turn next x value run left v h b =
+      before (Leaving run) left (Leaves run.frame value ∷ Left value ∷ []) (Returning v value) (Going v) (LeavingStage turn next x value) (Make (Leave value)) tt refl
+      (record { left = Leaves run.frame value ∷ Left value ∷ left; state = Going v; comes = calls (Leave value) refl; stands = is_leaving turn next x value (Leaves run.frame value) v h refl b })
+
+  pub returned_first : (turn : Turn) (next : Then) (value : ℕ) (run : Run) (p : Parameters) (qs : List Piece) (v : Variables) → IsTurn turn → Below (then_piece turn.call next ∷ behind turn) None qs → Leads s n (Leaving run ∷ Restore p ∷ qs) (Returning v value) (LeavingStage turn next value value) (Make (Leave value))
+  returned_first turn next value run p qs v h is_first = left_at turn next value value run (Restore p ∷ then_piece turn.call next ∷ behind turn) v h (first p)
+
+  pub returned_later : (turn : Turn) (next : Then) (x value : ℕ) (run : Run) (p : Parameters) (qs : List Piece) (v : Variables) → IsTurn turn → Below (then_piece turn.call next ∷ behind turn) (Some x) qs → Leads s n (Leaving run ∷ Restore p ∷ qs) (Returning v value) (LeavingStage turn next x value) (Make (Leave value))
+  returned_later turn next x value run p qs v h (is_later y a k) = left_at turn next x value run (Restore p ∷ qs) v h (more value p a k)
+
+  -- after the procedure that ran for it the same call is made, or its answer is given
+  pub again_leads : (turn : Turn) (x : ℕ) (v : Variables) → IsTurn turn → Leads s n (then_piece turn.call AgainThen ∷ behind turn) (Returning v x) (Asked turn) (Make turn.call)
+  again_leads turn x v h = before (Again turn.call) (behind turn) (Making turn.call ∷ []) (Returning v x) (Going v) (Asked turn) (Make turn.call) tt refl (asks_leads turn v h)
+
+  pub giving_leads : (turn : Turn) (a : Answer) (x : ℕ) (v : Variables) (stage : Stage) (next : Next) → Leads s n (behind turn) (Given v a x) stage next → Leads s n (then_piece turn.call (GivingThen a) ∷ behind turn) (Returning v x) stage next
+  giving_leads turn a x v stage next l = before (Giving a) (behind turn) [] (Returning v x) (Given v a x) stage next tt refl l
+
+  -- a procedure runs after an answer to the call: of an attempt, and then the call is made again, or of a send, and then its answer is given
+  runs_so : (turn : Turn) (a : Answer) (run : Run) (next : Then) (v : Variables) → IsTurn turn → follows turn.call a ≡ Running run ∷ then_piece turn.call next ∷ [] → answered turn.call a v ≡ Going v → Leads s n (follows turn.call a ++ behind turn) (answered turn.call a v) (RunningStage turn next None) (asked_of run)
+  runs_so turn a run next v h e f =
+      let qs = then_piece turn.call next ∷ behind turn in
+      let l : Leads s n (Running run ∷ qs) (Going v) (RunningStage turn next None) (asked_of run) = record { left = Running run ∷ qs; state = Going v; comes = runs run; stands = is_running turn next None run v h is_first } in
+      subst (λ ps. Leads s n (ps ++ behind turn) (answered turn.call a v) (RunningStage turn next None) (asked_of run)) (sym e)
+      (subst (λ st. Leads s n (Running run ∷ qs) st (RunningStage turn next None) (asked_of run)) (sym f) l)
+
+  some_next : {x y : Next} → Some x ≡ Some y → x ≡ y
+  some_next e = cc
+
+  pub runs_lead : (turn : Turn) (a : Answer) (next : Next) (v : Variables) → IsTurn turn → Some next ≡ runs_first (following turn.call a) → Leads s n (follows turn.call a ++ behind turn) (answered turn.call a v) (RunningStage turn (then_of a) None) next
+  runs_lead turn (Enter sn p w number wparam lparam) next v h e =
+      let a = Enter sn p w number wparam lparam in
+      let run = run_of p (parameters_from w.0 number wparam lparam) (Entered sn) in
+      subst (λ x. Leads s n (follows turn.call a ++ behind turn) (answered turn.call a v) (RunningStage turn AgainThen None) x) (sym (some_next e))
+      (runs_so turn a run AgainThen v h (follows_on turn.call a h.goes_on (λ x. absurd cc)) (answered_on turn.call a v h.goes_on (λ x. absurd cc)))
+  runs_lead turn (Callback sn p w number extra result) next v h e =
+      let a = Callback sn p w number extra result in
+      let run = run_of p (parameters_from w.0 number extra result) CallbackRun in
+      let f : follows turn.call a ≡ Running run ∷ Again turn.call ∷ [] = follows_on turn.call a h.goes_on (λ x. absurd cc) ∙ ap (λ b. Running run ∷ (if b then Giving a else Again turn.call) ∷ []) h.stays in
+      subst (λ x. Leads s n (follows turn.call a ++ behind turn) (answered turn.call a v) (RunningStage turn AgainThen None) x) (sym (some_next e))
+      (runs_so turn a run AgainThen v h f (answered_on turn.call a v h.goes_on (λ x. absurd cc)))
+  runs_lead turn (Inside sn p) next v h e =
+      let a = Inside sn p in
+      let run = run_of p (parameters_of turn.call) (InsideFrame sn) in
+      subst (λ x. Leads s n (follows turn.call a ++ behind turn) (answered turn.call a v) (RunningStage turn (GivingThen a) None) x) (sym (some_next e))
+      (runs_so turn a run (GivingThen a) v h (follows_on turn.call a h.goes_on (λ x. absurd cc)) (answered_on turn.call a v h.goes_on (λ x. absurd cc)))
+  runs_lead turn (Called p) next v h e =
+      let a = Called p in
+      let run = run_of p (parameters_of turn.call) CalledFrame in
+      subst (λ x. Leads s n (follows turn.call a ++ behind turn) (answered turn.call a v) (RunningStage turn (GivingThen a) None) x) (sym (some_next e))
+      (runs_so turn a run (GivingThen a) v h (follows_on turn.call a h.goes_on (λ x. absurd cc)) (answered_on turn.call a v h.goes_on (λ x. absurd cc)))
+  runs_lead turn (Begun sn) next v h e = absurd (begun_runs_none (waits turn.call) next sn e)
+  runs_lead turn a next v h e = absurd cc
+
+  -- after `wait` the same call is made
+  pub wait_leads : (turn : Turn) (v : Variables) → IsTurn turn → Leads s n (follows turn.call Wait ++ behind turn) (answered turn.call Wait v) (Asked turn) (Make turn.call)
+  wait_leads turn v h = asks_leads turn v h
+
+  -- after `begun` of a send that waits it is awaited
+  pub await_leads : (turn : Turn) (sn : SendId) (v : Variables) → IsTurn turn → true ≡ waits turn.call → Leads s n (follows turn.call (Begun sn) ++ behind turn) (answered turn.call (Begun sn) v) (Asked (record turn { call = Await sn.0 })) (Make (Await sn.0))
+  await_leads turn sn v h w =
+      let next : Turn = record turn { call = Await sn.0 } in
+      let suits : IsTurn next = record { sent = tt; leads = h.leads; stays = refl; goes_on = refl } in
+      let e : follows turn.call (Begun sn) ≡ Making (Await sn.0) ∷ [] = follows_on turn.call (Begun sn) h.goes_on (λ x. absurd cc) ∙ ap (λ b. if b then Making (Await sn.0) ∷ [] else []) (sym w) in
+      let f : answered turn.call (Begun sn) v ≡ Going v = answered_on turn.call (Begun sn) v h.goes_on (λ x. absurd cc) ∙ ap (λ b. if b then Going v else given v (Begun sn)) (sym w) in
+      subst (λ ps. Leads s n (ps ++ behind turn) (answered turn.call (Begun sn) v) (Asked next) (Make next.call)) (sym e)
+      (subst (λ st. Leads s n (Making next.call ∷ behind turn) st (Asked next) (Make next.call)) (sym f) (asks_leads next v suits))
+
+  -- any other answer is given
+  given_so : (turn : Turn) (a : Answer) (v : Variables) (stage : Stage) (next : Next) → follows turn.call a ≡ [] → answered turn.call a v ≡ given v a → ((w : Variables) → Leads s n (behind turn) (Given w a (result_of a)) stage next) → Leads s n (follows turn.call a ++ behind turn) (answered turn.call a v) stage next
+  given_so turn a v stage next e f l =
+      subst (λ ps. Leads s n (ps ++ behind turn) (answered turn.call a v) stage next) (sym e)
+      (subst (λ st. Leads s n (behind turn) st stage next) (sym f) (l (received v a)))
+
+  pub begun_leads : (turn : Turn) (sn : SendId) (v : Variables) (stage : Stage) (next : Next) → IsTurn turn → false ≡ waits turn.call → ((w : Variables) → Leads s n (behind turn) (Given w (Begun sn) 0) stage next) → Leads s n (follows turn.call (Begun sn) ++ behind turn) (answered turn.call (Begun sn) v) stage next
+  begun_leads turn sn v stage next h w l =
+      let e : follows turn.call (Begun sn) ≡ [] = follows_on turn.call (Begun sn) h.goes_on (λ x. absurd cc) ∙ ap (λ b. if b then Making (Await sn.0) ∷ [] else []) (sym w) in
+      let f : answered turn.call (Begun sn) v ≡ given v (Begun sn) = answered_on turn.call (Begun sn) v h.goes_on (λ x. absurd cc) ∙ ap (λ b. if b then Going v else given v (Begun sn)) (sym w) in
+      given_so turn (Begun sn) v stage next e f l
+
+  pub given_leads : (turn : Turn) (a : Answer) (v : Variables) (stage : Stage) (next : Next) → IsTurn turn → IsPlain turn.call a → ((w : Variables) → Leads s n (behind turn) (Given w a (result_of a)) stage next) → Leads s n (follows turn.call a ++ behind turn) (answered turn.call a v) stage next
+  given_leads turn a v stage next h p l =
+      given_so turn a v stage next (follows_on turn.call a h.goes_on (plain_waits_not turn.call a p) ∙ plain_follows turn.call a p) (answered_on turn.call a v h.goes_on (plain_waits_not turn.call a p) ∙ plain_answers turn.call a v p) l
+
+  -- the `leave` of a procedure is answered: it waits, another procedure runs, or the first result is handed on
+  pub leave_waits : (turn : Turn) (next : Then) (x value : ℕ) (qs : List Piece) (v : Variables) → IsTurn turn → Hands x (then_piece turn.call next ∷ behind turn) qs → Leads s n (follows (Leave value) Wait ++ qs) (answered (Leave value) Wait v) (LeavingStage turn next x value) (Make (Leave value))
+  leave_waits turn next x value qs v h b =
+      record { left = Making (Leave value) ∷ qs; state = Going v; comes = calls (Leave value) refl; stands = is_leaving turn next x value (Making (Leave value)) v h refl b }
+
+  leave_runs_so : (turn : Turn) (next : Then) (x value : ℕ) (a : Answer) (run : Run) (qs : List Piece) (v : Variables) → IsTurn turn → Hands x (then_piece turn.call next ∷ behind turn) qs → Leads s n (Running run ∷ Giving a ∷ qs) (Going v) (RunningStage turn next (Some x)) (asked_of run)
+  leave_runs_so turn next x value a run qs v h b =
+      record { left = Running run ∷ Giving a ∷ qs; state = Going v; comes = runs run; stands = is_running turn next (Some x) run v h (is_later x a b) }
+
+  pub leave_runs : (turn : Turn) (next : Then) (x value : ℕ) (a : Answer) (asked : Next) (qs : List Piece) (v : Variables) → IsTurn turn → EntersNot (Leave value) a → Hands x (then_piece turn.call next ∷ behind turn) qs → Some asked ≡ runs_first (following (Leave value) a) → Leads s n (follows (Leave value) a ++ qs) (answered (Leave value) a v) (RunningStage turn next (Some x)) asked
+  leave_runs turn next x value (Enter sn p w number wparam lparam) asked qs v h k b e = absurd k
+  leave_runs turn next x value (Callback sn p w number extra result) asked qs v h k b e =
+      subst (λ y. Leads s n (follows (Leave value) (Callback sn p w number extra result) ++ qs) (Going v) (RunningStage turn next (Some x)) y) (sym (some_next e)) (leave_runs_so turn next x value (Callback sn p w number extra result) _ qs v h b)
+  leave_runs turn next x value (Inside sn p) asked qs v h k b e =
+      subst (λ y. Leads s n (follows (Leave value) (Inside sn p) ++ qs) (Going v) (RunningStage turn next (Some x)) y) (sym (some_next e)) (leave_runs_so turn next x value (Inside sn p) _ qs v h b)
+  leave_runs turn next x value (Called p) asked qs v h k b e =
+      subst (λ y. Leads s n (follows (Leave value) (Called p) ++ qs) (Going v) (RunningStage turn next (Some x)) y) (sym (some_next e)) (leave_runs_so turn next x value (Called p) _ qs v h b)
+  leave_runs turn next x value a asked qs v h k b e = absurd cc
+
+  pub leave_hands : (turn : Turn) (next : Then) (x value : ℕ) (a : Answer) (stage : Stage) (asked : Next) (qs : List Piece) (v : Variables) → (a ≡ Wait → ⊥) → Hands x (then_piece turn.call next ∷ behind turn) qs → None ≡ runs_first (following (Leave value) a) → ((w : Variables) → Leads s n (then_piece turn.call next ∷ behind turn) (Returning w x) stage asked) → Leads s n (follows (Leave value) a ++ qs) (answered (Leave value) a v) stage asked
+  leave_hands turn next x value Wait stage asked qs v k b e l = absurd (k refl)
+  leave_hands turn next x value (Enter sn p w number wparam lparam) stage asked qs v k b e l = absurd cc
+  leave_hands turn next x value (Callback sn p w number extra result) stage asked qs v k b e l = absurd cc
+  leave_hands turn next x value (Inside sn p) stage asked qs v k b e l = absurd cc
+  leave_hands turn next x value (Called p) stage asked qs v k b e l = absurd cc
+  leave_hands turn next x value a stage asked qs v k b e l = hands_lead b l (received v a) a (result_of a)
+
+  -- a compound begins with a call
+  pub begins_call : (c : Compound) (turn : Turn) (v : Variables) → begun c ≡ Making turn.call ∷ behind turn → IsTurn turn → Leads s n (begun c) (Going v) (Asked turn) (Make turn.call)
+  begins_call c turn v e h = subst (λ ps. Leads s n ps (Going v) (Asked turn) (Make turn.call)) (sym e) (asks_leads turn v h)
+
+  -- the same from an answer that is equal
+  pub at_answer : (call : Call) (rest : List Piece) (a b : Answer) (v : Variables) (stage : Stage) (next : Next) → a ≡ b → Leads s n (follows call b ++ rest) (answered call b v) stage next → Leads s n (follows call a ++ rest) (answered call a v) stage next
+  at_answer call rest a b v stage next e l = subst (λ x. Leads s n (follows call x ++ rest) (answered call x v) stage next) (sym e) l
+
+  -- the same from what comes then that is equal
+  pub at_then : (turn : Turn) (t u : Then) (st : State) (stage : Stage) (next : Next) → t ≡ u → Leads s n (then_piece turn.call u ∷ behind turn) st stage next → Leads s n (then_piece turn.call t ∷ behind turn) st stage next
+  at_then turn t u st stage next e l = subst (λ x. Leads s n (then_piece turn.call x ∷ behind turn) st stage next) (sym e) l
+
+  -- the statement `default` of a message that closes no window
+  pub alone_leads : (c : Compound) (x : ℕ) (v : Variables) → begun c ≡ Default x ∷ Take ∷ [] → Leads s n (begun c) (Going v) Over (Done x 0)
+  alone_leads c x v e = subst (λ ps. Leads s n ps (Going v) Over (Done x 0)) (sym e) (default_goes x v)

@@ -1,0 +1,149 @@
+-- The pieces that the state of a compound stands for.
+use Rattle.std.specs.Prelude.{◌≡◌, ◌<◌, ◌^◌, ℕ, false, List, [], ◌∷◌, Option, Some, None}
+use Rattle.script_tree.specs.declared.frame.Run.{Run}
+use Rattle.script_tree.specs.declared.frame.Compound.{Compound as Place}
+use Rattle.script_tree.specs.declared.frame.Compound.TheVariants.{Making as MakingWindow, Greeting, Unmaking}
+use Rattle.script_tree.specs.declared.variables.Parameters.{Parameters}
+use Rattle.script_tree.specs.declared.variables.Variables.{Variables}
+use Rattle.script_tree.specs.Tree.{Tree}
+use Rattle.script_tree.specs.Pieces.{Piece, Making, Again, Giving, Settle, Running, Leaves, Left, Restore, Feed, Default, Take, State, Going}
+use Rattle.script_tree.specs.Steps.{is_last}
+use Rattle.user_model.specs.Stacks.{leaves}
+use Rattle.user_model.specs.declared.call.Call.{Call}
+use Rattle.user_model.specs.declared.call.Call.TheVariants.{Dispatch, Send, SendTimeout, SendNotify, SendCallback, Leave}
+use Rattle.user_model.specs.declared.entry.Answer.{Answer}
+use Rattle.user_model.specs.declared.entry.Answer.TheVariants.{Enter, Callback, Window, Tell, Last}
+use Rattle.win_num.specs.declared.message.Hwnd.{Hwnd}
+use Rattle.win_calls.specs.declared.compound.Compound.{Compound}
+use Rattle.win_calls.specs.declared.compound.Got.{Got}
+use Rattle.win_calls.specs.declared.compound.Got.TheVariants.{Start, Answered, Returned}
+use Rattle.win_calls.specs.declared.compound.Next.{Next}
+use Rattle.win_calls.specs.declared.compound.Next.TheVariants.{Make, Run as RunOf}
+use Rattle.win_calls.specs.declared.stage.Ending.{Ending}
+use Rattle.win_calls.specs.declared.stage.Ending.TheVariants.{Settles, Gives}
+use Rattle.win_calls.specs.declared.stage.Turn.{Turn}
+use Rattle.win_calls.specs.declared.stage.Then.{Then}
+use Rattle.win_calls.specs.declared.stage.Then.TheVariants.{Again as AgainThen, Giving as GivingThen}
+use Rattle.win_calls.specs.declared.stage.Stage.{Stage}
+use Rattle.win_calls.specs.declared.stage.Stage.TheVariants.{Fresh, Asked, Running as RunningStage, Leaving as LeavingStage, Over}
+use Rattle.win_calls.specs.Table.{begun, Comes}
+
+-- the answer doesn't enter a send where the call is a `leave`
+abbrev pub EntersNot : Call → Answer → Type 0
+EntersNot (Leave x) (Enter s proc_no w number wparam lparam) = ⊥
+EntersNot call a = Unit {0}
+
+-- what may be handed in where that was asked for: an answer after a call, a result after a procedure
+abbrev pub Awaits : Next → Got → Type 0
+Awaits (Make call) (Answered a) = EntersNot call a
+Awaits (RunOf proc_no w number wparam lparam callback) (Returned x) = Unit {0}
+Awaits next got = ⊥
+
+-- a procedure is to run
+abbrev pub IsRun : Next → Type 0
+IsRun (RunOf proc_no w number wparam lparam callback) = Unit {0}
+IsRun next = ⊥
+
+-- what may be handed in at that stage
+abbrev pub Accepts : Stage → Got → Type 0
+Accepts (Fresh c) Start = Unit {0}
+Accepts (Asked turn) (Answered a) = EntersNot turn.call a
+Accepts (RunningStage turn next first) (Returned x) = Unit {0}
+Accepts (LeavingStage turn next first value) (Answered a) = EntersNot (Leave value) a
+Accepts stage got = ⊥
+
+-- a call that sends is SendMessage, to that window, with a number of 32 bits
+abbrev pub IsSentTo : Hwnd → Call → Type 0
+IsSentTo window (Send w number p q) = (w ≡ window.0) × (number < 2 ^ 32)
+IsSentTo window (Dispatch w number p q) = ⊥
+IsSentTo window (SendTimeout w number p q flags ms) = ⊥
+IsSentTo window (SendNotify w number p q) = ⊥
+IsSentTo window (SendCallback w number p q proc_no extra) = ⊥
+IsSentTo window call = Unit {0}
+
+-- the window that will be sent to again is that one
+abbrev pub IsPlaceOf : Hwnd → Place → Type 0
+IsPlaceOf window (Greeting w) = w ≡ window.0
+IsPlaceOf window place = Unit {0}
+
+-- a call that a compound makes itself, neither a `leave` nor the end of a thread, before that place
+pub record Suits (window : Hwnd) (call : Call) (place : Place) : Type 0 where
+  pub sent : IsSentTo window call
+  pub leads : IsPlaceOf window place
+  pub stays : leaves call ≡ false
+  pub goes_on : is_last call ≡ false
+
+-- a call that a compound makes itself
+abbrev pub IsTurn : Turn → Type 0
+IsTurn turn = Suits turn.window turn.call turn.place
+
+-- the window that an answer names, or else this one
+abbrev pub named : Answer → Hwnd → Hwnd
+named (Window w) window = w
+named (Tell w) window = w
+named (Last w) window = w
+named a window = window
+
+-- the window that a compound sends to after this answer at that place
+abbrev pub told : Place → Answer → Hwnd → Hwnd
+told MakingWindow a window = named a window
+told (Unmaking w alone) a window = named a window
+told place a window = window
+
+-- the last pieces of a compound
+abbrev pub end_pieces : Ending → List Piece
+end_pieces (Settles call) = Settle call ∷ []
+end_pieces (Gives x) = Default x ∷ Take ∷ []
+
+-- the pieces behind a call
+abbrev pub behind : Turn → List Piece
+behind turn = Feed turn.place ∷ end_pieces turn.ending
+
+-- the piece behind the procedure that runs for a call
+abbrev pub then_piece : Call → Then → Piece
+then_piece call AgainThen = Again call
+then_piece call (GivingThen a) = Giving a
+
+-- what comes behind the procedure that runs after an answer to a call other than `leave`
+abbrev pub then_of : Answer → Then
+then_of (Enter s proc_no w number wparam lparam) = AgainThen
+then_of (Callback s proc_no w number extra result) = AgainThen
+then_of a = GivingThen a
+
+-- Pieces that hand this result on to the rest, whatever the answer to the `leave` above them: the result of the first procedure. The procedures that ran for its `leave` have left theirs above it.
+pub data Hands (x : ℕ) (rest : List Piece) : List Piece → Type 0 where
+  -- the first procedure has left its result
+  first : (p : Parameters) → Hands x rest (Left x ∷ Restore p ∷ rest)
+  -- one more, for the answer to the `leave` of another
+  more : {ps : List Piece} (y : ℕ) (p : Parameters) (a : Answer) → Hands x rest ps → Hands x rest (Left y ∷ Restore p ∷ Giving a ∷ ps)
+
+-- The pieces below a procedure that runs: the rest where it is the first, and else those that hand on the first result.
+pub data Below (rest : List Piece) : Option ℕ → List Piece → Type 0 where
+  is_first : Below rest None rest
+  is_later : {ps : List Piece} (x : ℕ) (a : Answer) → Hands x rest ps → Below rest (Some x) (Giving a ∷ ps)
+
+-- a piece that leaves with that result
+abbrev pub IsLeave : ℕ → Piece → Type 0
+IsLeave x (Leaves frame y) = y ≡ x
+IsLeave x (Making call) = call ≡ Leave x
+IsLeave x p = ⊥
+
+-- The pieces and the state of the table that a stage stands for.
+pub data StandsFor : Stage → List Piece → State → Type 0 where
+  -- before the first call: the pieces of the statement
+  is_fresh : (c : Compound) (v : Variables) → StandsFor (Fresh c) (begun c) (Going v)
+  -- a call is made, and what it leads to is behind it
+  is_asked : (turn : Turn) (v : Variables) → IsTurn turn → StandsFor (Asked turn) (Making turn.call ∷ behind turn) (Going v)
+  -- a procedure runs
+  is_running : {qs : List Piece} (turn : Turn) (next : Then) (first : Option ℕ) (run : Run) (v : Variables) → IsTurn turn → Below (then_piece turn.call next ∷ behind turn) first qs → StandsFor (RunningStage turn next first) (Running run ∷ qs) (Going v)
+  -- a procedure is left
+  is_leaving : {qs : List Piece} (turn : Turn) (next : Then) (x value : ℕ) (p : Piece) (v : Variables) → IsTurn turn → IsLeave value p → Hands x (then_piece turn.call next ∷ behind turn) qs → StandsFor (LeavingStage turn next x value) (p ∷ qs) (Going v)
+  -- nothing is left
+  is_over : (v : Variables) → StandsFor Over [] (Going v)
+
+-- From these pieces and that state the table comes to what is asked for, and the stage stands for where it then is.
+pub record Leads (s : Tree) (n : ℕ) (ps : List Piece) (st : State) (stage : Stage) (next : Next) : Type 0 where
+  pub left : List Piece
+  pub state : State
+  pub comes : Comes s n ps st next left state
+  pub stands : StandsFor stage left state

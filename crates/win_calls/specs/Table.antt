@@ -1,0 +1,76 @@
+-- What a compound statement asks of its caller, by the table of steps.
+use Rattle.std.specs.Prelude.{◌≡◌, ℕ, Bool, true, List, [], ◌∷◌, ◌++◌, Option, Some, None}
+use Rattle.script_tree.specs.declared.frame.Run.{Run}
+use Rattle.script_tree.specs.declared.frame.Compound.TheVariants.{Making as MakingWindow, Dooming}
+use Rattle.script_tree.specs.declared.variables.Parameters.{Parameters}
+use Rattle.script_tree.specs.declared.variables.Variables.{Variables}
+use Rattle.script_tree.specs.Tree.{Tree}
+use Rattle.script_tree.specs.Pieces.{Piece, Making, Settle, Running, Leaving, Restore, Feed, Default, Take, State, Going, Returning, Becomes, Asks}
+use Rattle.script_tree.specs.Steps.{step, follows, answered, variables_of, parameters_from, default_pieces, default_result, is_callback}
+use Rattle.user_model.specs.declared.call.Call.{Call}
+use Rattle.user_model.specs.declared.call.Call.TheVariants.{NewWindow, Doom}
+use Rattle.user_model.specs.declared.entry.Answer.{Answer}
+use Rattle.win_calls.specs.declared.compound.Compound.{Compound}
+use Rattle.win_calls.specs.declared.compound.Compound.TheVariants.{Create, Destroy, Default as DefaultOf}
+use Rattle.win_calls.specs.declared.compound.Got.{Got}
+use Rattle.win_calls.specs.declared.compound.Got.TheVariants.{Start, Answered, Returned}
+use Rattle.win_calls.specs.declared.compound.Next.{Next}
+use Rattle.win_calls.specs.declared.compound.Next.TheVariants.{Make, Run as RunOf, Done}
+
+-- the first call of a compound, which `default` makes only where it closes the window
+abbrev pub first_call : Compound → Call
+first_call (Create class title parent style extended left top right bottom) = NewWindow class title parent style extended left top right bottom
+first_call (Destroy w) = Doom w
+first_call (DefaultOf w number p q) = Doom w
+
+-- the pieces of a statement that begins with that call
+abbrev pub begun_with : Call → Piece → List Piece
+begun_with call feed = Making call ∷ feed ∷ Settle call ∷ []
+
+-- the pieces of the statement `default` in a procedure with these parameters
+abbrev pub begun_default : Parameters → List Piece
+begun_default p = default_pieces p ++ Default (default_result p) ∷ Take ∷ []
+
+-- the pieces of a compound statement, as its line in the table has them
+abbrev pub begun : Compound → List Piece
+begun (Create class title parent style extended left top right bottom) = begun_with (NewWindow class title parent style extended left top right bottom) (Feed MakingWindow)
+begun (Destroy w) = begun_with (Doom w) (Feed (Dooming w true))
+begun (DefaultOf w number p q) = begun_default (parameters_from w number p q)
+
+-- that procedure is to run with these parameters
+abbrev pub run_asked : ℕ → Parameters → Bool → Next
+run_asked proc_no p callback = RunOf proc_no (record { 0 = p.hwnd }) p.number p.wparam p.lparam callback
+
+-- a run of the table is to run
+abbrev pub asked_of : Run → Next
+asked_of run = run_asked run.procedure run.parameters (is_callback run.frame)
+
+-- the procedure that runs where these pieces come, if they begin with one
+abbrev pub runs_first : List Piece → Option Next
+runs_first (Running run ∷ ps) = Some (asked_of run)
+runs_first ps = None
+
+-- a piece that runs no procedure
+abbrev pub IsNoRun : Piece → Type 0
+IsNoRun (Running run) = ⊥
+IsNoRun p = Unit {0}
+
+-- Where the table goes on from these pieces and that state when this is handed in.
+pub data Handed (s : Tree) (n : ℕ) : List Piece → State → Got → List Piece → State → Type 0 where
+  -- at the start nothing has happened
+  started : {ps : List Piece} {st : State} → Handed s n ps st Start ps st
+  -- the call that the first piece makes is answered
+  was_answered : {p : Piece} {left : List Piece} {st : State} (call : Call) (a : Answer) → step s p st n ≡ Asks call → Handed s n (p ∷ left) st (Answered a) (follows call a ++ left) (answered call a (variables_of st))
+  -- the statements of a procedure have given a result, and made of the variables whatever they do
+  was_returned : {left : List Piece} {v : Variables} (run : Run) (w : Variables) (x : ℕ) → Handed s n (Running run ∷ left) (Going v) (Returned x) (Leaving run ∷ Restore v.parameters ∷ left) (Returning w x)
+
+-- What comes next by the table: after silent steps a call, a procedure that is to run, or the end; and the pieces and the state that the table is then at.
+pub data Comes (s : Tree) (n : ℕ) : List Piece → State → Next → List Piece → State → Type 0 where
+  -- a piece that becomes other pieces has what comes of them
+  silent : {p : Piece} {left : List Piece} {st : State} {next : Next} {qs : List Piece} {sq : State} (ps : List Piece) (st' : State) → IsNoRun p → step s p st n ≡ Becomes ps st' → Comes s n (ps ++ left) st' next qs sq → Comes s n (p ∷ left) st next qs sq
+  -- a piece that makes a call
+  calls : {p : Piece} {left : List Piece} {st : State} (call : Call) → step s p st n ≡ Asks call → Comes s n (p ∷ left) st (Make call) (p ∷ left) st
+  -- a procedure, in place of its statements
+  runs : {left : List Piece} {v : Variables} (run : Run) → Comes s n (Running run ∷ left) (Going v) (asked_of run) (Running run ∷ left) (Going v)
+  -- nothing is left: r and err are those of the variables
+  over : {v : Variables} → Comes s n [] (Going v) (Done v.last_result v.last_error) [] (Going v)

@@ -1,0 +1,60 @@
+//! How far a compound statement has come.
+
+use crate::compound::{Compound, Next};
+use script_tree::Compound as Place;
+use user_model::{Answer, Call};
+use win_num::Hwnd;
+
+/// What the end of a compound sets `r` and `err` to.
+#[derive(Clone, Copy)]
+pub enum Ending {
+    /// What the answer is for a statement that begins with this call.
+    Settles(Call),
+    /// This result, and 0.
+    Gives(u64),
+}
+
+/// One call of a compound.
+#[derive(Clone, Copy)]
+pub struct Turn {
+    /// The call, or the `await` of a send that it began.
+    pub call: Call,
+    /// Where its answer leads.
+    pub place: Place,
+    /// The window that the compound sends to.
+    pub window: Hwnd,
+    pub ending: Ending,
+}
+
+/// What comes when the procedure that runs for a call has been left.
+#[derive(Clone, Copy)]
+pub enum Then {
+    /// The same call once more.
+    Again,
+    /// This answer is that of the call, with the procedure's result.
+    Giving(Answer),
+}
+
+/// How far a compound has come.
+#[derive(Clone, Copy)]
+pub enum Stage {
+    /// It hasn't begun.
+    Fresh(Compound),
+    /// Its call is made.
+    Asked(Turn),
+    /// A procedure runs: the first for the call, or one for the `leave` of another that ran before, where
+    /// the first has left with this result.
+    Running(Turn, Then, Option<u64>),
+    /// The procedure on top is left with the second number. The first is the result of the first that ran
+    /// for the call.
+    Leaving(Turn, Then, u64, u64),
+    /// It has ended.
+    Over,
+}
+
+/// How far a compound has come, and what it asks for there.
+#[derive(Clone, Copy)]
+pub struct Step {
+    pub stage: Stage,
+    pub next: Next,
+}

@@ -1,0 +1,214 @@
+//! What follows the answers to a compound's calls, and the procedures that run for them.
+
+ghost use Rattle.std.specs.Prelude.{◌≡◌, ◌<◌, ◌^◌, ◌++◌, ◌∷◌, false, ℕ, List, IfSome};
+ghost use Rattle.user_model.specs.Stacks.{waits as waits_of};
+ghost use Rattle.script_tree.specs.Tree.{Tree};
+ghost use Rattle.script_tree.specs.Pieces.{Piece, Leaving, Restore, Returning};
+ghost use Rattle.script_tree.specs.Steps.{follows, following, answered as answered_by, parameters_of, result_of as result_by};
+ghost use Rattle.script_tree.specs.declared.variables.Variables.{Variables};
+ghost use Rattle.script_tree.specs.declared.variables.Parameters.{Parameters};
+ghost use Rattle.script_tree.specs.declared.frame.Run.{Run};
+ghost use Rattle.win_calls.specs.declared.compound.Got.{Got};
+ghost use Rattle.win_calls.specs.Table.{run_asked, runs_first};
+ghost use Rattle.win_calls.specs.States.{IsTurn, IsSentTo, EntersNot, Accepts, Awaits, Leads, Below, Hands, IsRun, behind, then_piece, then_of};
+
+use crate::compound::Next;
+use crate::ends::{asks, gives};
+use crate::stage::{Stage, Step, Then, Turn};
+use user_model::{Answer, Call};
+use win_num::Hwnd;
+
+/// A message's number, and 0 for what is none.
+fn narrowed(number: u64) -> u32
+    ensures { number < 2 ^ 32 → result ≡ number }
+{
+    u32::try_from(number).unwrap_or(0)
+}
+
+fn result_of(answer: &Answer) -> u64
+    ensures { result ≡ result_by answer.now }
+{
+    match answer {
+        Answer::Value(value) => *value,
+        Answer::Done { result, .. } => *result,
+        _ => 0,
+    }
+}
+
+fn waits(call: &Call) -> bool
+    ensures { result ≡ waits_of call.now }
+{
+    match call {
+        Call::Send(_, _, _, _) => true,
+        Call::SendTimeout(_, _, _, _, _, _) => true,
+        _ => false,
+    }
+}
+
+/// The procedure of the window that a call sends to is to run.
+fn inside(call: &Call, window: Hwnd, proc_no: u32) -> Next
+    ensures run { IsRun result }
+    ensures asked { IsSentTo window call.now → result ≡ run_asked proc_no (parameters_of call.now) false }
+{
+    match call {
+        Call::Send(_, number, wparam, lparam) => Next::Run {
+            proc_no,
+            hwnd: window,
+            number: narrowed(*number),
+            wparam: *wparam,
+            lparam: *lparam,
+            callback: false,
+        },
+        _ => Next::Run {
+            proc_no,
+            hwnd: Hwnd(0),
+            number: 0,
+            wparam: 0,
+            lparam: 0,
+            callback: false,
+        },
+    }
+}
+
+/// The procedure on top is to be left.
+fn leaves(turn: Turn, then: Then, first: u64, value: u64) -> Step
+    ensures step { result ≡ record { stage = Stage.Leaving turn then first value; next = Next.Make (Call.Leave value) } }
+    ensures accepts { (g : Got) → Awaits result.next g → Accepts result.stage g }
+{
+    Step {
+        stage: Stage::Leaving(turn, then, first, value),
+        next: Next::Make(Call::Leave(value)),
+    }
+}
+
+/// A procedure is to run.
+fn runs(turn: Turn, then: Then, first: Option<u64>, next: Next) -> Step
+    requires { IsRun next }
+    ensures step { result ≡ record { stage = Stage.Running turn then first; next = next } }
+    ensures accepts { (g : Got) → Awaits result.next g → Accepts result.stage g }
+{
+    Step {
+        stage: Stage::Running(turn, then, first),
+        next,
+    }
+}
+
+/// The procedure that ran has given this result.
+pub fn returned(turn: Turn, then: Then, first: Option<u64>, value: u64) -> Step
+    ensures follows { (s : Tree) (n : ℕ) (run : Run) (p : Parameters) (qs : List Piece) (v : Variables) → IsTurn turn → Below (then_piece turn.call then ∷ behind turn) first qs → Leads s n (Leaving run ∷ Restore p ∷ qs) (Returning v value) result.stage result.next }
+    ensures accepts { (g : Got) → Awaits result.next g → Accepts result.stage g }
+{
+    match first {
+        None => leaves(turn, then, value, value),
+        Some(earlier) => leaves(turn, then, earlier, value),
+    }
+}
+
+/// The procedure that an answer runs, if it runs one.
+fn procedure(call: &Call, window: Hwnd, answer: &Answer) -> Option<Next>
+    ensures run { IfSome result IsRun }
+    ensures first { IsSentTo window call.now → result ≡ runs_first (following call.now answer.now) }
+{
+    match answer {
+        Answer::Enter {
+            proc_no,
+            hwnd,
+            number,
+            wparam,
+            lparam,
+            ..
+        } => Some(Next::Run {
+            proc_no: *proc_no,
+            hwnd: *hwnd,
+            number: *number,
+            wparam: *wparam,
+            lparam: *lparam,
+            callback: false,
+        }),
+        Answer::Callback {
+            proc_no,
+            hwnd,
+            number,
+            extra,
+            result,
+            ..
+        } => Some(Next::Run {
+            proc_no: *proc_no,
+            hwnd: *hwnd,
+            number: *number,
+            wparam: *extra,
+            lparam: *result,
+            callback: true,
+        }),
+        Answer::Inside(_, proc_no) => Some(inside(call, window, *proc_no)),
+        Answer::Called(proc_no) => Some(inside(call, window, *proc_no)),
+        _ => None,
+    }
+}
+
+/// What comes when the procedure that runs for a call after this answer has been left.
+fn after_run(answer: Answer) -> Then
+    ensures { result ≡ then_of answer }
+{
+    match answer {
+        Answer::Enter { .. } => Then::Again,
+        Answer::Callback { .. } => Then::Again,
+        _ => Then::Giving(answer),
+    }
+}
+
+/// Its call was answered, and no procedure runs for it.
+fn stays(turn: Turn, answer: Answer) -> Step
+    ensures follows { (s : Tree) (n : ℕ) (v : Variables) → IsTurn turn → None ≡ runs_first (following turn.call answer) → Leads s n (follows turn.call answer ++ behind turn) (answered_by turn.call answer v) result.stage result.next }
+    ensures accepts { (g : Got) → Awaits result.next g → Accepts result.stage g }
+{
+    match answer {
+        Answer::Wait => asks(turn),
+        Answer::Begun(send) => {
+            if waits(&turn.call) {
+                let call = Call::Await(u64::from(send.0));
+                asks(Turn { call, ..turn })
+            } else {
+                gives(turn, answer, 0)
+            }
+        }
+        _ => gives(turn, answer, result_of(&answer)),
+    }
+}
+
+/// Its call was answered.
+pub fn answered(turn: Turn, answer: Answer) -> Step
+    ensures follows { (s : Tree) (n : ℕ) (v : Variables) → IsTurn turn → Leads s n (follows turn.call answer ++ behind turn) (answered_by turn.call answer v) result.stage result.next }
+    ensures accepts { (g : Got) → Awaits result.next g → Accepts result.stage g }
+{
+    match procedure(&turn.call, turn.window, &answer) {
+        Some(next) => runs(turn, after_run(answer), None, next),
+        None => stays(turn, answer),
+    }
+}
+
+/// The procedures that ran for its call have been left, the first with this result.
+fn resumed(turn: Turn, then: Then, first: u64) -> Step
+    ensures follows { (s : Tree) (n : ℕ) (v : Variables) → IsTurn turn → Leads s n (then_piece turn.call then ∷ behind turn) (Returning v first) result.stage result.next }
+    ensures accepts { (g : Got) → Awaits result.next g → Accepts result.stage g }
+{
+    match then {
+        Then::Again => asks(turn),
+        Then::Giving(answer) => gives(turn, answer, first),
+    }
+}
+
+/// The `leave` of the procedure on top was answered.
+pub fn left(turn: Turn, then: Then, first: u64, value: u64, answer: Answer) -> Step
+    requires { EntersNot (Call.Leave value) answer }
+    ensures follows { (s : Tree) (n : ℕ) (qs : List Piece) (v : Variables) → IsTurn turn → Hands first (then_piece turn.call then ∷ behind turn) qs → Leads s n (follows (Call.Leave value) answer ++ qs) (answered_by (Call.Leave value) answer v) result.stage result.next }
+    ensures accepts { (g : Got) → Awaits result.next g → Accepts result.stage g }
+{
+    match answer {
+        Answer::Wait => leaves(turn, then, first, value),
+        _ => match procedure(&Call::Leave(value), turn.window, &answer) {
+            Some(next) => runs(turn, then, Some(first), next),
+            None => resumed(turn, then, first),
+        },
+    }
+}
