@@ -26,9 +26,9 @@ spelled_push [] y h e = and_from _ _ e refl
 spelled_push (x ∷ xs) y h e = let was = and_parts (is_name x) (list_all is_name xs) h in and_from _ _ was.0 (spelled_push xs y was.1 e)
 
 -- a name that wasn't there goes to the end
-pub names_push : (names after : List (List ℕ)) (word : List ℕ) → AreNames names → position_from (λ name. bytes_eq name word) 0 names ≡ None → is_name word ≡ true → length names < 1024 → after ≡ names ++ word ∷ [] → AreNames after
-names_push names after word h none e few same =
-    let p : AreNames (names ++ word ∷ []) = record {
+pub names_push : (limit : ℕ) (names after : List (List ℕ)) (word : List ℕ) → AreNames limit names → position_from (λ name. bytes_eq name word) 0 names ≡ None → is_name word ≡ true → length names < limit → after ≡ names ++ word ∷ [] → AreNames limit after
+names_push limit names after word h none e few same =
+    let p : AreNames limit (names ++ word ∷ []) = record {
       spelled = spelled_push names word h.spelled e;
       distinct = distinct_push names word h.distinct (none_passes (λ name. bytes_eq name word) 0 names none);
       few = omega (arith, length-append names (word ∷ []));

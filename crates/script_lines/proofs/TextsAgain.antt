@@ -26,10 +26,11 @@ use Rattle.script_lines.specs.declared.line.Command.TheVariants as commands
 use Rattle.script_lines.specs.declared.line.Line.{Line}
 use Rattle.script_lines.specs.declared.line.Part.{Part}
 use Rattle.script_lines.specs.declared.line.Part.TheVariants as parts
+use Rattle.script_lines.specs.Known.{Known}
 use Rattle.script_lines.specs.LineLimits.{IsOperand, IsPart, IsLine}
 use Rattle.script_lines.specs.LineReading.{split_at}
 use Rattle.script_lines.specs.LineTexts.{blank_word, joined, line_text}
-use Rattle.script_lines.specs.NameLimits.{is_small_letter, is_name_byte, is_name}
+use Rattle.script_lines.specs.NameLimits.{is_small_letter, is_name_byte, is_name, AreKnown}
 use Rattle.script_lines.specs.Words.{letter_word, variable_word, operator_word, comparison_word, command_word, operand_word, part_word, line_command, line_parts, line_words}
 use Rattle.script_lines.proofs.WordsAgain.{name_passes, some_word}
 
@@ -95,19 +96,38 @@ comparison_is_word comparisons.Different = refl
 comparison_is_word comparisons.Below = refl
 
 command_is_word : (v : Command) → is_word (command_word v) ≡ true
+command_is_word commands.Procedure = refl
 command_is_word commands.Thread = refl
 command_is_word commands.Let = refl
 command_is_word commands.If = refl
 command_is_word commands.Else = refl
 command_is_word commands.While = refl
 command_is_word commands.End = refl
+command_is_word commands.Return = refl
 command_is_word commands.Peek = refl
 command_is_word commands.Get = refl
 command_is_word commands.Post = refl
 command_is_word commands.PostThread = refl
 command_is_word commands.PostQuit = refl
+command_is_word commands.Dispatch = refl
+command_is_word commands.Send = refl
+command_is_word commands.SendTimeout = refl
+command_is_word commands.SendNotify = refl
+command_is_word commands.SendCallback = refl
+command_is_word commands.Reply = refl
+command_is_word commands.InSend = refl
 command_is_word commands.Message = refl
+command_is_word commands.Register = refl
+command_is_word commands.Unregister = refl
+command_is_word commands.IsWindow = refl
+command_is_word commands.Parent = refl
+command_is_word commands.NextTop = refl
+command_is_word commands.Clock = refl
 command_is_word commands.Yield = refl
+command_is_word commands.Sleep = refl
+command_is_word commands.Create = refl
+command_is_word commands.Destroy = refl
+command_is_word commands.Default = refl
 
 operand_is_word : (a : Operand) → IsOperand a → is_word (operand_word a) ≡ true
 operand_is_word (operands.Number n) fits = decimal_word n fits
@@ -152,28 +172,29 @@ name_at_is_word [] k h = refl
 name_at_is_word (x ∷ names) zero h = name_is_word x (and_parts (is_name x) (list_all is_name names) h).0
 name_at_is_word (x ∷ names) (suc k) h = name_at_is_word names k (and_parts (is_name x) (list_all is_name names) h).1
 
-part_is_word : (names : List (List ℕ)) (p : Part) → IsPart p → list_all is_name names ≡ true → is_word (part_word names p) ≡ true
-part_is_word names (parts.Letter v) fits spelled = letter_is_word v
-part_is_word names (parts.Operand a) fits spelled = operand_is_word a fits
-part_is_word names (parts.Operator op) fits spelled = operator_is_word op
-part_is_word names (parts.Comparison c) fits spelled = comparison_is_word c
-part_is_word names (parts.Name k) fits spelled = name_at_is_word names k spelled
+part_is_word : (known : Known) (p : Part) → IsPart p → AreKnown known → is_word (part_word known p) ≡ true
+part_is_word known (parts.Letter v) fits h = letter_is_word v
+part_is_word known (parts.Operand a) fits h = operand_is_word a fits
+part_is_word known (parts.Operator op) fits h = operator_is_word op
+part_is_word known (parts.Comparison c) fits h = comparison_is_word c
+part_is_word known (parts.Name n) fits h = name_at_is_word known.names n h.names.spelled
+part_is_word known (parts.Procedure k) fits h = name_at_is_word known.procedures k h.procedures.spelled
 
-parts_are_words : (names : List (List ℕ)) (ps : List Part) → AllByRecursion IsPart ps → list_all is_name names ≡ true → list_all is_word (map (part_word names) ps) ≡ true
-parts_are_words names [] fits spelled = refl
-parts_are_words names (p ∷ ps) fits spelled = and_from _ _ (part_is_word names p fits.0 spelled) (parts_are_words names ps fits.1 spelled)
+parts_are_words : (known : Known) (ps : List Part) → AllByRecursion IsPart ps → AreKnown known → list_all is_word (map (part_word known) ps) ≡ true
+parts_are_words known [] fits h = refl
+parts_are_words known (p ∷ ps) fits h = and_from _ _ (part_is_word known p fits.0 h) (parts_are_words known ps fits.1 h)
 
 -- a list of words that is a line
 abbrev pub is_line_of_words : List (List ℕ) → Bool
 is_line_of_words [] = false
 is_line_of_words (word ∷ words) = is_word word && list_all is_word words
 
-pub line_is_words : (names : List (List ℕ)) (l : Line) → IsLine l → list_all is_name names ≡ true → is_line_of_words (line_words names l) ≡ true
-line_is_words names l fits spelled = and_from _ _ (command_is_word (line_command l)) (parts_are_words names (line_parts l) fits spelled)
+pub line_is_words : (known : Known) (l : Line) → IsLine l → AreKnown known → is_line_of_words (line_words known l) ≡ true
+line_is_words known l fits h = and_from _ _ (command_is_word (line_command l)) (parts_are_words known (line_parts l) fits h)
 
-pub lines_are_words : (names : List (List ℕ)) (ls : List Line) → AllByRecursion IsLine ls → list_all is_name names ≡ true → list_all is_line_of_words (map (line_words names) ls) ≡ true
-lines_are_words names [] fits spelled = refl
-lines_are_words names (l ∷ ls) fits spelled = and_from _ _ (line_is_words names l fits.0 spelled) (lines_are_words names ls fits.1 spelled)
+pub lines_are_words : (known : Known) (ls : List Line) → AllByRecursion IsLine ls → AreKnown known → list_all is_line_of_words (map (line_words known) ls) ≡ true
+lines_are_words known [] fits h = refl
+lines_are_words known (l ∷ ls) fits h = and_from _ _ (line_is_words known l fits.0 h) (lines_are_words known ls fits.1 h)
 
 -- ---- splitting
 

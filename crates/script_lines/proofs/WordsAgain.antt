@@ -79,19 +79,38 @@ comparison_again comparisons.Below = refl
 
 pub command_again : (v : Command) → command_at (command_word v) ≡ Some v
 unfolding command_at
+command_again commands.Procedure = refl
 command_again commands.Thread = refl
 command_again commands.Let = refl
 command_again commands.If = refl
 command_again commands.Else = refl
 command_again commands.While = refl
 command_again commands.End = refl
+command_again commands.Return = refl
 command_again commands.Peek = refl
 command_again commands.Get = refl
 command_again commands.Post = refl
 command_again commands.PostThread = refl
 command_again commands.PostQuit = refl
+command_again commands.Dispatch = refl
+command_again commands.Send = refl
+command_again commands.SendTimeout = refl
+command_again commands.SendNotify = refl
+command_again commands.SendCallback = refl
+command_again commands.Reply = refl
+command_again commands.InSend = refl
 command_again commands.Message = refl
+command_again commands.Register = refl
+command_again commands.Unregister = refl
+command_again commands.IsWindow = refl
+command_again commands.Parent = refl
+command_again commands.NextTop = refl
+command_again commands.Clock = refl
 command_again commands.Yield = refl
+command_again commands.Sleep = refl
+command_again commands.Create = refl
+command_again commands.Destroy = refl
+command_again commands.Default = refl
 
 -- ---- numbers
 

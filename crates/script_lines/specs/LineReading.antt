@@ -1,6 +1,6 @@
 -- Taking a text apart, loosely: a number may have leading zeros, or be too large. Whether the text is
 -- the spelling of what was found is seen by spelling it again.
-use Rattle.std.specs.Prelude.{ℕ, ◌+◌, ◌-◌, ◌*◌, ◌^◌, min, ◌&&◌, ◌==◌, nat_le, nat_lt, if◌then◌else◌, List, [], ◌∷◌, ◌++◌, length, find, take, codes, slice_index_or, Option, Some, None}
+use Rattle.std.specs.Prelude.{ℕ, ◌+◌, ◌-◌, ◌*◌, ◌^◌, min, ◌&&◌, ◌==◌, nat_le, nat_lt, if◌then◌else◌, List, [], ◌∷◌, ◌++◌, length, find, take, slice_index_or, Option, Some, None}
 use Rattle.std.specs.List.{slice_split, position_from}
 use Rattle.std.specs.Char.{is_ascii_digit}
 use Rattle.std.specs.Str.{bytes_eq}
@@ -20,10 +20,12 @@ use Rattle.script_tree.specs.declared.operand.Comparison.TheVariants as comparis
 use Rattle.script_tree.specs.declared.operand.Test.{Test}
 use Rattle.script_tree.specs.declared.statement.CallStatement.{CallStatement}
 use Rattle.script_tree.specs.declared.statement.CallStatement.TheVariants as calls
+use Rattle.script_tree.specs.declared.statement.Creation.{Creation}
 use Rattle.script_lines.specs.declared.line.Line.{Line}
 use Rattle.script_lines.specs.declared.line.Line.TheVariants as lines
 use Rattle.script_lines.specs.declared.line.Command.{Command}
 use Rattle.script_lines.specs.declared.line.Command.TheVariants as commands
+use Rattle.script_lines.specs.Known.{Known}
 use Rattle.script_lines.specs.NameLimits.{is_name}
 use Rattle.script_lines.specs.Words.{letter_word, variable_word, operator_word, comparison_word, command_word}
 
@@ -74,8 +76,10 @@ all_comparisons = comparisons.Equal ∷ comparisons.Different ∷ comparisons.Be
 
 abbrev pub all_commands : List Command
 all_commands =
-    commands.Thread ∷ commands.Let ∷ commands.If ∷ commands.Else ∷ commands.While ∷ commands.End ∷ commands.Peek ∷ commands.Get ∷
-    commands.Post ∷ commands.PostThread ∷ commands.PostQuit ∷ commands.Message ∷ commands.Yield ∷ []
+    commands.Procedure ∷ commands.Thread ∷ commands.Let ∷ commands.If ∷ commands.Else ∷ commands.While ∷ commands.End ∷ commands.Return ∷
+    commands.Peek ∷ commands.Get ∷ commands.Post ∷ commands.PostThread ∷ commands.PostQuit ∷ commands.Dispatch ∷ commands.Send ∷ commands.SendTimeout ∷
+    commands.SendNotify ∷ commands.SendCallback ∷ commands.Reply ∷ commands.InSend ∷ commands.Message ∷ commands.Register ∷ commands.Unregister ∷ commands.IsWindow ∷
+    commands.Parent ∷ commands.NextTop ∷ commands.Clock ∷ commands.Yield ∷ commands.Sleep ∷ commands.Create ∷ commands.Destroy ∷ commands.Default ∷ []
 
 unfoldable pub letter_at : List ℕ → Option Letter
 letter_at word = find (λ v. bytes_eq (letter_word v) word) all_letters
@@ -144,39 +148,49 @@ compute_at words = do
   b ← operand_at (word_at words 4)
   Some (lines.Compute letter a operator b)
 
-abbrev pub three_at : (Operand → Operand → Operand → CallStatement) → List (List ℕ) → Option CallStatement
-three_at call words = do
+-- the operands of a statement with three of them
+unfoldable pub three_at : List (List ℕ) → Option (Operand × Operand × Operand)
+three_at words = do
   a ← operand_at (word_at words 1)
   b ← operand_at (word_at words 2)
   c ← operand_at (word_at words 3)
-  Some (call a b c)
+  Some (a, b, c)
 
-abbrev pub four_at : (Operand → Operand → Operand → Operand → CallStatement) → List (List ℕ) → Option CallStatement
-four_at call words = do
+-- the first four operands of a statement
+unfoldable pub four_at : List (List ℕ) → Option (Operand × Operand × Operand × Operand)
+four_at words = do
   a ← operand_at (word_at words 1)
   b ← operand_at (word_at words 2)
   c ← operand_at (word_at words 3)
   d ← operand_at (word_at words 4)
-  Some (call a b c d)
+  Some (a, b, c, d)
 
-unfoldable pub get_at : List (List ℕ) → Option CallStatement
-get_at = three_at calls.Get
+unfoldable pub send_timeout_at : List (List ℕ) → Option CallStatement
+send_timeout_at words = do
+  x ← four_at words
+  flags ← operand_at (word_at words 5)
+  ms ← operand_at (word_at words 6)
+  Some (calls.SendTimeout x.0 x.1 x.2 x.3 flags ms)
 
-unfoldable pub peek_at : List (List ℕ) → Option CallStatement
-peek_at = four_at calls.Peek
-
-unfoldable pub post_at : List (List ℕ) → Option CallStatement
-post_at = four_at calls.Post
-
-unfoldable pub post_thread_at : List (List ℕ) → Option CallStatement
-post_thread_at = four_at calls.PostThread
-
-unfoldable pub post_quit_at : List (List ℕ) → Option CallStatement
-post_quit_at words = operand_at (word_at words 1) >>= λ a. Some (calls.PostQuit a)
-
-abbrev pub call_line : Option CallStatement → Option Line
-call_line (Some c) = Some (lines.Call c)
-call_line None = None
+-- the call that begins with this word, where it has no name
+unfoldable pub call_at : Command → List (List ℕ) → Option CallStatement
+call_at commands.Peek words = four_at words >>= λ x. Some (calls.Peek x.0 x.1 x.2 x.3)
+call_at commands.Get words = three_at words >>= λ x. Some (calls.Get x.0 x.1 x.2)
+call_at commands.Post words = four_at words >>= λ x. Some (calls.Post x.0 x.1 x.2 x.3)
+call_at commands.PostThread words = four_at words >>= λ x. Some (calls.PostThread x.0 x.1 x.2 x.3)
+call_at commands.PostQuit words = operand_at (word_at words 1) >>= λ a. Some (calls.PostQuit a)
+call_at commands.Dispatch words = Some calls.Dispatch
+call_at commands.Send words = four_at words >>= λ x. Some (calls.Send x.0 x.1 x.2 x.3)
+call_at commands.SendTimeout words = send_timeout_at words
+call_at commands.SendNotify words = four_at words >>= λ x. Some (calls.SendNotify x.0 x.1 x.2 x.3)
+call_at commands.Reply words = operand_at (word_at words 1) >>= λ a. Some (calls.Reply a)
+call_at commands.InSend words = Some calls.InSend
+call_at commands.IsWindow words = operand_at (word_at words 1) >>= λ a. Some (calls.IsWindow a)
+call_at commands.Parent words = operand_at (word_at words 1) >>= λ a. Some (calls.Parent a)
+call_at commands.NextTop words = operand_at (word_at words 1) >>= λ a. Some (calls.NextTop a)
+call_at commands.Clock words = Some calls.Clock
+call_at commands.Yield words = Some calls.Yield
+call_at _ words = None
 
 -- the line that begins with this word, where it has no name
 unfoldable pub plain_line_at : Command → List (List ℕ) → Option Line
@@ -186,51 +200,125 @@ plain_line_at commands.If words = test_at words >>= λ t. Some (lines.If t)
 plain_line_at commands.Else words = Some lines.Else
 plain_line_at commands.While words = test_at words >>= λ t. Some (lines.While t)
 plain_line_at commands.End words = Some lines.End
-plain_line_at commands.Peek words = call_line (peek_at words)
-plain_line_at commands.Get words = call_line (get_at words)
-plain_line_at commands.Post words = call_line (post_at words)
-plain_line_at commands.PostThread words = call_line (post_thread_at words)
-plain_line_at commands.PostQuit words = call_line (post_quit_at words)
-plain_line_at commands.Message words = None
-plain_line_at commands.Yield words = Some (lines.Call calls.Yield)
+plain_line_at commands.Return words = operand_at (word_at words 1) >>= λ a. Some (lines.Return a)
+plain_line_at commands.Sleep words = operand_at (word_at words 1) >>= λ a. Some (lines.Sleep a)
+plain_line_at commands.Destroy words = operand_at (word_at words 1) >>= λ a. Some (lines.Destroy a)
+plain_line_at commands.Default words = Some lines.Default
+plain_line_at command words = call_at command words >>= λ c. Some (lines.Call c)
 
 -- ---- names
 
 abbrev pub Names : Type 0
 Names = List (List ℕ)
 
--- a name that wasn't there goes to the end
-unfoldable pub new_place : Names → List ℕ → Option (ℕ × Names)
-new_place names word = if is_name word && nat_lt (length names) 1024 then Some (length names, names ++ word ∷ []) else None
+-- the place of a name in a list
+abbrev pub place_in : Names → List ℕ → Option ℕ
+place_in names word = position_from (λ name. bytes_eq name word) 0 names
+
+-- a name that wasn't there goes to the end, where there are fewer than the limit
+unfoldable pub new_place : ℕ → Names → List ℕ → Option (ℕ × Names)
+new_place limit names word = if is_name word && nat_lt (length names) limit then Some (length names, names ++ word ∷ []) else None
 
 abbrev pub place_or_new : Option ℕ → Names → List ℕ → Option (ℕ × Names)
-place_or_new (Some k) names word = Some (k, names)
-place_or_new None names word = new_place names word
+place_or_new (Some n) names word = Some (n, names)
+place_or_new None names word = new_place 1024 names word
 
--- the place of a name, and the names with it
-unfoldable pub place_at : Names → List ℕ → Option (ℕ × Names)
-place_at names word = place_or_new (position_from (λ name. bytes_eq name word) 0 names) names word
+abbrev pub with_names : Known → Option (ℕ × Names) → Option (ℕ × Known)
+with_names known (Some x) = Some (x.0, record known { names = x.1 })
+with_names known None = None
 
-abbrev pub with_names : Names → Option Line → Option (Line × Names)
-with_names names (Some l) = Some (l, names)
-with_names names None = None
+-- the place of a class, a title or a message; a new name goes to the end
+unfoldable pub name_at : Known → List ℕ → Option (ℕ × Known)
+name_at known word = with_names known (place_or_new (place_in known.names word) known.names word)
 
-abbrev pub message_line : Option (ℕ × Names) → Option (Line × Names)
-message_line (Some x) = Some (lines.Call (calls.Message x.0), x.1)
-message_line None = None
+abbrev pub absent_or_none : Option ℕ → Names → List ℕ → Option (ℕ × Names)
+absent_or_none (Some k) names word = None
+absent_or_none None names word = new_place 64 names word
 
--- the line without a name that has these words
-unfoldable pub nameless_at : List (List ℕ) → Option Line
-nameless_at words = command_at (word_at words 0) >>= λ command. plain_line_at command words
+abbrev pub with_procedures : Known → Option (ℕ × Names) → Option (ℕ × Known)
+with_procedures known (Some x) = Some (x.0, record known { procedures = x.1 })
+with_procedures known None = None
+
+-- the place of a procedure that begins: its name goes to the end, and must be new
+unfoldable pub begun_at : Known → List ℕ → Option (ℕ × Known)
+begun_at known word = with_procedures known (absent_or_none (place_in known.procedures word) known.procedures word)
+
+-- the place of a procedure that has begun
+unfoldable pub procedure_at : Known → List ℕ → Option ℕ
+procedure_at known word = place_in known.procedures word
+
+-- ---- lines with names
+
+unfoldable pub procedure_line : Known → List (List ℕ) → Option (Line × Known)
+procedure_line known words = begun_at known (word_at words 1) >>= λ x. Some (lines.Procedure x.0, x.1)
+
+unfoldable pub message_line : Known → List (List ℕ) → Option (Line × Known)
+message_line known words = name_at known (word_at words 1) >>= λ x. Some (lines.Call (calls.Message x.0), x.1)
+
+unfoldable pub unregister_line : Known → List (List ℕ) → Option (Line × Known)
+unregister_line known words = name_at known (word_at words 1) >>= λ x. Some (lines.Call (calls.Unregister x.0), x.1)
+
+unfoldable pub register_line : Known → List (List ℕ) → Option (Line × Known)
+register_line known words = do
+  k ← procedure_at known (word_at words 2)
+  colour ← operand_at (word_at words 3)
+  x ← name_at known (word_at words 1)
+  Some (lines.Call (calls.Register x.0 k colour), x.1)
+
+unfoldable pub send_callback_line : Known → List (List ℕ) → Option (Line × Known)
+send_callback_line known words = do
+  x ← four_at words
+  k ← procedure_at known (word_at words 5)
+  extra ← operand_at (word_at words 6)
+  Some (lines.Call (calls.SendCallback x.0 x.1 x.2 x.3 k extra), known)
+
+abbrev pub creation_of : ℕ → ℕ → Operand → Operand → Operand → Operand → Operand → Operand → Operand → Creation
+creation_of class title parent style extended_style left top right bottom =
+    record { class = class; title = title; parent = parent; style = style; extended_style = extended_style; left = left; top = top; right = right; bottom = bottom }
+
+-- a creation but for its names
+unfoldable pub nameless_creation_at : List (List ℕ) → Option Creation
+nameless_creation_at words = do
+  parent ← operand_at (word_at words 3)
+  style ← operand_at (word_at words 4)
+  extended_style ← operand_at (word_at words 5)
+  left ← operand_at (word_at words 6)
+  top ← operand_at (word_at words 7)
+  right ← operand_at (word_at words 8)
+  bottom ← operand_at (word_at words 9)
+  Some (creation_of 0 0 parent style extended_style left top right bottom)
+
+unfoldable pub create_line : Known → List (List ℕ) → Option (Line × Known)
+create_line known words = do
+  creation ← nameless_creation_at words
+  class ← name_at known (word_at words 1)
+  title ← name_at class.1 (word_at words 2)
+  Some (lines.Create (record creation { class = class.0; title = title.0 }), title.1)
+
+-- ---- all lines
+
+abbrev pub with_known : Known → Option Line → Option (Line × Known)
+with_known known (Some l) = Some (l, known)
+with_known known None = None
+
+-- the line that begins with this word, and the names with those in it
+unfoldable pub line_of : Known → Command → List (List ℕ) → Option (Line × Known)
+line_of known commands.Procedure words = procedure_line known words
+line_of known commands.SendCallback words = send_callback_line known words
+line_of known commands.Message words = message_line known words
+line_of known commands.Register words = register_line known words
+line_of known commands.Unregister words = unregister_line known words
+line_of known commands.Create words = create_line known words
+line_of known command words = with_known known (plain_line_at command words)
 
 -- the line with these words, and the names with those in it
-unfoldable pub line_at : Names → List (List ℕ) → Option (Line × Names)
-line_at names words = if bytes_eq (word_at words 0) (codes "message") then message_line (place_at names (word_at words 1)) else with_names names (nameless_at words)
+unfoldable pub line_at : Known → List (List ℕ) → Option (Line × Known)
+line_at known words = command_at (word_at words 0) >>= λ command. line_of known command words
 
 -- the lines, and the names with those in them
-unfoldable pub lines_at : Names → List (List ℕ) → Option (List Line × Names)
-lines_at names [] = Some ([], names)
-lines_at names (text ∷ more) = line_at names (split_at 32 text) >>= λ first. lines_at first.1 more >>= λ others. Some (first.0 ∷ others.0, others.1)
+unfoldable pub lines_at : Known → List (List ℕ) → Option (List Line × Known)
+lines_at known [] = Some ([], known)
+lines_at known (text ∷ more) = line_at known (split_at 32 text) >>= λ first. lines_at first.1 more >>= λ others. Some (first.0 ∷ others.0, others.1)
 
 -- ---- texts
 

@@ -1,4 +1,4 @@
-//! The words and the lines of a script's threads, both ways: a line from its words, and its text.
+//! The words and the lines of a script's procedures and threads, both ways: a line from its words, and its text.
 #![tactic(auto)]
 
 mod line;
@@ -11,6 +11,7 @@ mod words;
 pub use line::{Command, Line, Part};
 pub use line_reader::{lines_at, split_at, texts_of, word_at};
 pub use line_writer::put_line;
+pub use names::Names;
 pub use operands::{NameTables, number_at};
 
 #[cfg(test)]

@@ -1,10 +1,12 @@
-//! The lines of a thread.
+//! The lines of procedures and threads.
 
-use script_tree::{CallStatement, Comparison, Letter, Operand, Operator, Test};
+use script_tree::{CallStatement, Comparison, Creation, Letter, Operand, Operator, Test};
 
-/// A line of a thread.
+/// A line of a procedure or a thread.
 #[derive(Clone, Copy)]
 pub enum Line {
+    /// `proc NAME`: the place of the name in the list of procedures, from 0.
+    Procedure(u32),
     /// `thread`
     Thread,
     /// `let V A`
@@ -19,26 +21,55 @@ pub enum Line {
     While(Test),
     /// `end`
     End,
+    /// `return A`
+    Return(Operand),
     /// A call with its operands.
     Call(CallStatement),
+    /// `sleep MS`
+    Sleep(Operand),
+    /// `create CLASS TITLE PARENT STYLE EX L T R B`
+    Create(Creation),
+    /// `destroy W`
+    Destroy(Operand),
+    /// `default`
+    Default,
 }
 
-/// The first word of a line of a thread.
+/// The first word of a line.
 #[derive(Clone, Copy)]
 pub enum Command {
+    Procedure,
     Thread,
     Let,
     If,
     Else,
     While,
     End,
+    Return,
     Peek,
     Get,
     Post,
     PostThread,
     PostQuit,
+    Dispatch,
+    Send,
+    SendTimeout,
+    SendNotify,
+    SendCallback,
+    Reply,
+    InSend,
     Message,
+    Register,
+    Unregister,
+    IsWindow,
+    Parent,
+    NextTop,
+    Clock,
     Yield,
+    Sleep,
+    Create,
+    Destroy,
+    Default,
 }
 
 /// A word of a line after the first.
@@ -50,4 +81,6 @@ pub enum Part {
     Comparison(Comparison),
     /// The place of a name in the list of names, from 0.
     Name(u32),
+    /// The place of a procedure's name in the list of procedures, from 0.
+    Procedure(u32),
 }

@@ -45,20 +45,39 @@ static OPERATORS: [Operator; 4] = [Operator::Plus, Operator::Minus, Operator::An
 
 static COMPARISONS: [Comparison; 3] = [Comparison::Equal, Comparison::Different, Comparison::Below];
 
-static COMMANDS: [Command; 13] = [
+static COMMANDS: [Command; 32] = [
+    Command::Procedure,
     Command::Thread,
     Command::Let,
     Command::If,
     Command::Else,
     Command::While,
     Command::End,
+    Command::Return,
     Command::Peek,
     Command::Get,
     Command::Post,
     Command::PostThread,
     Command::PostQuit,
+    Command::Dispatch,
+    Command::Send,
+    Command::SendTimeout,
+    Command::SendNotify,
+    Command::SendCallback,
+    Command::Reply,
+    Command::InSend,
     Command::Message,
+    Command::Register,
+    Command::Unregister,
+    Command::IsWindow,
+    Command::Parent,
+    Command::NextTop,
+    Command::Clock,
     Command::Yield,
+    Command::Sleep,
+    Command::Create,
+    Command::Destroy,
+    Command::Default,
 ];
 
 /// The word of a letter.
@@ -125,19 +144,38 @@ pub fn command_word(command: Command) -> &'static [u8]
     ensures { result.now ≡ command_word command }
 {
     match command {
+        Command::Procedure => b"proc",
         Command::Thread => b"thread",
         Command::Let => b"let",
         Command::If => b"if",
         Command::Else => b"else",
         Command::While => b"while",
         Command::End => b"end",
+        Command::Return => b"return",
         Command::Peek => b"peek",
         Command::Get => b"get",
         Command::Post => b"post",
         Command::PostThread => b"post_thread",
         Command::PostQuit => b"post_quit",
+        Command::Dispatch => b"dispatch",
+        Command::Send => b"send",
+        Command::SendTimeout => b"send_timeout",
+        Command::SendNotify => b"send_notify",
+        Command::SendCallback => b"send_callback",
+        Command::Reply => b"reply",
+        Command::InSend => b"in_send",
         Command::Message => b"message",
+        Command::Register => b"register",
+        Command::Unregister => b"unregister",
+        Command::IsWindow => b"is_window",
+        Command::Parent => b"parent",
+        Command::NextTop => b"next_top",
+        Command::Clock => b"clock",
         Command::Yield => b"yield",
+        Command::Sleep => b"sleep",
+        Command::Create => b"create",
+        Command::Destroy => b"destroy",
+        Command::Default => b"default",
     }
 }
 

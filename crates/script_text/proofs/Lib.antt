@@ -1,4 +1,5 @@
 pub mod BuildLemmas
 pub mod Puts
 pub mod LimitLemmas
+pub mod Counting
 pub mod PartsAgain

@@ -1,28 +1,33 @@
 -- The limits as tests.
 use Rattle.std.proofs.Common.{◌≡◌, ℕ, ◌+◌, ◌≤◌, ◌<◌, Bool, true, false, List, length, drop, get_or, Option, Some, None, refl, ap, sym, ◌∙◌, arith}
-use Rattle.std.specs.Prelude.{◌&&◌, nat_lt, nat_le, if◌then◌else◌}
+use Rattle.std.specs.Prelude.{◌&&◌, nat_lt, nat_le}
 use Rattle.std.specs.List.{list_all, AllByRecursion}
 use Rattle.std.proofs.lemmas.Bool.{false≢true}
 use Rattle.std.proofs.lemmas.Bool.Decides.{nat_tests}
-use Rattle.std.proofs.lemmas.List.{drop_more}
+use Rattle.std.proofs.lemmas.List.{drop_more, length-map}
 use Rattle.script_tree.specs.Tree.{Tree}
 use Rattle.script_lines.specs.declared.line.Line.{Line}
 use Rattle.script_lines.specs.LineLimits.{IsLine}
-use Rattle.script_lines.specs.NameLimits.{AreNames, within_count, all_seen, seen_on, seen_all, are_in_order}
-use Rattle.script_lines.proofs.LinesAgain.{none_seen}
+use Rattle.script_lines.specs.Known.{known_of}
+use Rattle.script_lines.specs.NameLimits.{AreKnown, names_in_line, all_seen, seen_after, seen_all, are_in_order, begun_after, begun_all, are_procedures_in_order}
+use Rattle.script_lines.proofs.LinesAgain.{none_seen, none_begun}
 use Rattle.script_text.specs.Limits.{IsScript, is_turn, is_within}
-use Rattle.script_text.specs.Lines.{script_lines}
+use Rattle.script_text.specs.Lines.{names_of, script_lines}
 use Rattle.script_text.specs.Nesting.{nests}
+use Rattle.script_text.specs.Programs.{IsFitting}
 use Rattle.script_text.specs.Spelling.{spelling}
 
--- a line whose name is out of order
-pub unseen : (count : ℕ) (lines : List Line) (i : ℕ) (d : Line) (seen : ℕ) → i < length lines → seen_on count (Some seen) (get_or lines i d) ≡ None → seen_all count (Some seen) (drop i lines) ≡ seen_all count (Some 0) lines → are_in_order count lines ≡ false
+-- a line with a name that is out of order
+pub unseen : (count : ℕ) (lines : List Line) (i : ℕ) (d : Line) (seen : ℕ) → i < length lines → seen_after count (Some seen) (names_in_line (get_or lines i d)) ≡ None → seen_all count (Some seen) (drop i lines) ≡ seen_all count (Some 0) lines → are_in_order count lines ≡ false
 unseen count lines i d seen lt none so_far =
     let total : seen_all count (Some 0) lines ≡ None = sym so_far ∙ ap (seen_all count (Some seen)) (drop_more lines i d lt) ∙ ap (λ (o : Option ℕ). seen_all count o (drop (i + 1) lines)) none ∙ none_seen count (drop (i + 1) lines) in
     ap (all_seen count) total
 
-pub past_count : (count n : ℕ) (o : Option ℕ) → count < n → Some n ≡ o → within_count count o ≡ None
-past_count count n o lt e = let hit : nat_lt count n ≡ true = grind (arith, nat_tests) in ap (within_count count) (sym e) ∙ ap (λ (b : Bool). if b then None else Some n) hit
+-- a line with a procedure that is out of order
+pub unbegun : (count : ℕ) (lines : List Line) (i : ℕ) (d : Line) (begun : ℕ) → i < length lines → begun_after count (Some begun) (get_or lines i d) ≡ None → begun_all count (Some begun) (drop i lines) ≡ begun_all count (Some 0) lines → are_procedures_in_order count lines ≡ false
+unbegun count lines i d begun lt none so_far =
+    let total : begun_all count (Some 0) lines ≡ None = sym so_far ∙ ap (begun_all count (Some begun)) (drop_more lines i d lt) ∙ ap (λ (o : Option ℕ). begun_all count o (drop (i + 1) lines)) none ∙ none_begun count (drop (i + 1) lines) in
+    ap (all_seen count) total
 
 both : (a b : Bool) → a ≡ true → b ≡ true → (a && b) ≡ true
 both true b p q = q
@@ -50,8 +55,8 @@ within_of s script =
     (both _ _ (le_test 1 s.budget (omega (arith, script.budget.0))) (both _ _ (le_test s.budget 65536 script.budget.1) (both _ _ script.turns (both _ _ (le_test (length s.order) 65536 script.few_turns)
     (both _ _ (lt_test 0 (length s.threads) script.threads.0) (le_test (length s.threads) 15 script.threads.1)))))))))
 
-pub script_of : (s : Tree) → is_within s ≡ true → AreNames s.names → AllByRecursion IsLine (script_lines s) → are_in_order (length s.names) (script_lines s) ≡ true → nests (script_lines s) ≡ true → length (spelling s) ≤ 1048576 → IsScript s
-script_of s e named fits ordered nested short =
+script_of : (s : Tree) → is_within s ≡ true → AreKnown (known_of s) → AllByRecursion IsLine (script_lines s) → are_in_order (length s.names) (script_lines s) ≡ true → are_procedures_in_order (length s.procedures) (script_lines s) ≡ true → nests (script_lines s) ≡ true → length (spelling s) ≤ 1048576 → IsScript s
+script_of s e named fits ordered begun nested short =
     let a1 = first_two (nat_le 1 s.width) _ e in
     let a2 = first_two (nat_le s.width 128) _ a1.1 in
     let a3 = first_two (nat_le 1 s.height) _ a2.1 in
@@ -71,6 +76,15 @@ script_of s e named fits ordered nested short =
       threads = (lt_told 0 (length s.threads) a9.0, le_told (length s.threads) 15 a9.1);
       lines = fits;
       in_order = ordered;
+      procedures_in_order = begun;
       nested = nested;
       short = short;
     }
+
+-- what was found is a script where its text is short enough
+pub fitting_script : (s : Tree) (bytes : List ℕ) → IsFitting s → bytes ≡ spelling s → length bytes ≤ 1048576 → IsScript s
+fitting_script s bytes h e short =
+    let many : length (names_of s.procedures) ≡ length s.procedures = length-map s.procedures (λ p. p.name) in
+    let begun : are_procedures_in_order (length s.procedures) (script_lines s) ≡ true = ap (λ (n : ℕ). are_procedures_in_order n (script_lines s)) (sym many) ∙ h.program.procedures_in_order in
+    let len : length (spelling s) ≤ 1048576 = omega (arith, short, ap length e) in
+    script_of s h.within h.program.named h.program.fits h.program.in_order begun h.program.nested len

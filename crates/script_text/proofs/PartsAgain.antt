@@ -1,30 +1,33 @@
 -- A text that spells a script is taken apart into it.
-use Rattle.std.proofs.Common.{◌≡◌, ℕ, zero, suc, ◌+◌, ◌-◌, ◌^◌, ◌≤◌, ◌<◌, Bool, true, List, [], ◌∷◌, ◌++◌, length, take, drop, Option, Some, None, refl, ap, sym, ◌∙◌, append_assoc, arith, length-append, length-drop, append-nil, subst}
-use Rattle.std.proofs.lemmas.List.{take_all, length-map}
+use Rattle.std.proofs.Common.{◌≡◌, ℕ, zero, suc, ◌+◌, ◌-◌, ◌^◌, ◌≤◌, ◌<◌, Bool, true, List, [], ◌∷◌, ◌++◌, length, take, drop, get_or, Option, Some, None, refl, ap, sym, ◌∙◌, append_assoc, arith, length-append, length-drop, append-nil, subst}
+use Rattle.std.proofs.Math.Seq.{get_or-append_seam}
+use Rattle.std.proofs.lemmas.List.{take_all, length-map, map-append}
 use Rattle.std.specs.Prelude.{codes, decimal, map, min, nat_lt, nat_le, ◌&&◌}
-use Rattle.std.specs.List.{list_all, flat_map}
+use Rattle.std.specs.List.{AllByRecursion, list_all, flat_map, zip}
 use Rattle.std.proofs.lemmas.Bool.{and_parts, and_from}
 use Rattle.std.proofs.lemmas.Bool.Decides.{nat_tests}
 use Rattle.std.proofs.lemmas.List.Concat.{flat_map-append}
-use Rattle.script_tree.specs.Tree.{Tree}
-use Rattle.script_tree.specs.declared.statement.Statement.{Statement, Row_of-Statement, end_of-Statement, more_of-Statement}
-use Rattle.script_tree.specs.declared.statement.Statement.TheVariants as statements
+use Rattle.script_tree.specs.Tree.{ProcedureTree, Tree}
+use Rattle.script_tree.specs.declared.statement.Statement.{Statement}
 use Rattle.script_lines.specs.declared.line.Line.{Line}
 use Rattle.script_lines.specs.declared.line.Line.TheVariants as lines
+use Rattle.script_lines.specs.Known.{Known, nothing_known, known_of}
+use Rattle.script_lines.specs.LineLimits.{IsLine}
 use Rattle.script_lines.specs.LineReading.{Names, split_at, word_at, texts_of, lines_at}
 use Rattle.script_lines.specs.LineTexts.{blank_word, joined, line_text}
-use Rattle.script_lines.specs.NameLimits.{are_in_order}
+use Rattle.script_lines.specs.NameLimits.{AreKnown, are_in_order, are_procedures_in_order}
 use Rattle.script_lines.specs.Words.{line_words}
 use Rattle.script_text.specs.Limits.{IsScript, is_turn, is_within}
-use Rattle.script_text.specs.Lines.{script_lines, thread_lines, statement_lines, row_lines, body_lines}
+use Rattle.script_text.specs.Lines.{body_lines, thread_lines, procedure_lines, numbered_lines, procedure_of, names_of, bodies_of, code_lines, script_lines}
 use Rattle.script_text.specs.Nesting.{nests}
 use Rattle.script_text.specs.Programs.{IsProgram, IsFitting}
 use Rattle.script_text.specs.Reading.{small_number_at, width_at, height_at, budget_at, order_at}
 use Rattle.script_text.specs.Refusals.{IsSame}
-use Rattle.script_text.specs.Spelling.{head_words, script_words, head_text, spelling}
+use Rattle.script_text.specs.Spelling.{head_words, script_words, head_text, procedure_words, spelling}
 use Rattle.script_lines.proofs.WordsAgain.{number_again}
 use Rattle.script_lines.proofs.TextsAgain.{is_word, decimal_word, is_line_of_words, lines_are_words, words_again, texts_again}
 use Rattle.script_lines.proofs.LinesAgain.{lines_again}
+use Rattle.script_text.proofs.Counting.{same_threads, as_many}
 
 front : (xs : List (List ℕ)) (x : List ℕ) → take (length xs) (xs ++ x ∷ []) ≡ xs
 front [] x = refl
@@ -54,7 +57,7 @@ budget_words s h = let n : s.budget < 2 ^ 64 = omega (arith, h.budget.1) in and_
 
 all_words : (s : Tree) → IsScript s → list_all is_line_of_words (script_words s) ≡ true
 all_words s h =
-    and_from true _ refl (and_from _ _ (screen_words s h) (and_from _ _ (budget_words s h) (and_from _ _ (turns_words s.order h.turns) (lines_are_words s.names (script_lines s) h.lines h.named.spelled))))
+    and_from true _ refl (and_from _ _ (screen_words s h) (and_from _ _ (budget_words s h) (and_from _ _ (turns_words s.order h.turns) (lines_are_words (known_of s) (script_lines s) h.lines h.named))))
 
 pub texts_found : (s : Tree) → IsScript s → texts_of (spelling s) ≡ map joined (script_words s)
 unfolding texts_of spelling
@@ -105,7 +108,7 @@ pub record Apart (texts : List (List ℕ)) (s : Tree) : Type 0 where
   pub is_height : height_at texts ≡ s.height
   pub is_budget : budget_at texts ≡ s.budget
   pub is_order : order_at texts ≡ s.order
-  pub rest : drop 4 texts ≡ map joined (map (line_words s.names) (script_lines s))
+  pub rest : drop 4 texts ≡ map joined (map (line_words (known_of s)) (script_lines s))
   pub long : 4 ≤ length texts
 
 apart_spelled : (s : Tree) → IsScript s → Apart (map joined (script_words s)) s
@@ -117,40 +120,29 @@ apart s bytes texts h e same =
     let P : List (List ℕ) → Type 0 = λ l. Apart l s in
     subst P (sym all) (apart_spelled s h)
 
-pub program_of : (s : Tree) → IsScript s → IsProgram s.names (script_lines s)
-program_of s h = record { named = h.named; fits = h.lines; in_order = h.in_order; nested = h.nested }
+pub program_of : (s : Tree) → IsScript s → IsProgram (known_of s) (script_lines s)
+program_of s h =
+    let many : length (names_of s.procedures) ≡ length s.procedures = length-map s.procedures (λ p. p.name) in
+    record { named = h.named; fits = h.lines; in_order = h.in_order; procedures_in_order = ap (λ (n : ℕ). are_procedures_in_order n (script_lines s)) many ∙ h.procedures_in_order; nested = h.nested }
 
-pub program_found : (names seen : Names) (lines : List Line) (texts : List (List ℕ)) → seen ≡ [] → IsProgram names lines → texts ≡ map joined (map (line_words names) lines) → lines_at seen texts ≡ Some (lines, names)
-program_found names seen lines texts none h e =
-    ap (λ (n : Names). lines_at n texts) none ∙ ap (lines_at []) e ∙ lines_again names 0 lines h.fits h.named (omega arith) h.in_order
+pub program_found : (known seen : Known) (lines : List Line) (texts : List (List ℕ)) → seen ≡ nothing_known → IsProgram known lines → texts ≡ map joined (map (line_words known) lines) → lines_at seen texts ≡ Some (lines, known)
+program_found known seen lines texts none h e =
+    ap (λ (k : Known). lines_at k texts) none ∙ ap (lines_at nothing_known) e ∙ lines_again known 0 0 lines h.fits h.named (omega arith) (omega arith) h.in_order h.procedures_in_order
 
-pub same_pair : (a c : List Line) (b d : Names) → (let x : Option (List Line × Names) = Some (a, b) in let y : Option (List Line × Names) = Some (c, d) in x ≡ y) → (a ≡ c) × (b ≡ d)
+same_pair : (a c : List Line) (b d : Known) → (let x : Option (List Line × Known) = Some (a, b) in let y : Option (List Line × Known) = Some (c, d) in x ≡ y) → (a ≡ c) × (b ≡ d)
 same_pair a c b d e =
-    let f : Option (List Line × Names) → List Line × Names = λ o. elim o [ None ↦ (a, b) | Some p ↦ p ] in
+    let f : Option (List Line × Known) → List Line × Known = λ o. elim o [ None ↦ (a, b) | Some p ↦ p ] in
     let p = ap f e in
-    (ap (λ (q : List Line × Names). q.0) p, ap (λ (q : List Line × Names). q.1) p)
+    (ap (λ (q : List Line × Known). q.0) p, ap (λ (q : List Line × Known). q.1) p)
 
-abbrev pub Texts : Names → List Line → List (List ℕ)
-Texts names lines = map joined (map (line_words names) lines)
+abbrev pub Texts : Known → List Line → List (List ℕ)
+Texts known lines = map joined (map (line_words known) lines)
 
-pub no_lines : (names seen : Names) (lines : List Line) (texts : List (List ℕ)) → seen ≡ [] → IsProgram names lines → texts ≡ Texts names lines → None ≡ lines_at seen texts → ⊥
-no_lines names seen lines texts none h e clash = let f : None ≡ Some (lines, names) = clash ∙ program_found names seen lines texts none h e in absurd (cc f)
+pub no_lines : (known seen : Known) (lines : List Line) (texts : List (List ℕ)) → seen ≡ nothing_known → IsProgram known lines → texts ≡ Texts known lines → None ≡ lines_at seen texts → ⊥
+no_lines known seen lines texts none h e clash = let f : None ≡ Some (lines, known) = clash ∙ program_found known seen lines texts none h e in absurd (cc f)
 
-pub these_lines : (names ns seen : Names) (lines ls : List Line) (texts : List (List ℕ)) → seen ≡ [] → IsProgram names lines → texts ≡ Texts names lines → Some (ls, ns) ≡ lines_at seen texts → (ls ≡ lines) × (ns ≡ names)
-these_lines names ns seen lines ls texts none h e found = same_pair ls lines ns names (found ∙ program_found names seen lines texts none h e)
-
-pub order_kept : (count : ℕ) (lent lines : List Line) (ns names : Names) → lent ≡ lines → count ≡ length ns → ns ≡ names → IsProgram names lines → are_in_order count lent ≡ true
-order_kept count lent lines ns names same len named h =
-    ap (are_in_order count) same ∙ ap (λ (n : ℕ). are_in_order n lines) (len ∙ ap length named) ∙ h.in_order
-
-pub nests_kept : (lent lines : List Line) (names : Names) → lent ≡ lines → IsProgram names lines → nests lent ≡ true
-nests_kept lent lines names same h = ap nests same ∙ h.nested
-
-pub order_told : (count : ℕ) (lent ls : List Line) (ns : Names) → lent ≡ ls → count ≡ length ns → are_in_order count lent ≡ true → are_in_order (length ns) ls ≡ true
-order_told count lent ls ns same len h = sym (ap (are_in_order count) same ∙ ap (λ (n : ℕ). are_in_order n ls) len) ∙ h
-
-pub fitting : (t : Tree) → is_within t ≡ true → IsProgram t.names (script_lines t) → IsFitting t
-fitting t h g = record { within = h; program = g }
+pub these_lines : (known found seen : Known) (lines ls : List Line) (texts : List (List ℕ)) → seen ≡ nothing_known → IsProgram known lines → texts ≡ Texts known lines → Some (ls, found) ≡ lines_at seen texts → (ls ≡ lines) × (found ≡ known)
+these_lines known found seen lines ls texts none h e same = same_pair ls lines found known (same ∙ program_found known seen lines texts none h e)
 
 -- ---- through the code's slices
 
@@ -162,7 +154,7 @@ map_drop read (suc n) (x ∷ xs) = map_drop read n xs
 pub apart_of : {R : Type 0} (read : R → List ℕ) (s : Tree) (bytes : List ℕ) (own lent : List R) → IsScript s → bytes ≡ spelling s → map read own ≡ texts_of bytes → lent ≡ own → Apart (map read lent) s
 apart_of {R = R} read s bytes own lent h e same borrowed = apart s bytes (map read lent) h e (ap (map read) borrowed ∙ same)
 
-pub rest_of : {R : Type 0} (read : R → List ℕ) (s : Tree) (lent : List R) → Apart (map read lent) s → map read (take (length lent - 4) (drop 4 lent)) ≡ Texts s.names (script_lines s)
+pub rest_of : {R : Type 0} (read : R → List ℕ) (s : Tree) (lent : List R) → Apart (map read lent) s → map read (take (length lent - 4) (drop 4 lent)) ≡ Texts (known_of s) (script_lines s)
 rest_of {R = R} read s lent a =
     let len : length (drop 4 lent) ≤ length lent - 4 = omega (arith, length-drop 4 lent) in
     ap (map read) (take_all (length lent - 4) (drop 4 lent) len) ∙ map_drop read 4 lent ∙ a.rest
@@ -170,49 +162,66 @@ rest_of {R = R} read s lent a =
 pub too_short : {R : Type 0} (read : R → List ℕ) (s : Tree) (lent : List R) → Apart (map read lent) s → length lent < 4 → ⊥
 too_short read s lent a lt = omega (arith, a.long, length-map lent read)
 
--- ---- how many threads there are
+-- ---- procedures of names and bodies
 
-abbrev one_for : Line → ℕ
-one_for lines.Thread = 1
-one_for (lines.Let v a) = 0
-one_for (lines.Compute v a op b) = 0
-one_for (lines.If t) = 0
-one_for lines.Else = 0
-one_for (lines.While t) = 0
-one_for lines.End = 0
-one_for (lines.Call c) = 0
+zipped_names : (names : Names) (bodies : List (List Statement)) → length names ≡ length bodies → names_of (map procedure_of (zip names bodies)) ≡ names
+zipped_names [] bodies e = refl
+zipped_names (name ∷ names) [] e = absurd (omega arith)
+zipped_names (name ∷ names) (body ∷ bodies) e = ap (λ (l : Names). name ∷ l) (zipped_names names bodies (omega arith))
 
-abbrev threads_in : List Line → ℕ
-threads_in [] = 0
-threads_in (l ∷ ls) = one_for l + threads_in ls
+zipped_bodies : (names : Names) (bodies : List (List Statement)) → length names ≡ length bodies → bodies_of (map procedure_of (zip names bodies)) ≡ bodies
+zipped_bodies [] [] e = refl
+zipped_bodies [] (body ∷ bodies) e = absurd (omega arith)
+zipped_bodies (name ∷ names) [] e = absurd (omega arith)
+zipped_bodies (name ∷ names) (body ∷ bodies) e = ap (λ (l : List (List Statement)). body ∷ l) (zipped_bodies names bodies (omega arith))
 
-threads_append : (a c : List Line) → threads_in (a ++ c) ≡ threads_in a + threads_in c
-threads_append [] c = omega arith
-threads_append (l ∷ a) c = omega (arith, threads_append a c)
+-- what the names and the procedures of a tree are known by
+abbrev pub known_by : Names → List ProcedureTree → Known
+known_by names procedures = record { names = names; procedures = names_of procedures }
 
-mutual
-  none_inside : (st : Statement) → threads_in (statement_lines st) ≡ 0
-  none_inside (statements.Let v a) = refl
-  none_inside (statements.Compute v a op b) = refl
-  none_inside (statements.If' t k a) = omega (arith, threads_append (row_lines a) (lines.End ∷ []), none_in_row a)
-  none_inside (statements.IfElse' t k a j c) = omega (arith, threads_append (row_lines a) (lines.Else ∷ (row_lines c ++ lines.End ∷ [])), threads_append (row_lines c) (lines.End ∷ []), none_in_row a, none_in_row c)
-  none_inside (statements.While' t k a) = omega (arith, threads_append (row_lines a) (lines.End ∷ []), none_in_row a)
-  none_inside (statements.Call c) = refl
+-- what was found has these names, these procedures' names and these lines
+abbrev pub IsFound : Names → List ProcedureTree → List (List Statement) → Known → List Line → Type 0
+IsFound names made threads known lines = (names ≡ known.names) × (names_of made ≡ known.procedures) × (code_lines (bodies_of made) threads ≡ lines)
 
-  none_in_row : {m : _} (row : Row_of-Statement m) → threads_in (row_lines row) ≡ 0
-  none_in_row end_of-Statement = refl
-  none_in_row (more_of-Statement st rest) = omega (arith, threads_append (statement_lines st) (row_lines rest), none_inside st, none_in_row rest)
+pub found_parts : (known : Known) (names titles : Names) (count : ℕ) (ls lent built : List Line) (bodies threads : List (List Statement)) (made : List ProcedureTree) → names ≡ known.names → titles ≡ known.procedures → count ≡ length titles → lent ≡ ls → built ≡ ls
+    → are_procedures_in_order count lent ≡ true → code_lines bodies threads ≡ built → made ≡ map procedure_of (zip titles bodies) → IsFound names made threads known ls
+found_parts known names titles count ls lent built bodies threads made named titled len same both ordered e zipped =
+    let many : length titles ≡ length bodies = as_many count titles bodies threads ls len (ap (are_procedures_in_order count) (sym same) ∙ ordered) (e ∙ both) in (
+      named,
+      ap names_of zipped ∙ zipped_names titles bodies many ∙ titled,
+      ap (λ (b : List (List Statement)). code_lines b threads) (ap bodies_of zipped ∙ zipped_bodies titles bodies many) ∙ e ∙ both,
+    )
 
-none_in_body : (body : List Statement) → threads_in (body_lines body) ≡ 0
-none_in_body [] = refl
-none_in_body (st ∷ body) = omega (arith, threads_append (statement_lines st) (body_lines body), none_inside st, none_in_body body)
+-- what was found is a program
+pub found_program : (known : Known) (names : Names) (made : List ProcedureTree) (threads : List (List Statement)) (ls : List Line) → IsFound names made threads known ls → IsProgram known ls → IsProgram (known_by names made) (code_lines (bodies_of made) threads)
+found_program known names made threads ls found h =
+    let P : Known → Type 0 = λ k. IsProgram k (code_lines (bodies_of made) threads) in
+    let Q : List Line → Type 0 = IsProgram known in
+    let same : known ≡ known_by names made = ap (λ (x : Names). record { names = x; procedures = known.procedures }) (sym found.0) ∙ ap (λ (x : Names). record { names = names; procedures = x }) (sym found.1) in
+    subst P same (subst Q (sym found.2) h)
 
-threads_counted : (threads : List (List Statement)) → threads_in (flat_map thread_lines threads) ≡ length threads
-threads_counted [] = refl
-threads_counted (body ∷ threads) = omega (arith, threads_append (thread_lines body) (flat_map thread_lines threads), threads_append (body_lines body) (lines.End ∷ []), none_in_body body, threads_counted threads)
+-- lines and names that are within the limits are a program
+pub is_program : (known : Known) (a b : ℕ) (ls lent built : List Line) → AreKnown known → AllByRecursion IsLine ls → a ≡ length known.names → b ≡ length known.procedures → lent ≡ ls → built ≡ ls → (are_in_order a lent && are_procedures_in_order b lent) ≡ true → nests built ≡ true → IsProgram known ls
+is_program known a b ls lent built named fits is_a is_b same both ordered nest =
+    let two = and_parts (are_in_order a lent) (are_procedures_in_order b lent) ordered in
+    record {
+      named = named;
+      fits = fits;
+      in_order = ap (λ (n : ℕ). are_in_order n ls) (sym is_a) ∙ ap (are_in_order a) (sym same) ∙ two.0;
+      procedures_in_order = ap (λ (n : ℕ). are_procedures_in_order n ls) (sym is_b) ∙ ap (are_procedures_in_order b) (sym same) ∙ two.1;
+      nested = ap nests (sym both) ∙ nest;
+    }
 
-same_count : (a c : List (List Statement)) → flat_map thread_lines a ≡ flat_map thread_lines c → length a ≡ length c
-same_count a c e = sym (threads_counted a) ∙ ap threads_in e ∙ threads_counted c
+pub order_kept : (known found : Known) (a b : ℕ) (lines ls lent : List Line) → IsProgram known lines → (ls ≡ lines) × (found ≡ known) → a ≡ length found.names → b ≡ length found.procedures → lent ≡ ls → (are_in_order a lent && are_procedures_in_order b lent) ≡ true
+order_kept known found a b lines ls lent h two is_a is_b same =
+    and_from _ _
+    (ap (are_in_order a) (same ∙ two.0) ∙ ap (λ (n : ℕ). are_in_order n lines) (is_a ∙ ap (λ (k : Known). length k.names) two.1) ∙ h.in_order)
+    (ap (are_procedures_in_order b) (same ∙ two.0) ∙ ap (λ (n : ℕ). are_procedures_in_order n lines) (is_b ∙ ap (λ (k : Known). length k.procedures) two.1) ∙ h.procedures_in_order)
+
+pub nests_kept : (known : Known) (lines ls lent : List Line) → IsProgram known lines → ls ≡ lines → lent ≡ ls → nests lent ≡ true
+nests_kept known lines ls lent h e same = ap nests (same ∙ e) ∙ h.nested
+
+-- ---- the tree that was found
 
 abbrev within_form : ℕ → ℕ → ℕ → List ℕ → ℕ → Bool
 within_form w v n turns count = nat_le 1 w && (nat_le w 128 && (nat_le 1 v && (nat_le v 64 && (nat_le 1 n && (nat_le n 65536 && (list_all is_turn turns && (nat_le (length turns) 65536 && (nat_lt 0 count && nat_le count 15))))))))
@@ -224,51 +233,63 @@ within_same s t h within =
     ∙ ap (λ (x : ℕ). within_form s.width x t.budget t.order (length t.threads)) h.height
     ∙ ap (λ (x : ℕ). within_form s.width s.height x t.order (length t.threads)) h.budget
     ∙ ap (λ (x : List ℕ). within_form s.width s.height s.budget x (length t.threads)) h.order
-    ∙ ap (within_form s.width s.height s.budget s.order) (same_count t.threads s.threads h.lines)
+    ∙ ap (within_form s.width s.height s.budget s.order) (same_threads (bodies_of t.procedures) t.threads (bodies_of s.procedures) s.threads h.lines)
     ∙ within
 
-abbrev tree_of : ℕ → ℕ → ℕ → List ℕ → Names → List (List Statement) → Tree
-tree_of w v n turns names threads = record { width = w; height = v; budget = n; order = turns; names = names; threads = threads }
+abbrev pub tree_of : ℕ → ℕ → ℕ → List ℕ → Names → List ProcedureTree → List (List Statement) → Tree
+tree_of w v n turns names procedures threads = record { width = w; height = v; budget = n; order = turns; names = names; procedures = procedures; threads = threads }
 
-same_parts : (s : Tree) (w v n : ℕ) (turns : List ℕ) (names : Names) (threads : List (List Statement)) (texts : List (List ℕ)) → Apart texts s → w ≡ width_at texts → v ≡ height_at texts → n ≡ budget_at texts → turns ≡ order_at texts → (names ≡ s.names) × (flat_map thread_lines threads ≡ script_lines s) → IsSame (tree_of w v n turns names threads) s
+same_parts : (s : Tree) (w v n : ℕ) (turns : List ℕ) (names : Names) (procedures : List ProcedureTree) (threads : List (List Statement)) (texts : List (List ℕ)) → Apart texts s → w ≡ width_at texts → v ≡ height_at texts → n ≡ budget_at texts → turns ≡ order_at texts → IsFound names procedures threads (known_of s) (script_lines s) → IsSame (tree_of w v n turns names procedures threads) s
 unfolding script_lines
-same_parts s w v n turns names threads texts a p q r o found = record { width = p ∙ a.is_width; height = q ∙ a.is_height; budget = r ∙ a.is_budget; order = o ∙ a.is_order; names = found.0; lines = found.1 }
+same_parts s w v n turns names procedures threads texts a p q r o found = record { width = p ∙ a.is_width; height = q ∙ a.is_height; budget = r ∙ a.is_budget; order = o ∙ a.is_order; names = found.0; procedures = found.1; lines = found.2 }
 
-pub same_tree : (s t : Tree) (w v n : ℕ) (turns : List ℕ) (names : Names) (threads : List (List Statement)) (texts : List (List ℕ)) → t ≡ tree_of w v n turns names threads → Apart texts s → w ≡ width_at texts → v ≡ height_at texts → n ≡ budget_at texts → turns ≡ order_at texts → (names ≡ s.names) × (flat_map thread_lines threads ≡ script_lines s) → IsSame t s
-same_tree s t w v n turns names threads texts e a p q r o found =
+pub same_tree : (s t : Tree) (w v n : ℕ) (turns : List ℕ) (names : Names) (procedures : List ProcedureTree) (threads : List (List Statement)) (texts : List (List ℕ)) → t ≡ tree_of w v n turns names procedures threads → Apart texts s → w ≡ width_at texts → v ≡ height_at texts → n ≡ budget_at texts → turns ≡ order_at texts → IsFound names procedures threads (known_of s) (script_lines s) → IsSame t s
+same_tree s t w v n turns names procedures threads texts e a p q r o found =
     let P : Tree → Type 0 = λ x. IsSame x s in
-    subst P (sym e) (same_parts s w v n turns names threads texts a p q r o found)
+    subst P (sym e) (same_parts s w v n turns names procedures threads texts a p q r o found)
 
-program_parts : (w v n : ℕ) (turns : List ℕ) (names : Names) (threads : List (List Statement)) → is_within (tree_of w v n turns names threads) ≡ true → IsProgram names (flat_map thread_lines threads) → IsFitting (tree_of w v n turns names threads)
+program_parts : (w v n : ℕ) (turns : List ℕ) (names : Names) (procedures : List ProcedureTree) (threads : List (List Statement)) → is_within (tree_of w v n turns names procedures threads) ≡ true → IsProgram (known_by names procedures) (code_lines (bodies_of procedures) threads) → IsFitting (tree_of w v n turns names procedures threads)
 unfolding script_lines
-program_parts w v n turns names threads h g = record { within = h; program = g }
+program_parts w v n turns names procedures threads h g = record { within = h; program = g }
 
-pub fitting_tree : (t : Tree) (w v n : ℕ) (turns : List ℕ) (names : Names) (threads : List (List Statement)) → t ≡ tree_of w v n turns names threads → is_within t ≡ true → IsProgram names (flat_map thread_lines threads) → IsFitting t
-fitting_tree t w v n turns names threads e h g =
+pub fitting_tree : (t : Tree) (w v n : ℕ) (turns : List ℕ) (names : Names) (procedures : List ProcedureTree) (threads : List (List Statement)) → t ≡ tree_of w v n turns names procedures threads → is_within t ≡ true → IsProgram (known_by names procedures) (code_lines (bodies_of procedures) threads) → IsFitting t
+fitting_tree t w v n turns names procedures threads e h g =
     let P : Tree → Type 0 = λ x. IsFitting x in
-    subst P (sym e) (program_parts w v n turns names threads (sym (ap is_within e) ∙ h) g)
+    subst P (sym e) (program_parts w v n turns names procedures threads (sym (ap is_within e) ∙ h) g)
 
 -- ---- trees that say the same
+
+abbrev head_of : ℕ → ℕ → ℕ → List ℕ → List (List (List ℕ))
+head_of w v n turns = (codes "user" ∷ codes "1" ∷ []) ∷ (codes "screen" ∷ decimal w ∷ decimal v ∷ []) ∷ (codes "budget" ∷ decimal n ∷ []) ∷ (codes "order" ∷ map decimal turns) ∷ []
 
 pub same_spelling : (s t : Tree) → IsSame s t → spelling s ≡ spelling t
 unfolding spelling
 same_spelling s t h = ap (flat_map line_text) (
-    ap (λ (x : ℕ). (codes "user" ∷ codes "1" ∷ []) ∷ (codes "screen" ∷ decimal x ∷ decimal s.height ∷ []) ∷ (codes "budget" ∷ decimal s.budget ∷ []) ∷ (codes "order" ∷ map decimal s.order) ∷ map (line_words s.names) (script_lines s)) h.width
-    ∙ ap (λ (x : ℕ). (codes "user" ∷ codes "1" ∷ []) ∷ (codes "screen" ∷ decimal t.width ∷ decimal x ∷ []) ∷ (codes "budget" ∷ decimal s.budget ∷ []) ∷ (codes "order" ∷ map decimal s.order) ∷ map (line_words s.names) (script_lines s)) h.height
-    ∙ ap (λ (x : ℕ). (codes "user" ∷ codes "1" ∷ []) ∷ (codes "screen" ∷ decimal t.width ∷ decimal t.height ∷ []) ∷ (codes "budget" ∷ decimal x ∷ []) ∷ (codes "order" ∷ map decimal s.order) ∷ map (line_words s.names) (script_lines s)) h.budget
-    ∙ ap (λ (x : List ℕ). (codes "user" ∷ codes "1" ∷ []) ∷ (codes "screen" ∷ decimal t.width ∷ decimal t.height ∷ []) ∷ (codes "budget" ∷ decimal t.budget ∷ []) ∷ (codes "order" ∷ map decimal x) ∷ map (line_words s.names) (script_lines s)) h.order
-    ∙ ap (λ (x : Names). head_words t ++ map (line_words x) (script_lines s)) h.names
-    ∙ ap (λ (x : List Line). head_words t ++ map (line_words t.names) x) h.lines)
+    ap (λ (x : ℕ). head_of x s.height s.budget s.order ++ map (line_words (known_of s)) (script_lines s)) h.width
+    ∙ ap (λ (x : ℕ). head_of t.width x s.budget s.order ++ map (line_words (known_of s)) (script_lines s)) h.height
+    ∙ ap (λ (x : ℕ). head_of t.width t.height x s.order ++ map (line_words (known_of s)) (script_lines s)) h.budget
+    ∙ ap (λ (x : List ℕ). head_of t.width t.height t.budget x ++ map (line_words (known_of s)) (script_lines s)) h.order
+    ∙ ap (λ (x : Names). head_words t ++ map (line_words (record { names = x; procedures = names_of s.procedures })) (script_lines s)) h.names
+    ∙ ap (λ (x : Names). head_words t ++ map (line_words (record { names = t.names; procedures = x })) (script_lines s)) h.procedures
+    ∙ ap (λ (x : List Line). head_words t ++ map (line_words (known_of t)) x) h.lines)
 
 pub one_tree : (s t : Tree) → IsScript s → IsScript t → spelling s ≡ spelling t → IsSame s t
 one_tree s t h g e =
     let a = apart s (spelling s) (texts_of (spelling s)) h refl refl in
     let c = apart t (spelling s) (texts_of (spelling s)) g e refl in
     let rest : List (List ℕ) = drop 4 (texts_of (spelling s)) in
-    let p = program_found s.names [] (script_lines s) rest refl (program_of s h) a.rest in
-    let q = program_found t.names [] (script_lines t) rest refl (program_of t g) c.rest in
-    let both = same_pair (script_lines s) (script_lines t) s.names t.names (sym p ∙ q) in
-    record { width = sym a.is_width ∙ c.is_width; height = sym a.is_height ∙ c.is_height; budget = sym a.is_budget ∙ c.is_budget; order = sym a.is_order ∙ c.is_order; names = both.1; lines = both.0 }
+    let p = program_found (known_of s) nothing_known (script_lines s) rest refl (program_of s h) a.rest in
+    let q = program_found (known_of t) nothing_known (script_lines t) rest refl (program_of t g) c.rest in
+    let both = same_pair (script_lines s) (script_lines t) (known_of s) (known_of t) (sym p ∙ q) in
+    record {
+      width = sym a.is_width ∙ c.is_width;
+      height = sym a.is_height ∙ c.is_height;
+      budget = sym a.is_budget ∙ c.is_budget;
+      order = sym a.is_order ∙ c.is_order;
+      names = ap (λ (k : Known). k.names) both.1;
+      procedures = ap (λ (k : Known). k.procedures) both.1;
+      lines = both.0;
+    }
 
 -- ---- the text of a script in the order in which it is written
 
@@ -305,10 +326,33 @@ head_regrouped s =
 head_written : (s : Tree) (rest : List ℕ) → flat_map line_text (head_words s) ++ rest ≡ head_text s ++ rest
 head_written s rest = ap (λ (l : List ℕ). l ++ rest) (head_regrouped s)
 
-pub written : (s : Tree) (lines : List Line) (names : Names) (out : List ℕ) → names ≡ s.names → lines ≡ script_lines s → out ≡ head_text s ++ flat_map line_text (map (line_words names) lines) → out ≡ spelling s
-unfolding spelling
-written s lines names out a c e =
-    e ∙ ap (λ (n : Names). head_text s ++ flat_map line_text (map (line_words n) lines)) a
-    ∙ ap (λ (l : List Line). head_text s ++ flat_map line_text (map (line_words s.names) l)) c
-    ∙ sym (head_written s (flat_map line_text (map (line_words s.names) (script_lines s))))
-    ∙ sym (flat_map-append line_text (head_words s) (map (line_words s.names) (script_lines s)))
+-- the procedures before and behind a place, with their names
+named_at : (known : Known) (before behind : List ProcedureTree) → known.procedures ≡ names_of (before ++ behind) → flat_map (procedure_words known) behind ≡ map (line_words known) (numbered_lines (length before) (bodies_of behind))
+named_at known before [] e = refl
+named_at known before (p ∷ behind) e =
+    let all : List (List ℕ) = names_of before ++ p.name ∷ names_of behind in
+    let same : known.procedures ≡ all = e ∙ map-append (λ q. q.name) before (p ∷ behind) in
+    let place : length (names_of before) ≡ length before = length-map before (λ q. q.name) in
+    let name : p.name ≡ get_or known.procedures (length before) [] =
+    sym (get_or-append_seam (names_of before) p.name (names_of behind) [])
+    ∙ ap (λ (n : ℕ). get_or all n []) place ∙ ap (λ (l : List (List ℕ)). get_or l (length before) []) (sym same) in
+    let k : ℕ = length before in
+    let next : length (before ++ p ∷ []) ≡ k + 1 = omega (arith, length-append before (p ∷ [])) in
+    let rest = named_at known (before ++ p ∷ []) behind (e ∙ ap names_of (sym (append_assoc before (p ∷ []) behind))) ∙ ap (λ (n : ℕ). map (line_words known) (numbered_lines n (bodies_of behind))) next in
+    let body : List (List (List ℕ)) = map (line_words known) (body_lines p.body ++ lines.End ∷ []) in
+    ap (λ (w : List ℕ). (codes "proc" ∷ w ∷ []) ∷ (body ++ flat_map (procedure_words known) behind)) name
+    ∙ ap (λ (l : List (List (List ℕ))). map (line_words known) (procedure_lines k p.body) ++ l) rest
+    ∙ sym (map-append (line_words known) (procedure_lines k p.body) (numbered_lines (k + 1) (bodies_of behind)))
+
+pub written : (s : Tree) (out : List ℕ) → out ≡ (head_text s ++ flat_map line_text (flat_map (procedure_words (known_of s)) s.procedures)) ++ flat_map line_text (map (line_words (known_of s)) (flat_map thread_lines s.threads)) → out ≡ spelling s
+unfolding spelling script_lines
+written s out e =
+    let words : List Line → List (List (List ℕ)) = map (line_words (known_of s)) in
+    let first : List Line = numbered_lines 0 (bodies_of s.procedures) in
+    let second : List Line = flat_map thread_lines s.threads in
+    e ∙ ap (λ (l : List (List (List ℕ))). (head_text s ++ flat_map line_text l) ++ flat_map line_text (words second)) (named_at (known_of s) [] s.procedures refl)
+    ∙ append_assoc (head_text s) (flat_map line_text (words first)) (flat_map line_text (words second))
+    ∙ ap (λ (l : List ℕ). head_text s ++ l) (sym (flat_map-append line_text (words first) (words second)))
+    ∙ ap (λ (l : List (List (List ℕ))). head_text s ++ flat_map line_text l) (sym (map-append (line_words (known_of s)) first second))
+    ∙ sym (head_written s (flat_map line_text (words (first ++ second))))
+    ∙ sym (flat_map-append line_text (head_words s) (words (first ++ second)))

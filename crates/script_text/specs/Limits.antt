@@ -3,7 +3,8 @@ use Rattle.std.specs.Prelude.{◌≡◌, ℕ, ◌≤◌, ◌<◌, Bool, true, �
 use Rattle.std.specs.List.{AllByRecursion, list_all}
 use Rattle.script_tree.specs.Tree.{Tree}
 use Rattle.script_lines.specs.LineLimits.{IsLine}
-use Rattle.script_lines.specs.NameLimits.{AreNames, are_in_order}
+use Rattle.script_lines.specs.Known.{known_of}
+use Rattle.script_lines.specs.NameLimits.{AreKnown, are_in_order, are_procedures_in_order}
 use Rattle.script_text.specs.Lines.{script_lines}
 use Rattle.script_text.specs.Nesting.{nests}
 use Rattle.script_text.specs.Spelling.{spelling}
@@ -19,11 +20,13 @@ pub record IsScript (s : Tree) : Type 0 where
   pub budget : (0 < s.budget) × (s.budget ≤ 65536)
   pub turns : list_all is_turn s.order ≡ true
   pub few_turns : length s.order ≤ 65536
-  pub named : AreNames s.names
+  pub named : AreKnown (known_of s)
   pub threads : (0 < length s.threads) × (length s.threads ≤ 15)
   pub lines : AllByRecursion IsLine (script_lines s)
   pub in_order : are_in_order (length s.names) (script_lines s) ≡ true
-  -- each `end` closes what stands open there, and no more than 33 lines ever stand open: that of the thread, and 32 blocks
+  -- no procedure is named above its line
+  pub procedures_in_order : are_procedures_in_order (length s.procedures) (script_lines s) ≡ true
+  -- each `end` closes what stands open there, no more than 33 lines ever stand open, that of the body and 32 blocks, and `return` and `default` stand in procedures
   pub nested : nests (script_lines s) ≡ true
   pub short : length (spelling s) ≤ 1048576
 

@@ -6,7 +6,7 @@ use Rattle.script_text.specs.declared.fault.Refusal.{Refusal}
 use Rattle.script_text.specs.declared.fault.ReadFault.{ReadFault}
 use Rattle.script_text.specs.declared.fault.ReadFault.TheVariants as faults
 use Rattle.script_text.specs.Limits.{IsScript}
-use Rattle.script_text.specs.Lines.{script_lines}
+use Rattle.script_text.specs.Lines.{names_of, script_lines}
 use Rattle.script_text.specs.Spelling.{spelling}
 
 -- no script has this text
@@ -29,4 +29,5 @@ pub record IsSame (s t : Tree) : Type 0 where
   pub budget : s.budget ≡ t.budget
   pub order : s.order ≡ t.order
   pub names : s.names ≡ t.names
+  pub procedures : names_of s.procedures ≡ names_of t.procedures
   pub lines : script_lines s ≡ script_lines t

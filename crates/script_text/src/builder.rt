@@ -1,23 +1,25 @@
 //! Trees from their lines, with a stack of open blocks.
 
-ghost use Rattle.std.specs.Prelude.{◌≡◌, ◌++◌, ◌∷◌, [], IfOk, IfSome, OnOk, is_some, true, Some, None, if◌then◌else◌};
-ghost use Rattle.std.specs.List.{flat_map};
-ghost use Rattle.script_text.specs.Building.{opening_lines, open_lines, built_lines, kind_of, kinds};
-ghost use Rattle.script_text.specs.Lines.{thread_lines, body_lines, statement_lines};
-ghost use Rattle.script_text.specs.Nesting.{nested, nests, none_open, block_entered, block_opened, else_opened, thread_opened, thread_closed, block_closed};
-ghost use Rattle.script_lines.specs.declared.line.Line.TheVariants.{Thread, If, Else, While, End};
+ghost use Rattle.std.specs.Prelude.{◌≡◌, ◌++◌, ◌∷◌, [], length, IfOk, IfSome, OnOk, is_some, true, Some, None, if◌then◌else◌};
+ghost use Rattle.std.specs.List.{list_any};
+ghost use Rattle.script_text.specs.Building.{opening_lines, open_lines, built_lines, kind_of, kinds, nest_of, IsSound};
+ghost use Rattle.script_text.specs.Lines.{body_lines, code_lines, statement_lines};
+ghost use Rattle.script_text.specs.Nesting.{nested, nests, none_open, is_procedure, block_entered, block_opened, procedure_entered, procedure_opened, top_opened, else_opened, closed};
+ghost use Rattle.script_lines.specs.declared.line.Line.TheVariants.{If, Else, While, End};
 
 use script_lines::Line;
 use script_tree::{Body, Statement, Test};
 use std::alloc::{AllocError, Global};
 use std::collections::VecDeque;
 
-/// How many lines may stand open: that of a thread, and 32 blocks.
+/// How many lines may stand open: that of a procedure or thread, and 32 blocks.
 const OPEN_LIMIT: usize = 33;
 
 /// The line with which an open block began.
 #[derive(Drop)]
 pub enum Opening {
+    /// The `proc` of the procedure of this number.
+    Procedure(u32),
     Thread,
     If(Test),
     /// The `else` of an `if`, with the statements before it.
@@ -32,9 +34,17 @@ pub struct Block {
     statements: Vec<Statement>,
 }
 
-/// The threads that are whole, and the open blocks, the innermost first.
+/// The bodies of procedures and of threads, in order.
+#[derive(Drop)]
+pub struct Bodies {
+    pub procedures: Vec<Body>,
+    pub threads: Vec<Body>,
+}
+
+/// The bodies that are whole, and the open blocks, the innermost first.
 #[derive(Drop)]
 pub struct Builder {
+    procedures: Vec<Body>,
     threads: Vec<Body>,
     blocks: VecDeque<Block>,
 }
@@ -56,6 +66,22 @@ fn open_block(
     Ok(())
 }
 
+/// Opens a block at the top; false where another stands open.
+fn open_top(
+    alloc: Global,
+    blocks: &mut VecDeque<Block>,
+    opening: Opening,
+) -> Result<bool, AllocError>
+    ensures lines { IfOk result (λ taken. taken ≡ true → open_lines blocks.new.items ≡ open_lines blocks.old.items ++ opening_lines opening) }
+    ensures kinds { IfOk result (λ taken. (if taken then Some (kinds blocks.new.items) else None) ≡ top_opened (kind_of opening) (kinds blocks.old.items)) }
+{
+    if !blocks.is_empty() {
+        return Ok(false);
+    }
+    open_block(alloc, blocks, opening)?;
+    Ok(true)
+}
+
 /// Adds a statement to the innermost block; false where none is open.
 fn add_statement(blocks: &mut VecDeque<Block>, statement: Statement) -> Result<bool, AllocError>
     ensures lines { IfOk result (λ taken. taken ≡ true → open_lines blocks.new.items ≡ open_lines blocks.old.items ++ statement_lines statement) }
@@ -74,6 +100,37 @@ fn add_statement(blocks: &mut VecDeque<Block>, statement: Statement) -> Result<b
         statements,
     })?;
     Ok(true)
+}
+
+/// Whether it is that of a procedure.
+fn is_procedure(opening: &Opening) -> bool
+    ensures { result ≡ is_procedure (kind_of opening.now) }
+{
+    match opening {
+        Opening::Procedure(_) => true,
+        Opening::Thread => false,
+        Opening::If(_) => false,
+        Opening::Else(_, _) => false,
+        Opening::While(_) => false,
+    }
+}
+
+/// Whether a procedure stands open.
+fn in_procedure(blocks: &VecDeque<Block>) -> bool
+    ensures { result ≡ list_any is_procedure (kinds blocks.now.items) }
+{
+    blocks.iter().any(|block| is_procedure(&block.opening))
+}
+
+/// Adds a statement that stands in procedures only.
+fn add_in_procedure(blocks: &mut VecDeque<Block>, statement: Statement) -> Result<bool, AllocError>
+    ensures lines { IfOk result (λ taken. taken ≡ true → open_lines blocks.new.items ≡ open_lines blocks.old.items ++ statement_lines statement) }
+    ensures kinds { IfOk result (λ taken. (if taken then Some (kinds blocks.new.items) else None) ≡ procedure_entered (kinds blocks.old.items)) }
+{
+    if !in_procedure(blocks) {
+        return Ok(false);
+    }
+    add_statement(blocks, statement)
 }
 
 /// An `if` without `else`.
@@ -130,34 +187,36 @@ fn open_else(alloc: Global, blocks: &mut VecDeque<Block>) -> Result<bool, AllocE
             open_block(alloc, blocks, Opening::Else(test, statements))?;
             Ok(true)
         }
+        Opening::Procedure(_) => Ok(false),
         Opening::Thread => Ok(false),
         Opening::Else(_, _) => Ok(false),
         Opening::While(_) => Ok(false),
     }
 }
 
-/// Puts the statements of a thread behind the threads before it.
-fn close_thread(
-    threads: &mut Vec<Body>,
+/// Puts a body behind those before it; false where a block stands open around it.
+fn close_body(
+    bodies: &mut Vec<Body>,
     blocks: &VecDeque<Block>,
     statements: Vec<Statement>,
 ) -> Result<bool, AllocError>
-    ensures lines { IfOk result (λ taken. taken ≡ true → built_lines threads.new.items blocks.now.items ≡ built_lines threads.old.items blocks.now.items ++ thread_lines statements.items) }
-    ensures kinds { IfOk result (λ taken. (if taken then Some (kinds blocks.now.items) else None) ≡ thread_closed (kinds blocks.now.items)) }
+    ensures bodies { IfOk result (λ taken. taken ≡ true → bodies.new.items ≡ bodies.old.items ++ statements.items ∷ []) }
+    ensures kinds { IfOk result (λ taken. taken ≡ none_open (kinds blocks.now.items)) }
 {
     if !blocks.is_empty() {
         return Ok(false);
     }
-    threads.push(Body::new(statements))?;
+    bodies.push(Body::new(statements))?;
     Ok(true)
 }
 
 impl Builder {
     /// Nothing yet.
     pub fn new(alloc: Global) -> Builder
-        ensures { (result.threads.items ≡ []) × (result.blocks.items ≡ []) }
+        ensures { (result.procedures.items ≡ []) × (result.threads.items ≡ []) × (result.blocks.items ≡ []) }
     {
         Builder {
+            procedures: Vec::new(alloc),
             threads: Vec::new(alloc),
             blocks: VecDeque::new(alloc),
         }
@@ -165,8 +224,9 @@ impl Builder {
 
     /// Ends the innermost block.
     fn close(&mut self) -> Result<bool, AllocError>
-        ensures lines { IfOk result (λ taken. taken ≡ true → built_lines self.new.threads.items self.new.blocks.items ≡ built_lines self.old.threads.items self.old.blocks.items ++ End ∷ []) }
-        ensures kinds { IfOk result (λ taken. (if taken then Some (kinds self.new.blocks.items) else None) ≡ block_closed (kinds self.old.blocks.items)) }
+        requires { IsSound self.old.procedures.items self.old.threads.items self.old.blocks.items }
+        ensures lines { IfOk result (λ taken. taken ≡ true → built_lines self.new.procedures.items self.new.threads.items self.new.blocks.items ≡ built_lines self.old.procedures.items self.old.threads.items self.old.blocks.items ++ End ∷ []) }
+        ensures nest { IfOk result (λ taken. (if taken then Some (nest_of self.new.procedures.items self.new.threads.items self.new.blocks.items) else None) ≡ closed (nest_of self.old.procedures.items self.old.threads.items self.old.blocks.items) (kinds self.old.blocks.items)) }
     {
         let Some(block) = self.blocks.pop_front() else {
             return Ok(false);
@@ -176,7 +236,8 @@ impl Builder {
             statements,
         } = block;
         match opening {
-            Opening::Thread => close_thread(&mut self.threads, &self.blocks, statements),
+            Opening::Procedure(_) => close_body(&mut self.procedures, &self.blocks, statements),
+            Opening::Thread => close_body(&mut self.threads, &self.blocks, statements),
             Opening::If(test) => add_statement(&mut self.blocks, closed_if(test, statements)),
             Opening::Else(test, first) => {
                 add_statement(&mut self.blocks, closed_else(test, first, statements))
@@ -187,26 +248,28 @@ impl Builder {
         }
     }
 
-    /// Begins a thread.
-    fn open_thread(&mut self, alloc: Global) -> Result<bool, AllocError>
-        ensures lines { IfOk result (λ taken. taken ≡ true → built_lines self.new.threads.items self.new.blocks.items ≡ built_lines self.old.threads.items self.old.blocks.items ++ Thread ∷ []) }
-        ensures kinds { IfOk result (λ taken. (if taken then Some (kinds self.new.blocks.items) else None) ≡ thread_opened (kinds self.old.blocks.items)) }
+    /// Begins a procedure: before all threads, with the next number.
+    fn open_procedure(&mut self, alloc: Global, number: u32) -> Result<bool, AllocError>
+        ensures lines { IfOk result (λ taken. taken ≡ true → open_lines self.new.blocks.items ≡ open_lines self.old.blocks.items ++ opening_lines (Opening.Procedure number)) }
+        ensures kinds { IfOk result (λ taken. (if taken then Some (kinds self.new.blocks.items) else None) ≡ procedure_opened number (nest_of self.old.procedures.items self.old.threads.items self.old.blocks.items)) }
+        ensures bodies { (self.new.procedures.items ≡ self.old.procedures.items) × (self.new.threads.items ≡ self.old.threads.items) }
     {
-        if !self.blocks.is_empty() {
+        if !self.threads.is_empty() || number as usize != self.procedures.len() {
             return Ok(false);
         }
-        open_block(alloc, &mut self.blocks, Opening::Thread)?;
-        Ok(true)
+        open_top(alloc, &mut self.blocks, Opening::Procedure(number))
     }
 
     /// Takes one line more; false where it can't stand there.
     fn take(&mut self, alloc: Global, line: Line) -> Result<bool, AllocError>
-        ensures lines { IfOk result (λ taken. taken ≡ true → built_lines self.new.threads.items self.new.blocks.items ≡ built_lines self.old.threads.items self.old.blocks.items ++ line ∷ []) }
-        ensures kinds { IfOk result (λ taken. (if taken then Some (kinds self.new.blocks.items) else None) ≡ nested (kinds self.old.blocks.items) line) }
+        requires { IsSound self.old.procedures.items self.old.threads.items self.old.blocks.items }
+        ensures lines { IfOk result (λ taken. taken ≡ true → built_lines self.new.procedures.items self.new.threads.items self.new.blocks.items ≡ built_lines self.old.procedures.items self.old.threads.items self.old.blocks.items ++ line ∷ []) }
+        ensures nest { IfOk result (λ taken. (if taken then Some (nest_of self.new.procedures.items self.new.threads.items self.new.blocks.items) else None) ≡ nested (nest_of self.old.procedures.items self.old.threads.items self.old.blocks.items) line) }
     {
         let blocks = &mut self.blocks;
         match line {
-            Line::Thread => self.open_thread(alloc),
+            Line::Procedure(number) => self.open_procedure(alloc, number),
+            Line::Thread => open_top(alloc, blocks, Opening::Thread),
             Line::Let(letter, value) => add_statement(blocks, Statement::Let(letter, value)),
             Line::Compute(letter, left, operator, right) => {
                 add_statement(blocks, Statement::Compute(letter, left, operator, right))
@@ -215,27 +278,35 @@ impl Builder {
             Line::Else => open_else(alloc, blocks),
             Line::While(test) => open_inner(alloc, blocks, Opening::While(test)),
             Line::End => self.close(),
+            Line::Return(value) => add_in_procedure(blocks, Statement::Return(value)),
             Line::Call(call) => add_statement(blocks, Statement::Call(call)),
+            Line::Sleep(time) => add_statement(blocks, Statement::Sleep(time)),
+            Line::Create(creation) => add_statement(blocks, Statement::Create(creation)),
+            Line::Destroy(window) => add_statement(blocks, Statement::Destroy(window)),
+            Line::Default => add_in_procedure(blocks, Statement::Default),
         }
     }
 
-    /// The threads, where no block is open.
-    fn finish(self) -> Option<Vec<Body>>
-        ensures lines { IfSome result (λ threads. flat_map thread_lines threads.items ≡ built_lines self.threads.items self.blocks.items) }
-        ensures open { is_some result ≡ none_open (Some (kinds self.blocks.items)) }
+    /// The bodies, where no block is open.
+    fn finish(self) -> Option<Bodies>
+        ensures lines { IfSome result (λ bodies. code_lines bodies.procedures.items bodies.threads.items ≡ built_lines self.procedures.items self.threads.items self.blocks.items) }
+        ensures open { is_some result ≡ none_open (kinds self.blocks.items) }
     {
         if self.blocks.is_empty() {
-            Some(self.threads)
+            Some(Bodies {
+                procedures: self.procedures,
+                threads: self.threads,
+            })
         } else {
             None
         }
     }
 }
 
-/// The bodies of threads with these lines. None comes where the lines don't nest, or more than 32
-/// blocks deep.
-pub fn build(alloc: Global, lines: &[Line]) -> Result<Option<Vec<Body>>, AllocError>
-    ensures lines { IfOk result (λ found. IfSome found (λ threads. flat_map thread_lines threads.items ≡ lines.now)) }
+/// The bodies with these lines. None comes where the lines aren't those of procedures and then of
+/// threads, each with what nests in it, at most 32 blocks deep.
+pub fn build(alloc: Global, lines: &[Line]) -> Result<Option<Bodies>, AllocError>
+    ensures lines { IfOk result (λ found. IfSome found (λ bodies. code_lines bodies.procedures.items bodies.threads.items ≡ lines.now)) }
     ensures nests { IfOk result (λ found. is_some found ≡ nests lines.now) }
 {
     let mut builder = Builder::new(alloc);

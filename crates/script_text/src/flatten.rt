@@ -1,8 +1,8 @@
-//! Lines of trees.
+//! Lines of bodies.
 
-ghost use Rattle.std.specs.Prelude.{◌≡◌, ◌++◌, OnOk, IfOk};
-ghost use Rattle.std.specs.List.{flat_map};
-ghost use Rattle.script_text.specs.Lines.{statement_lines, body_lines, thread_lines};
+ghost use Rattle.std.specs.Prelude.{◌≡◌, ◌++◌, ◌∷◌, [], OnOk, IfOk};
+ghost use Rattle.script_text.specs.Lines.{statement_lines, body_lines};
+ghost use Rattle.script_lines.specs.declared.line.Line.TheVariants.{End};
 
 use script_lines::Line;
 use script_tree::{Body, Statement};
@@ -35,7 +35,12 @@ fn put_statement(statement: &Statement, lines: &mut Vec<Line>) -> Result<(), All
             put_body(body, lines)?;
             lines.push(Line::End)?
         }
+        Statement::Return(value) => lines.push(Line::Return(*value))?,
         Statement::Call(call) => lines.push(Line::Call(*call))?,
+        Statement::Sleep(time) => lines.push(Line::Sleep(*time))?,
+        Statement::Create(creation) => lines.push(Line::Create(*creation))?,
+        Statement::Destroy(window) => lines.push(Line::Destroy(*window))?,
+        Statement::Default => lines.push(Line::Default)?,
     }
     Ok(())
 }
@@ -51,23 +56,12 @@ fn put_body(statements: &[Statement], lines: &mut Vec<Line>) -> Result<(), Alloc
     Ok(())
 }
 
-/// Adds the lines of a thread.
-fn put_thread(body: &Body, lines: &mut Vec<Line>) -> Result<(), AllocError>
-    ensures { OnOk result (lines.new.items ≡ lines.old.items ++ thread_lines body.now) }
-{
-    lines.push(Line::Thread)?;
-    put_body(body.statements(), lines)?;
-    lines.push(Line::End)?;
-    Ok(())
-}
-
-/// The lines of threads.
-pub fn flatten(alloc: Global, threads: &[Body]) -> Result<Vec<Line>, AllocError>
-    ensures { IfOk result (λ lines. lines.items ≡ flat_map thread_lines threads.now) }
+/// The lines of a body, and its `end`.
+pub fn flatten(alloc: Global, body: &Body) -> Result<Vec<Line>, AllocError>
+    ensures { IfOk result (λ lines. lines.items ≡ body_lines body.now ++ End ∷ []) }
 {
     let mut lines = Vec::new(alloc);
-    for body in threads {
-        put_thread(body, &mut lines)?;
-    }
+    put_body(body.statements(), &mut lines)?;
+    lines.push(Line::End)?;
     Ok(lines)
 }

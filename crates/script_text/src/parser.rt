@@ -1,23 +1,24 @@
 //! Taking a text apart, loosely: a number may have leading zeros, or be too large. Whether the text is
 //! the spelling of what was found is seen by spelling it again.
 
-ghost use Rattle.std.specs.Prelude.{◌≡◌, ℕ, List, IfOk, IfSome, map};
-ghost use Rattle.std.specs.List.{flat_map};
+ghost use Rattle.std.specs.Prelude.{◌≡◌, List, IfOk, IfSome, length, map};
+ghost use Rattle.std.specs.List.{zip};
 ghost use Rattle.script_tree.specs.Tree.{Tree};
 ghost use Rattle.script_lines.specs.declared.line.Line.{Line};
+ghost use Rattle.script_lines.specs.Known.{Known};
 ghost use Rattle.script_lines.specs.LineReading.{split_at, texts_of};
 ghost use Rattle.script_lines.specs.LineTexts.{joined};
 ghost use Rattle.script_lines.specs.Words.{line_words};
 ghost use Rattle.script_text.specs.Limits.{IsScript};
-ghost use Rattle.script_text.specs.Lines.{thread_lines};
+ghost use Rattle.script_text.specs.Lines.{names_of, bodies_of, code_lines, procedure_of};
 ghost use Rattle.script_text.specs.Programs.{IsProgram, Finds, IsFitting, FindsTree};
 ghost use Rattle.script_text.specs.Reading.{small_number_at, width_at, height_at, budget_at, order_at};
 ghost use Rattle.script_text.specs.Spelling.{spelling};
 
 use crate::builder::build;
-use crate::limits::{are_in_order, fits};
-use script_lines::{NameTables, lines_at, number_at, split_at, texts_of, word_at};
-use script_tree::{Body, Name, Script};
+use crate::limits::{are_all_in_order, fits};
+use script_lines::{NameTables, Names, lines_at, number_at, split_at, texts_of, word_at};
+use script_tree::{Body, Name, Procedure, Script};
 use std::alloc::{AllocError, Global};
 
 /// A number, or the greatest that may stand there where it is too large.
@@ -72,33 +73,55 @@ fn order_at(alloc: Global, texts: &[&[u8]]) -> Result<Vec<u8>, AllocError>
     small_numbers(alloc, turns)
 }
 
-/// The names and the threads of a script.
+/// Procedures of these names and bodies.
+fn procedures_of(
+    alloc: Global,
+    names: Vec<Name>,
+    bodies: Vec<Body>,
+) -> Result<Vec<Procedure>, AllocError>
+    ensures { IfOk result (λ v. v.items ≡ map procedure_of (zip names.items bodies.items)) }
+{
+    names
+        .into_iter()
+        .zip(bodies)
+        .map(|(name, body)| Procedure::new(name, body))
+        .collect(alloc)
+}
+
+/// The names, the procedures and the threads of a script.
 #[derive(Drop)]
 pub struct Program {
     names: Vec<Name>,
+    procedures: Vec<Procedure>,
     threads: Vec<Body>,
 }
 
-/// The names and the threads that the lines may spell.
+/// The names, the procedures and the threads that the lines may spell.
 fn program_at(
     alloc: Global,
     tables: &NameTables,
     texts: &[&[u8]],
 ) -> Result<Option<Program>, AllocError>
-    ensures fits { IfOk result (λ found. IfSome found (λ p. IsProgram p.names.items (flat_map thread_lines p.threads.items))) }
-    ensures again { IfOk result (λ found. (names : List (List ℕ)) (lines : List Line) → IsProgram names lines → map (λ w. w.now) texts.now ≡ map joined (map (line_words names) lines) → Finds found names lines) }
+    ensures fits { IfOk result (λ found. IfSome found (λ p. IsProgram (record { names = p.names.items; procedures = names_of p.procedures.items }) (code_lines (bodies_of p.procedures.items) p.threads.items))) }
+    ensures again { IfOk result (λ found. (known : Known) (lines : List Line) → IsProgram known lines → map (λ w. w.now) texts.now ≡ map joined (map (line_words known) lines) → Finds found known lines) }
 {
-    let mut names = Vec::new(alloc);
-    let Some(lines) = lines_at(alloc, tables, &mut names, texts)? else {
+    let mut known = Names::new(alloc);
+    let Some(lines) = lines_at(alloc, tables, &mut known, texts)? else {
         return Ok(None);
     };
-    if !are_in_order(&lines, names.len()) {
+    let (names, procedures) = known.into_parts();
+    if !are_all_in_order(&lines, names.len(), procedures.len()) {
         return Ok(None);
     }
-    let Some(threads) = build(alloc, &lines)? else {
+    let Some(bodies) = build(alloc, &lines)? else {
         return Ok(None);
     };
-    Ok(Some(Program { names, threads }))
+    let procedures = procedures_of(alloc, procedures, bodies.procedures)?;
+    Ok(Some(Program {
+        names,
+        procedures,
+        threads: bodies.threads,
+    }))
 }
 
 /// The script that a text may spell.
@@ -116,8 +139,12 @@ pub fn parse(alloc: Global, tables: &NameTables, bytes: &[u8]) -> Result<Option<
     let (width, height) = screen_at(alloc, &texts)?;
     let budget = budget_at(alloc, &texts)?;
     let order = order_at(alloc, &texts)?;
-    let Program { names, threads } = program;
-    let script = Script::new(width, height, budget, order, names, threads);
+    let Program {
+        names,
+        procedures,
+        threads,
+    } = program;
+    let script = Script::new(width, height, budget, order, names, procedures, threads);
     if !fits(&script) {
         return Ok(None);
     }

@@ -5,7 +5,7 @@ use std::alloc::Global;
 use std::test::Fail;
 
 const WHOLE: &[u8] =
-    b"user 1\nscreen 8 4\nbudget 5\norder 1 2 15\nthread\nlet a 5\nlet b a + 18446744073709551615\nif a < -9223372036854775808\nwhile glp != WM_APP\npeek 0 WM_USER WM_USER PM_REMOVE\nend\nelse\nmessage tick_1\nget hwnd 0 0\nend\npost r err gwp lp\npost_thread 2 WM_QUIT wp msg\npost_quit gtime\nmessage x\nmessage tick_1\nyield\nend\nthread\nend\n";
+    b"user 1\nscreen 8 4\nbudget 5\norder 1 2 15\nproc pa\nif msg = WM_USER\nreturn 30\nend\ndefault\nend\nproc pb\nregister ca pa 3\nsend_callback r WM_USER 1 2 pb -1\nend\nthread\nlet a 5\nlet b a + 18446744073709551615\nif a < -9223372036854775808\nwhile glp != WM_APP\npeek 0 WM_USER WM_USER PM_REMOVE\nend\nelse\nmessage tick_1\nget hwnd 0 0\nend\npost r err gwp lp\npost_thread 2 WM_QUIT wp msg\npost_quit gtime\nmessage x\nmessage tick_1\nyield\nend\nthread\ncreate ca tb 0 WS_CHILD 0 -5 0 20 lp\ndispatch\nsend r WM_USER 0 0\nsend_timeout 1 2 3 4 SMTO_BLOCK 6\nsend_notify r WM_CLOSE 0 0\nreply 7\nin_send\nis_window r\nparent hwnd\nnext_top 0\nclock\nsleep 100\ndestroy r\nunregister ca\nend\n";
 
 /// Whether a text is read; what was read must then be written as the same text.
 fn is_read(alloc: Global, text: &[u8]) -> Result<bool, Fail> {
@@ -37,12 +37,16 @@ fn parts(rt: HostRuntime) -> Result<(), Fail> {
         (8, 4, 5)
     );
     assert_eq!(rt; script.order(), [1, 2, 15].as_slice());
-    assert_eq!(rt; script.names().len(), 2);
-    assert_eq!(rt; script.names()[0].text(), b"tick_1".as_slice());
-    assert_eq!(rt; script.names()[1].text(), b"x".as_slice());
+    assert_eq!(rt; script.names().len(), 4);
+    assert_eq!(rt; script.names()[0].text(), b"ca".as_slice());
+    assert_eq!(rt; script.names()[1].text(), b"tick_1".as_slice());
+    assert_eq!(rt; script.names()[2].text(), b"x".as_slice());
+    assert_eq!(rt; script.procedures().len(), 2);
+    assert_eq!(rt; script.procedures()[1].name().text(), b"pb".as_slice());
+    assert_eq!(rt; script.procedures()[1].body().statements().len(), 2);
     assert_eq!(rt; script.threads().len(), 2);
     assert_eq!(rt; script.threads()[0].statements().len(), 9);
-    assert_eq!(rt; script.threads()[1].statements().len(), 0);
+    assert_eq!(rt; script.threads()[1].statements().len(), 14);
     Ok(())
 }
 
@@ -138,7 +142,14 @@ fn bodies(rt: HostRuntime) -> Result<(), Fail> {
         (b"get 0 0\n", false),
         (b"get 0 0 0 0\n", false),
         (b"get  0 0 0\n", false),
-        (b"dispatch\n", false),
+        (b"dispatch\n", true),
+        (b"dispatch 0\n", false),
+        (b"send 1 2 3\n", false),
+        (b"return 0\n", false),
+        (b"default\n", false),
+        (b"register ca pa 0\n", false),
+        (b"create ca ta 0 0 0 0 0 1 1\n", true),
+        (b"create ca Ta 0 0 0 0 0 1 1\n", false),
         (b"yield\n", true),
         (b"yield 0\n", false),
         (b"message abcdefghijklmnopqrstuvwxyz_01234\n", true),
@@ -157,6 +168,40 @@ fn bodies(rt: HostRuntime) -> Result<(), Fail> {
         (b"end\n", false),
     ] {
         let text = one_thread(alloc, lines)?;
+        assert_eq!(rt; is_read(alloc, &text)?, want);
+    }
+    Ok(())
+}
+
+#[test]
+fn procedures(rt: HostRuntime) -> Result<(), Fail> {
+    let alloc = rt.alloc();
+    for (lines, want) in [
+        (b"proc p\nend\nthread\nend\n".as_slice(), true),
+        (b"proc p\nend\nproc q\nend\nthread\nend\n", true),
+        (b"proc p\nend\nproc p\nend\nthread\nend\n", false),
+        (b"thread\nend\nproc p\nend\n", false),
+        (b"thread\nend\nproc p\nend\nthread\nend\n", false),
+        (b"proc p\nend\n", false),
+        (b"proc p\nproc q\nend\nend\nthread\nend\n", false),
+        (b"proc p\nthread\nend\nend\nthread\nend\n", false),
+        (b"proc P\nend\nthread\nend\n", false),
+        (b"proc\nend\nthread\nend\n", false),
+        (b"proc p q\nend\nthread\nend\n", false),
+        (
+            b"proc p\nwhile r = 0\nreturn 1\nend\nend\nthread\nend\n",
+            true,
+        ),
+        (b"proc p\nreturn\nend\nthread\nend\n", false),
+        (b"proc p\nend\nthread\nregister c p 0\nend\n", true),
+        (b"proc p\nregister c p 0\nend\nthread\nend\n", true),
+        (
+            b"proc p\nregister c q 0\nend\nproc q\nend\nthread\nend\n",
+            false,
+        ),
+    ] {
+        let mut text = Vec::from_slice(alloc, b"user 1\nscreen 8 4\nbudget 9\norder\n")?;
+        text.extend_from_slice(lines)?;
         assert_eq!(rt; is_read(alloc, &text)?, want);
     }
     Ok(())

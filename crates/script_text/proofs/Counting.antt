@@ -1,0 +1,139 @@
+-- How many procedures and threads lines have.
+use Rattle.std.proofs.Common.{◌≡◌, ℕ, ◌+◌, Bool, true, false, List, [], ◌∷◌, ◌++◌, length, Option, Some, None, refl, ap, sym, ◌∙◌, arith}
+use Rattle.std.specs.Prelude.{◌&&◌, ◌==◌, nat_lt, if◌then◌else◌}
+use Rattle.std.specs.List.{list_all, flat_map}
+use Rattle.std.proofs.lemmas.Bool.{false≢true}
+use Rattle.std.proofs.lemmas.Bool.Decides.{nat_tests}
+use Rattle.script_tree.specs.declared.statement.Statement.{Statement, Row_of-Statement, end_of-Statement, more_of-Statement}
+use Rattle.script_tree.specs.declared.statement.Statement.TheVariants as statements
+use Rattle.script_lines.specs.declared.line.Line.{Line}
+use Rattle.script_lines.specs.declared.line.Line.TheVariants as lines
+use Rattle.script_lines.specs.NameLimits.{procedures_in_line, all_seen, begun_after, begun_all, are_procedures_in_order}
+use Rattle.script_lines.proofs.LinesAgain.{none_begun}
+use Rattle.script_text.specs.Lines.{statement_lines, row_lines, body_lines, thread_lines, procedure_lines, numbered_lines, code_lines}
+
+-- what a line counts for, where a procedure counts for p and a thread for t
+abbrev weight : ℕ → ℕ → Line → ℕ
+weight p t (lines.Procedure k) = p
+weight p t lines.Thread = t
+weight p t (lines.Let v a) = 0
+weight p t (lines.Compute v a op b) = 0
+weight p t (lines.If c) = 0
+weight p t lines.Else = 0
+weight p t (lines.While c) = 0
+weight p t lines.End = 0
+weight p t (lines.Return a) = 0
+weight p t (lines.Call c) = 0
+weight p t (lines.Sleep a) = 0
+weight p t (lines.Create c) = 0
+weight p t (lines.Destroy a) = 0
+weight p t lines.Default = 0
+
+abbrev total : ℕ → ℕ → List Line → ℕ
+total p t [] = 0
+total p t (l ∷ ls) = weight p t l + total p t ls
+
+total_append : (p t : ℕ) (a c : List Line) → total p t (a ++ c) ≡ total p t a + total p t c
+total_append p t [] c = omega arith
+total_append p t (l ∷ a) c = omega (arith, total_append p t a c)
+
+mutual
+  none_inside : (p t : ℕ) (st : Statement) → total p t (statement_lines st) ≡ 0
+  none_inside p t (statements.Let v a) = refl
+  none_inside p t (statements.Compute v a op b) = refl
+  none_inside p t (statements.If' c k a) = omega (arith, total_append p t (row_lines a) (lines.End ∷ []), none_in_row p t a)
+  none_inside p t (statements.IfElse' c k a j b) = omega (arith, total_append p t (row_lines a) (lines.Else ∷ (row_lines b ++ lines.End ∷ [])), total_append p t (row_lines b) (lines.End ∷ []), none_in_row p t a, none_in_row p t b)
+  none_inside p t (statements.While' c k a) = omega (arith, total_append p t (row_lines a) (lines.End ∷ []), none_in_row p t a)
+  none_inside p t (statements.Return a) = refl
+  none_inside p t (statements.Call c) = refl
+  none_inside p t (statements.Sleep a) = refl
+  none_inside p t (statements.Create c) = refl
+  none_inside p t (statements.Destroy a) = refl
+  none_inside p t statements.Default = refl
+
+  none_in_row : (p t : ℕ) {m : _} (row : Row_of-Statement m) → total p t (row_lines row) ≡ 0
+  none_in_row p t end_of-Statement = refl
+  none_in_row p t (more_of-Statement st rest) = omega (arith, total_append p t (statement_lines st) (row_lines rest), none_inside p t st, none_in_row p t rest)
+
+none_in_body : (p t : ℕ) (body : List Statement) → total p t (body_lines body) ≡ 0
+none_in_body p t [] = refl
+none_in_body p t (st ∷ body) = omega (arith, total_append p t (statement_lines st) (body_lines body), none_inside p t st, none_in_body p t body)
+
+one_procedure : (p t k : ℕ) (body : List Statement) → total p t (procedure_lines k body) ≡ p
+one_procedure p t k body = omega (arith, total_append p t (body_lines body) (lines.End ∷ []), none_in_body p t body)
+
+one_thread : (p t : ℕ) (body : List Statement) → total p t (thread_lines body) ≡ t
+one_thread p t body = omega (arith, total_append p t (body_lines body) (lines.End ∷ []), none_in_body p t body)
+
+procedures_one : (k : ℕ) (bodies : List (List Statement)) → total 1 0 (numbered_lines k bodies) ≡ length bodies
+procedures_one k [] = refl
+procedures_one k (body ∷ bodies) = omega (arith, total_append 1 0 (procedure_lines k body) (numbered_lines (k + 1) bodies), one_procedure 1 0 k body, procedures_one (k + 1) bodies)
+
+procedures_none : (k : ℕ) (bodies : List (List Statement)) → total 0 1 (numbered_lines k bodies) ≡ 0
+procedures_none k [] = refl
+procedures_none k (body ∷ bodies) = omega (arith, total_append 0 1 (procedure_lines k body) (numbered_lines (k + 1) bodies), one_procedure 0 1 k body, procedures_none (k + 1) bodies)
+
+threads_one : (bodies : List (List Statement)) → total 0 1 (flat_map thread_lines bodies) ≡ length bodies
+threads_one [] = refl
+threads_one (body ∷ bodies) = omega (arith, total_append 0 1 (thread_lines body) (flat_map thread_lines bodies), one_thread 0 1 body, threads_one bodies)
+
+threads_none : (bodies : List (List Statement)) → total 1 0 (flat_map thread_lines bodies) ≡ 0
+threads_none [] = refl
+threads_none (body ∷ bodies) = omega (arith, total_append 1 0 (thread_lines body) (flat_map thread_lines bodies), one_thread 1 0 body, threads_none bodies)
+
+procedures_counted : (procedures threads : List (List Statement)) → total 1 0 (code_lines procedures threads) ≡ length procedures
+procedures_counted procedures threads = omega (arith, total_append 1 0 (numbered_lines 0 procedures) (flat_map thread_lines threads), procedures_one 0 procedures, threads_none threads)
+
+threads_counted : (procedures threads : List (List Statement)) → total 0 1 (code_lines procedures threads) ≡ length threads
+threads_counted procedures threads = omega (arith, total_append 0 1 (numbered_lines 0 procedures) (flat_map thread_lines threads), procedures_none 0 procedures, threads_one threads)
+
+-- the same lines have as many threads
+pub same_threads : (a b c d : List (List Statement)) → code_lines a b ≡ code_lines c d → length b ≡ length d
+same_threads a b c d e = sym (threads_counted a b) ∙ ap (total 0 1) e ∙ threads_counted c d
+
+-- ---- procedures that begin
+
+some_same : (n m : ℕ) → (let x : Option ℕ = Some n in let y : Option ℕ = Some m in x ≡ y) → n ≡ m
+some_same n m e = let f : Option ℕ → ℕ = λ o. elim o [ None ↦ n | Some x ↦ x ] in ap f e
+
+only_then : (b : Bool) (n m : ℕ) → (if b then Some n else None) ≡ Some m → n ≡ m
+only_then true n m e = some_same n m e
+only_then false n m e = absurd (cc e)
+
+begun_more : (count n m : ℕ) (l : Line) → begun_after count (Some n) l ≡ Some m → n + weight 1 0 l ≡ m
+begun_more count n m (lines.Procedure k) e = only_then ((k == n) && nat_lt n count) (n + 1) m e
+begun_more count n m lines.Thread e = omega (arith, some_same n m e)
+begun_more count n m (lines.Let v a) e = omega (arith, some_same n m e)
+begun_more count n m (lines.Compute v a op b) e = omega (arith, some_same n m e)
+begun_more count n m (lines.If c) e = omega (arith, some_same n m e)
+begun_more count n m lines.Else e = omega (arith, some_same n m e)
+begun_more count n m (lines.While c) e = omega (arith, some_same n m e)
+begun_more count n m lines.End e = omega (arith, some_same n m e)
+begun_more count n m (lines.Return a) e = omega (arith, some_same n m e)
+begun_more count n m (lines.Call c) e = omega (arith, only_then (list_all (λ k. nat_lt k n) (procedures_in_line (lines.Call c))) n m e)
+begun_more count n m (lines.Sleep a) e = omega (arith, some_same n m e)
+begun_more count n m (lines.Create c) e = omega (arith, some_same n m e)
+begun_more count n m (lines.Destroy a) e = omega (arith, some_same n m e)
+begun_more count n m lines.Default e = omega (arith, some_same n m e)
+
+eq_told : (a b : ℕ) → (a == b) ≡ true → a ≡ b
+eq_told a b h = grind (arith, nat_tests, h)
+
+-- a number of procedures has begun after the first line
+first_begun : (count : ℕ) (o : Option ℕ) (ls : List Line) → all_seen count (begun_all count o ls) ≡ true → (m : ℕ) × (o ≡ Some m)
+first_begun count None ls h = absurd (false≢true (sym (ap (all_seen count) (none_begun count ls)) ∙ h))
+first_begun count (Some m) ls h = (m, refl)
+
+begun_counted : (count n : ℕ) (ls : List Line) → all_seen count (begun_all count (Some n) ls) ≡ true → n + total 1 0 ls ≡ count
+begun_counted count n [] h = omega (arith, eq_told n count h)
+begun_counted count n (l ∷ ls) h =
+    let first = first_begun count (begun_after count (Some n) l) ls h in
+    let rest = begun_counted count first.0 ls (ap (λ (o : Option ℕ). all_seen count (begun_all count o ls)) (sym first.1) ∙ h) in
+    omega (arith, begun_more count n first.0 l first.1, rest)
+
+-- there is a body for each name of a procedure
+pub as_many : (count : ℕ) (names : List (List ℕ)) (procedures threads : List (List Statement)) (ls : List Line) → count ≡ length names → are_procedures_in_order count ls ≡ true → code_lines procedures threads ≡ ls → length names ≡ length procedures
+as_many count names procedures threads ls len h e =
+    let begun = begun_counted count 0 ls h in
+    let counted : total 1 0 ls ≡ length procedures = ap (total 1 0) (sym e) ∙ procedures_counted procedures threads in
+    omega (arith, begun, counted, len)

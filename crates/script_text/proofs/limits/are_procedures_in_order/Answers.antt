@@ -1,0 +1,6 @@
+use Rattle.std.proofs.Common.{sym}
+use Rattle.script_text.proofs.LimitLemmas.{unbegun}
+use Rattle.script_text.proofs.limits.are_procedures_in_order.Goals as goal
+
+pub returns-in_default : goal.returns-in_default
+returns-in_default c = sym (unbegun c.args.count c.args.lines.now c.loop-line.line-index _ c.loop-line.begun c.loop-line-test.true (sym c.in_default.ensures) c.loop-line.invariant)
