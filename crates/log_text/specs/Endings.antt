@@ -2,7 +2,9 @@
 use Rattle.std.specs.Prelude.{ℕ, if◌then◌else◌, List, [], ◌++◌, length, Option, Some, None, codes}
 use Rattle.user_model.specs.declared.call.Call.{Call}
 use Rattle.user_model.specs.declared.entry.Entry.{Entry}
+use Rattle.user_model.specs.declared.entry.SendCount.{SendCount}
 use Rattle.user_model.specs.Past.{Past}
+use Rattle.user_model.specs.Counts.{send_count}
 use Rattle.user_model.specs.Places.{has_ended}
 use Rattle.user_model.specs.Threads.{from_each}
 use Rattle.user_model.specs.Idle.{is_barred, last_entry}
@@ -11,7 +13,7 @@ use Rattle.script_tree.specs.Tree.{Tree}
 use Rattle.log_text.specs.declared.end.End.{End}
 use Rattle.log_text.specs.declared.end.End.TheVariants.{Done, Stuck, Spent, Cut}
 use Rattle.log_text.specs.Ends.{setup_of}
-use Rattle.log_text.specs.Entries.{call_text}
+use Rattle.log_text.specs.Entries.{counted, call_text}
 
 -- the word of an end
 abbrev pub end_line : End → List ℕ
@@ -49,10 +51,18 @@ extra s past Cut t = []
 abbrev pub extras : Tree → Past → End → List ℕ
 extras s past end = from_each (extra s past end) (length s.threads)
 
--- the counts of sends, of which no call makes any
-abbrev pub sends_line : List ℕ
-sends_line = codes "sends begun 0 entered 0 proc 0 reply 0 loss 0 timeout 0 open 0\n"
+-- how many sends were answered, by cause
+abbrev pub causes_text : SendCount → List ℕ
+causes_text c = counted (codes " proc") c.by_proc ++ (counted (codes " reply") c.by_reply ++ (counted (codes " loss") c.by_loss ++ counted (codes " timeout") c.by_timeout))
+
+-- the counts of sends: all, those entered, those answered and those unfinished
+abbrev pub counts_line : SendCount → List ℕ
+counts_line c = counted (codes "sends begun") c.begun ++ (counted (codes " entered") c.entered ++ (causes_text c ++ (counted (codes " open") c.unfinished ++ codes "\n")))
+
+-- the same of a past
+abbrev pub sends_line : Past → List ℕ
+sends_line past = counts_line (send_count past)
 
 -- the word of the end, the extra lines and the counts of sends
 abbrev pub ending : Tree → Past → End → List ℕ
-ending s past end = end_line end ++ (extras s past end ++ sends_line)
+ending s past end = end_line end ++ (extras s past end ++ sends_line past)

@@ -5,14 +5,14 @@ ghost use Rattle.std.specs.Prelude.{◌≡◌, ◌<◌, ◌≤◌, length, rever
 ghost use Rattle.user_io.specs.Text.{Adds};
 ghost use Rattle.user_model.specs.Places.{has_ended};
 ghost use Rattle.log_text.specs.Ends.{setup_of};
-ghost use Rattle.log_text.specs.Endings.{end_line, last_call, waits_line, spent_line, extra, extras, sends_line, ending};
+ghost use Rattle.log_text.specs.Endings.{end_line, last_call, waits_line, spent_line, extra, extras, causes_text, counts_line, ending};
 
 use crate::end::End;
-use crate::entry::put_call;
+use crate::entry::{put_call, put_counted};
 use crate::words::Words;
 use std::alloc::AllocError;
 use user_io::text::{put_operand, put_text};
-use user_model::{Answer, Call, Entry, Machine};
+use user_model::{Answer, Call, Entry, Machine, SendCount};
 use win_num::Thread;
 
 /// Adds the word of an end.
@@ -128,14 +128,27 @@ fn put_extras<M: Machine>(
     Ok(())
 }
 
-/// Adds the counts of sends.
-pub fn put_sends_line(out: &mut Vec<u8>) -> Result<(), AllocError>
-    ensures { OnOk result (Adds out.old.items out.new.items sends_line) }
+/// Adds how many sends were answered, by cause.
+fn put_causes(out: &mut Vec<u8>, count: SendCount) -> Result<(), AllocError>
+    ensures { OnOk result (Adds out.old.items out.new.items (causes_text count)) }
 {
-    put_text(
-        out,
-        b"sends begun 0 entered 0 proc 0 reply 0 loss 0 timeout 0 open 0\n",
-    )
+    put_counted(out, b" proc", u64::from(count.by_proc))?;
+    put_counted(out, b" reply", u64::from(count.by_reply))?;
+    put_counted(out, b" loss", u64::from(count.by_loss))?;
+    put_counted(out, b" timeout", u64::from(count.by_timeout))?;
+    Ok(())
+}
+
+/// Adds the counts of sends.
+pub fn put_sends_line(out: &mut Vec<u8>, count: SendCount) -> Result<(), AllocError>
+    ensures { OnOk result (Adds out.old.items out.new.items (counts_line count)) }
+{
+    put_counted(out, b"sends begun", u64::from(count.begun))?;
+    put_counted(out, b" entered", u64::from(count.entered))?;
+    put_causes(out, count)?;
+    put_counted(out, b" open", u64::from(count.unfinished))?;
+    put_text(out, b"\n")?;
+    Ok(())
 }
 
 /// Adds the lines after the entries.
@@ -151,6 +164,6 @@ pub fn put_ending<M: Machine>(
 {
     put_end_line(out, end)?;
     put_extras(out, words, machine, end)?;
-    put_sends_line(out)?;
+    put_sends_line(out, machine.send_count())?;
     Ok(())
 }

@@ -3,20 +3,29 @@
 
 ghost use Rattle.std.specs.Prelude.{◌++◌, codes, OnOk};
 ghost use Rattle.user_io.specs.Text.{Adds, operand};
-ghost use Rattle.log_text.specs.Entries.{three_text, pair_text, edges_text, posting_text, window_text, name_text, origin_text, call_text, code_text, point_text, msg_text, answer_text, entry_text};
+ghost use Rattle.log_text.specs.Entries.{counted, three_text, pair_text, edges_text, posting_text, timed_text, calling_back_text, window_text, name_text, procedure_text, origin_text, call_text, code_text, point_text, msg_text, cause_text, run_text, answer_text, entry_text};
 
 use crate::words::Words;
 use std::alloc::AllocError;
 use user_io::text::{put_number, put_operand, put_signed, put_text};
 use user_model::{Answer, Call, Entry, Origin};
-use win_num::{Code, Msg, Point};
+use win_num::{Cause, Code, Hwnd, Msg, Point, SendId};
 
 /// Adds a word, a blank and a number.
-fn put_counted(out: &mut Vec<u8>, word: &[u8], number: u64) -> Result<(), AllocError>
-    ensures { OnOk result (Adds out.old.items out.new.items (word.now ++ operand number)) }
+pub fn put_counted(out: &mut Vec<u8>, word: &[u8], number: u64) -> Result<(), AllocError>
+    ensures { OnOk result (Adds out.old.items out.new.items (counted word.now number)) }
 {
     put_text(out, word)?;
     put_operand(out, number)?;
+    Ok(())
+}
+
+/// Adds two numbers, each after a blank.
+fn put_two(out: &mut Vec<u8>, first: u64, second: u64) -> Result<(), AllocError>
+    ensures { OnOk result (Adds out.old.items out.new.items (operand first ++ operand second)) }
+{
+    put_operand(out, first)?;
+    put_operand(out, second)?;
     Ok(())
 }
 
@@ -121,6 +130,45 @@ fn put_post(
     Ok(())
 }
 
+/// Adds a send with a time: what it sends, its flags and its milliseconds.
+fn put_timed(
+    out: &mut Vec<u8>,
+    words: &Words,
+    to: u64,
+    number: u64,
+    wparam: u64,
+    lparam: u64,
+    flags: u64,
+    ms: u64,
+) -> Result<(), AllocError>
+    ensures { OnOk result (Adds out.old.items out.new.items (codes "send_timeout" ++ timed_text to number wparam lparam flags ms)) }
+{
+    put_text(out, b"send_timeout")?;
+    put_posting(out, words, to, number, wparam, lparam)?;
+    put_two(out, flags, ms)?;
+    Ok(())
+}
+
+/// Adds a send with a callback: what it sends, the procedure and what it is handed.
+fn put_calling_back(
+    out: &mut Vec<u8>,
+    words: &Words,
+    to: u64,
+    number: u64,
+    wparam: u64,
+    lparam: u64,
+    procedure: u32,
+    extra: u64,
+) -> Result<(), AllocError>
+    ensures { OnOk result (Adds out.old.items out.new.items (codes "send_callback" ++ calling_back_text words.now.script.now to number wparam lparam procedure extra)) }
+{
+    put_text(out, b"send_callback")?;
+    put_posting(out, words, to, number, wparam, lparam)?;
+    words.put_procedure(out, procedure)?;
+    put_operand(out, extra)?;
+    Ok(())
+}
+
 fn put_register(
     out: &mut Vec<u8>,
     words: &Words,
@@ -128,11 +176,11 @@ fn put_register(
     procedure: u32,
     colour: u64,
 ) -> Result<(), AllocError>
-    ensures { OnOk result (Adds out.old.items out.new.items (codes "register" ++ (name_text words.now.script.now class ++ (operand procedure ++ operand colour)))) }
+    ensures { OnOk result (Adds out.old.items out.new.items (codes "register" ++ (name_text words.now.script.now class ++ (procedure_text words.now.script.now procedure ++ operand colour)))) }
 {
     put_text(out, b"register")?;
     words.put_name(out, class)?;
-    put_operand(out, u64::from(procedure))?;
+    words.put_procedure(out, procedure)?;
     put_operand(out, colour)?;
     Ok(())
 }
@@ -170,6 +218,25 @@ pub fn put_call(out: &mut Vec<u8>, words: &Words, call: Call) -> Result<(), Allo
             put_post(out, words, b"post_thread", to, number, wparam, lparam)
         }
         Call::PostQuit(code) => put_counted(out, b"post_quit", code),
+        Call::Dispatch(window, number, wparam, lparam) => {
+            put_post(out, words, b"dispatch", window, number, wparam, lparam)
+        }
+        Call::Send(window, number, wparam, lparam) => {
+            put_post(out, words, b"send", window, number, wparam, lparam)
+        }
+        Call::SendTimeout(to, number, wparam, lparam, flags, ms) => {
+            put_timed(out, words, to, number, wparam, lparam, flags, ms)
+        }
+        Call::SendNotify(window, number, wparam, lparam) => {
+            put_post(out, words, b"send_notify", window, number, wparam, lparam)
+        }
+        Call::SendCallback(to, number, wparam, lparam, procedure, extra) => {
+            put_calling_back(out, words, to, number, wparam, lparam, procedure, extra)
+        }
+        Call::Await(send) => put_counted(out, b"await", send),
+        Call::Leave(result) => put_counted(out, b"leave", result),
+        Call::Reply(result) => put_counted(out, b"reply", result),
+        Call::InSend => put_text(out, b"in_send"),
         Call::Message(name) => put_named(out, words, b"message", name),
         Call::Register(class, procedure, colour) => {
             put_register(out, words, class, procedure, colour)
@@ -187,7 +254,10 @@ pub fn put_call(out: &mut Vec<u8>, words: &Words, call: Call) -> Result<(), Allo
         Call::IsWindow(window) => put_counted(out, b"is_window", window),
         Call::Parent(window) => put_counted(out, b"parent", window),
         Call::EndThread => put_text(out, b"end_thread"),
+        Call::Clock => put_text(out, b"clock"),
+        Call::SleepUntil(time) => put_counted(out, b"sleep_until", time),
         Call::Yield => put_text(out, b"yield"),
+        Call::Tick(ms) => put_counted(out, b"tick", ms),
         Call::Advance => put_text(out, b"advance"),
     }
 }
@@ -253,8 +323,68 @@ fn put_refused(out: &mut Vec<u8>, code: Code) -> Result<(), AllocError>
     Ok(())
 }
 
+fn put_cause(out: &mut Vec<u8>, cause: Cause) -> Result<(), AllocError>
+    ensures { OnOk result (Adds out.old.items out.new.items (cause_text cause)) }
+{
+    match cause {
+        Cause::Proc => put_text(out, b" proc"),
+        Cause::Reply => put_text(out, b" reply"),
+        Cause::Loss => put_text(out, b" loss"),
+        Cause::Timeout => put_text(out, b" timeout"),
+    }
+}
+
+/// Adds a send's number, which procedure runs for it, its window and its message.
+fn put_run(
+    out: &mut Vec<u8>,
+    words: &Words,
+    send: SendId,
+    proc_no: u32,
+    hwnd: Hwnd,
+    number: u32,
+) -> Result<(), AllocError>
+    ensures { OnOk result (Adds out.old.items out.new.items (run_text words.now.script.now send.0 proc_no hwnd.0 number)) }
+{
+    put_operand(out, u64::from(send.0))?;
+    words.put_procedure(out, proc_no)?;
+    put_operand(out, u64::from(hwnd.0))?;
+    words.put_message(out, u64::from(number))?;
+    Ok(())
+}
+
+fn put_called(out: &mut Vec<u8>, words: &Words, proc_no: u32) -> Result<(), AllocError>
+    ensures { OnOk result (Adds out.old.items out.new.items (codes "called" ++ procedure_text words.now.script.now proc_no)) }
+{
+    put_text(out, b"called")?;
+    words.put_procedure(out, proc_no)?;
+    Ok(())
+}
+
+fn put_inside(
+    out: &mut Vec<u8>,
+    words: &Words,
+    send: SendId,
+    proc_no: u32,
+) -> Result<(), AllocError>
+    ensures { OnOk result (Adds out.old.items out.new.items (codes "inside" ++ (operand send.0 ++ procedure_text words.now.script.now proc_no))) }
+{
+    put_text(out, b"inside")?;
+    put_operand(out, u64::from(send.0))?;
+    words.put_procedure(out, proc_no)?;
+    Ok(())
+}
+
+fn put_done(out: &mut Vec<u8>, value: u64, cause: Cause) -> Result<(), AllocError>
+    ensures { OnOk result (Adds out.old.items out.new.items (codes "done" ++ (operand value ++ cause_text cause))) }
+{
+    put_text(out, b"done")?;
+    put_operand(out, value)?;
+    put_cause(out, cause)?;
+    Ok(())
+}
+
 fn put_answer(out: &mut Vec<u8>, words: &Words, answer: Answer) -> Result<(), AllocError>
-    ensures { OnOk result (Adds out.old.items out.new.items (answer_text answer)) }
+    ensures { OnOk result (Adds out.old.items out.new.items (answer_text words.now.script.now answer)) }
 {
     match answer {
         Answer::Okay => put_text(out, b"ok"),
@@ -266,10 +396,41 @@ fn put_answer(out: &mut Vec<u8>, words: &Words, answer: Answer) -> Result<(), Al
         Answer::Value(value) => put_counted(out, b"value", value),
         Answer::Window(window) => put_counted(out, b"window", u64::from(window.0)),
         Answer::Posted(number) => put_counted(out, b"posted", u64::from(number)),
+        Answer::Called(proc_no) => put_called(out, words, proc_no),
+        Answer::Inside(send, proc_no) => put_inside(out, words, send, proc_no),
+        Answer::Begun(send) => put_counted(out, b"begun", u64::from(send.0)),
+        Answer::Left(send) => put_counted(out, b"left", u64::from(send.0)),
         Answer::Tell(window) => put_counted(out, b"tell", u64::from(window.0)),
         Answer::Last(window) => put_counted(out, b"last", u64::from(window.0)),
         Answer::Advanced(now) => put_counted(out, b"advanced", now),
         Answer::Busy(thread) => put_counted(out, b"busy", u64::from(thread.0)),
+        Answer::Enter {
+            send,
+            proc_no,
+            hwnd,
+            number,
+            wparam,
+            lparam,
+        } => {
+            put_text(out, b"enter")?;
+            put_run(out, words, send, proc_no, hwnd, number)?;
+            put_two(out, wparam, lparam)?;
+            Ok(())
+        }
+        Answer::Callback {
+            send,
+            proc_no,
+            hwnd,
+            number,
+            extra,
+            result,
+        } => {
+            put_text(out, b"callback")?;
+            put_run(out, words, send, proc_no, hwnd, number)?;
+            put_two(out, extra, result)?;
+            Ok(())
+        }
+        Answer::Done { result, cause } => put_done(out, result, cause),
         Answer::Got {
             origin,
             number,

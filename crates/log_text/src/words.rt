@@ -4,10 +4,10 @@ ghost use Rattle.std.specs.Prelude.{◌≡◌, ◌≤◌, ◌^◌, option_map, s
 ghost use Rattle.name_table.specs.Rows.{name_in};
 ghost use Rattle.name_table.specs.Messages.{message_rows};
 ghost use Rattle.user_io.specs.Text.{Adds};
-ghost use Rattle.log_text.specs.Entries.{message_text, name_text};
+ghost use Rattle.log_text.specs.Entries.{message_text, name_text, procedure_text};
 
 use name_table::{NameTable, messages};
-use script_tree::{Name, Script};
+use script_tree::Script;
 use std::alloc::AllocError;
 use user_io::text::{put_number, put_text};
 
@@ -61,6 +61,18 @@ impl<'s> Words<'s> {
         match self.script.names().get(name as usize) {
             Some(name) => put_text(out, name.text())?,
             None => put_number(out, u64::from(name))?,
+        }
+        Ok(())
+    }
+
+    /// Adds a blank and a procedure, by its name where the list of procedures has it.
+    pub fn put_procedure(&self, out: &mut Vec<u8>, procedure: u32) -> Result<(), AllocError>
+        ensures { OnOk result (Adds out.old.items out.new.items (procedure_text self.now.script.now procedure)) }
+    {
+        put_text(out, b" ")?;
+        match self.script.procedures().get(procedure as usize) {
+            Some(procedure) => put_text(out, procedure.name().text())?,
+            None => put_number(out, u64::from(procedure))?,
         }
         Ok(())
     }
