@@ -7,15 +7,15 @@ use Rattle.std.proofs.lemmas.Bool.Decides.{nat_tests, eqb_tells}
 use Rattle.win_num.specs.declared.code.Code.TheVariants.{Full}
 use Rattle.user_model.specs.declared.call.Call.{Call}
 use Rattle.user_model.specs.declared.call.Call.TheVariants.{Advance}
-use Rattle.user_model.specs.declared.entry.Answer.TheVariants as answers
 use Rattle.user_model.specs.declared.entry.Entry.{Entry}
 use Rattle.user_model.specs.declared.entry.Setup.{Setup}
 use Rattle.user_model.specs.Past.{Past, or_else, is_full}
 use Rattle.user_model.specs.Idle.{reply, is_barred, first_busy, have_all_ended, ends_stuck, advance_reply, busy_or, advanced, soonest}
-use Rattle.user_model.proofs.ClockLaws.{never_soon}
+use Rattle.user_model.proofs.WakeLaws.{advance_wakes}
 use Rattle.script_tree.specs.Tree.{Tree}
 use Rattle.log_text.specs.Ends.{setup_of, used}
 use Rattle.user_pool.specs.Runs.{is_runnable, left, listed, in_turn, choice, ComesNext, IsMove, IsRun}
+use Rattle.user_pool.proofs.OneRun.{run_lawful}
 use Rattle.user_pool.proofs.Turns.{found_passes, turn_runs, runnable_can, thread_positive, chosen_can_move, thread_within, used_own, used_other, used_within, refuse_not}
 
 -- ---- how many entries there are
@@ -49,7 +49,7 @@ total_within s past (suc n) run =
     let product : suc n * s.budget ≡ n * s.budget + s.budget = omega arith in
     omega (arith, total_within s past n run, used_within s past (suc n) run (omega arith), product)
 
--- ---- the clock moves only where all are idle, and then all is stuck
+-- ---- the clock moves only where all are idle, and then some thread isn't or all is stuck
 
 never_zero : (s : Tree) (past : Past) (o : Option ℕ) → ((t : ℕ) → o ≡ Some t → is_runnable s past t ≡ true) → o ≢ Some 0
 never_zero s past o runs e = absurd (omega (arith, thread_positive s 0 (runnable_can s past 0 (runs 0 e)).known))
@@ -86,23 +86,29 @@ clock_call : (s : Tree) (past : Past) (who : ℕ) (call : Call) → who ≡ 0 �
 clock_call s past zero call zero_is next = next
 clock_call s past (suc n) call zero_is next = absurd (omega (arith, zero_is))
 
--- the clock's entry says that nothing can go on
-clock_answer : (s : Tree) (past : Past) (e : Entry) → IsMove s past e → e.who.0 ≡ 0 → e.answer ≡ answers.Stuck
+-- the clock's entry says that it went on to a time, or that nothing can go on
+pub clock_answer : (s : Tree) (past : Past) (e : Entry) → IsMove s past e → e.who.0 ≡ 0 → e.answer ≡ advanced (soonest (setup_of s) past)
 clock_answer s past e move zero_is =
     move.answer ∙ ap (λ (w : ℕ). reply (setup_of s) past w e.call) zero_is ∙ ap (reply (setup_of s) past 0) (clock_call s past e.who.0 e.call zero_is move.call)
     ∙ advance_is (setup_of s) past move.room
     ∙ ap (λ o. busy_or o (advanced (soonest (setup_of s) past))) (quiet (setup_of s) past (clock_free s past (chosen_clock s past e move zero_is))).0
-    ∙ ap advanced (never_soon (setup_of s) past)
+
+-- after it not all is quiet, or all is stuck
+clock_busy : (s : Tree) (past : Past) (e : Entry) → IsRun s (e ∷ past) → e.who.0 ≡ 0 → (o : Option ℕ) → e.answer ≡ advanced o → is_barred (setup_of s) (e ∷ past) 0 ≡ false → ⊥
+clock_busy s past e run zero_is (Some time) a free = some_busy (first_busy (setup_of s) (e ∷ past)) (quiet (setup_of s) (e ∷ past) free).0 (advance_wakes (setup_of s) past e time (run_lawful s (e ∷ past) run) zero_is a)
+  where
+    some_busy : (o : Option ℕ) → o ≡ None → is_none o ≡ false → ⊥
+    some_busy None none busy = false≢true (sym busy)
+    some_busy (Some t) none busy = absurd cc
+clock_busy s past e run zero_is None a free =
+    let stuck : ends_stuck (e ∷ past) ≡ true = rw (zero_is, a) refl in
+    false≢true (sym (quiet (setup_of s) (e ∷ past) free).1 ∙ stuck)
 
 -- so it doesn't move twice in a row
-clock_stays : (s : Tree) (past : Past) (e f : Entry) → IsMove s past e → e.who.0 ≡ 0 → IsMove s (e ∷ past) f → 0 < f.who.0
-clock_stays s past e f move zero_is next = elim (cases_lt 0 f.who.0) [
+clock_stays : (s : Tree) (past : Past) (e f : Entry) → IsRun s (e ∷ past) → e.who.0 ≡ 0 → IsMove s (e ∷ past) f → 0 < f.who.0
+clock_stays s past e f run zero_is next = elim (cases_lt 0 f.who.0) [
   | inl positive ↦ positive
-  | inr le ↦
-      let a = clock_answer s past e move zero_is in
-      let stuck : ends_stuck (e ∷ past) ≡ true = rw (zero_is, a) refl in
-      let free = quiet (setup_of s) (e ∷ past) (clock_free s (e ∷ past) (chosen_clock s (e ∷ past) f next (omega (arith, le)))) in
-      absurd (false≢true (sym free.1 ∙ stuck))
+  | inr le ↦ absurd (clock_busy s past e run zero_is (soonest (setup_of s) past) (clock_answer s past e run.0 zero_is) (clock_free s (e ∷ past) (chosen_clock s (e ∷ past) f next (omega (arith, le)))))
 ]
 
 -- one where the last entry is the clock's
@@ -125,7 +131,7 @@ clock_then : (s : Tree) (past : Past) (f : Entry) → IsRun s past → IsMove s 
 clock_then s [] f run next zero_is = refl
 clock_then s (e ∷ past) f run next zero_is =
     elim (eqb_tells e.who.0 0) [
-      | inl x ↦ absurd (omega (arith, clock_stays s past e f run.0 x.1 next, zero_is))
+      | inl x ↦ absurd (omega (arith, clock_stays s past e f run x.1 next, zero_is))
       | inr x ↦ ap (λ b. cond {A = ℕ} b 1 0) x.0
     ]
 

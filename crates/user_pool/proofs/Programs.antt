@@ -1,17 +1,15 @@
 -- A thread that can move has a call to make.
-use Rattle.std.proofs.Common.{◌≡◌, ℕ, zero, suc, ◌<◌, Bool, true, false, not, cond, eqb, [], ◌∷◌, ◌++◌, refl, ap, ◌∙◌, sym, subst, inl, inr, arith}
+use Rattle.std.proofs.Common.{◌≡◌, ℕ, zero, suc, ◌<◌, Bool, true, false, cond, eqb, [], ◌∷◌, ◌++◌, refl, ap, ◌∙◌, sym, subst, inl, inr, length, arith}
 use Rattle.std.specs.Prelude.{◌&&◌}
 use Rattle.std.proofs.lemmas.Bool.{false≢true}
-use Rattle.std.proofs.lemmas.Bool.Decides.{eqb_tells}
-use Rattle.win_num.specs.declared.code.Code.TheVariants.{NotNow, Full}
+use Rattle.std.proofs.lemmas.Bool.Decides.{nat_tests, eqb_tells}
 use Rattle.user_model.specs.declared.call.Call.{Call}
 use Rattle.user_model.specs.declared.call.Call.TheVariants.{EndThread}
 use Rattle.user_model.specs.declared.entry.Answer.{Answer}
 use Rattle.user_model.specs.declared.entry.Answer.TheVariants as answers
 use Rattle.user_model.specs.Past.{Past, is_full}
 use Rattle.user_model.specs.Places.{has_ended, is_end}
-use Rattle.user_model.specs.Replies.{thread_reply}
-use Rattle.user_model.specs.Threads.{is_running}
+use Rattle.user_model.specs.Replies.{row}
 use Rattle.user_model.specs.Idle.{reply}
 use Rattle.script_tree.specs.Tree.{Tree}
 use Rattle.script_tree.specs.Pieces.{Trace, End, Whole, Cut, Going}
@@ -20,11 +18,13 @@ use Rattle.script_tree.specs.Traces.{IsTrace, EndsAfter, trace_of, program}
 use Rattle.script_tree.proofs.TraceLaws.{goes_on, some_end}
 use Rattle.script_tree.proofs.EndLaws.{whole_ends}
 use Rattle.script_tree.proofs.PastLaws.{trace_of-own, trace_of-other}
+use Rattle.script_tree.proofs.ListedAnswers.{next_by_row}
 use Rattle.log_text.specs.Ends.{setup_of}
 use Rattle.user_pool.specs.Runs.{ComesNext, IsRun}
 use Rattle.user_pool.specs.Moves.{CanMove}
 use Rattle.user_pool.proofs.Ended.{has_ended-next}
-use Rattle.user_pool.proofs.Turns.{chosen_can_move, not_ended, refuse_not, reply_thread}
+use Rattle.user_pool.proofs.OneRun.{run_lawful}
+use Rattle.user_pool.proofs.Turns.{chosen_can_move}
 
 -- what comes next of a thread is what its trace is cut before
 pub next_of : (s : Tree) (past : Past) (t : ℕ) (call : Call) → 0 < t → ComesNext s past t call → IsTrace s t (trace_of past t) (Cut call)
@@ -49,12 +49,13 @@ traced s (e ∷ past) t run positive =
           (below.0, subst (λ tr. IsTrace s t tr below.0) (sym (trace_of-other past e t x.1)) below.1)
     ]
 
--- a thread that can move is answered that it has ended
-ends_at : (s : Tree) (past : Past) (t : ℕ) → 0 < t → CanMove s past t → is_full past ≡ false → reply (setup_of s) past t EndThread ≡ answers.Ended
-ends_at s past t positive can room =
-    let running : not (is_running (setup_of s) past t) ≡ false = rw (can.known, not_ended s past t can) refl in
-    reply_thread (setup_of s) past t EndThread positive ∙ refuse_not (is_full past) Full (thread_reply (setup_of s) past t EndThread) room
-    ∙ refuse_not (not (is_running (setup_of s) past t)) NotNow answers.Ended running
+-- fewer entries than the history holds
+below_full : (past : Past) → is_full past ≡ false → length past < 2097152
+below_full past room = grind (arith, nat_tests, room)
+
+-- the call that comes next of a thread that can move is answered by its row
+pub by_row : (s : Tree) (past : Past) (t : ℕ) (call : Call) → IsRun s past → 0 < t → CanMove s past t → is_full past ≡ false → ComesNext s past t call → reply (setup_of s) past t call ≡ row (setup_of s) past t call
+by_row s past t call run positive can room next = next_by_row s (setup_of s) t past call can.known (run_lawful s past run) (below_full past room) (next_of s past t call positive next)
 
 last_same : (xs ys : Trace) (x y : Call × Answer) → xs ++ x ∷ [] ≡ ys ++ y ∷ [] → x ≡ y
 last_same [] [] x y e = cc
@@ -91,7 +92,7 @@ ended_so s (e ∷ past) t before run positive last =
           let call : e.call ≡ EndThread = ap (λ p. p.0) ends in
           let here : 0 < e.who.0 = omega (arith, x.1) in
           let can = chosen_can_move s past e.who.0 run.0.actor here in
-          let answer : e.answer ≡ answers.Ended = run.0.answer ∙ ap (reply (setup_of s) past e.who.0) call ∙ ends_at s past e.who.0 here can run.0.room in
+          let answer : e.answer ≡ answers.Ended = run.0.answer ∙ by_row s past e.who.0 e.call run.1 here can run.0.room run.0.call ∙ ap (row (setup_of s) past e.who.0) call in
           has_ended-next e past t ∙ ends_now (eqb e.who.0 t) (has_ended past t) e.answer x.0 (ap is_end answer)
       | inr x ↦
           let below : EndsAfter before (trace_of past t) = (last.0, sym (trace_of-other past e t x.1) ∙ last.1, last.2) in

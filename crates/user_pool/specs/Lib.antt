@@ -1,3 +1,4 @@
+pub mod InTurn
 pub mod Moves
 pub mod Runs
 pub mod Seats

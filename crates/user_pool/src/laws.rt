@@ -1,11 +1,16 @@
 //! Laws of runs. Each is a function that does nothing; its contract is the law.
 
-ghost use Rattle.std.specs.Prelude.{◌≡◌, ◌≢◌, ◌≤◌, List, length};
+ghost use Rattle.std.specs.Prelude.{◌≡◌, ◌≢◌, ◌≤◌, ℕ, List, length, All};
+ghost use Rattle.win_num.specs.declared.code.Code.{Code};
+ghost use Rattle.user_model.specs.declared.entry.Answer.{Answer};
 ghost use Rattle.user_model.specs.declared.entry.Entry.{Entry};
+ghost use Rattle.user_model.specs.Counts.{send_count};
 ghost use Rattle.user_model.specs.Legal.{IsLawful};
+ghost use Rattle.user_model.specs.SendStories.{IsSendStory, IsSettled};
 ghost use Rattle.script_tree.specs.Tree.{Tree};
 ghost use Rattle.log_text.specs.declared.end.End.{End};
 ghost use Rattle.log_text.specs.Ends.{setup_of, end_of};
+ghost use Rattle.user_pool.specs.InTurn.{AreByRow};
 ghost use Rattle.user_pool.specs.Runs.{IsRun, IsListed};
 
 /// A script has one listed run, so its log is one text.
@@ -27,4 +32,20 @@ pub fn runs_are_short()
 /// thread that could go on has used up its budget.
 pub fn runs_are_not_cut()
     ensures { (s : Tree) (past : List Entry) → IsListed s past → end_of s past ≢ End.Cut }
+{}
+
+/// A run makes no call out of turn: each entry of a thread has the answer that stands for its call
+/// where the call may be made, and no entry is refused as not now.
+pub fn no_call_out_of_turn()
+    ensures row { (s : Tree) (past : List Entry) → IsRun s past → AreByRow s past }
+    ensures never { (s : Tree) (past : List Entry) → IsRun s past → All (λ e. e.answer ≢ Answer.Refused Code.NotNow) past }
+{}
+
+/// What the threads of a run may rely on: each send is entered at most once and before its answer, which is
+/// handed on at most once and with its result; and where the run has ended with all threads, each send was
+/// answered, by its procedure, a reply, the loss of its window or the end of its time, and none is
+/// unfinished (Microsoft, SendMessage function).
+pub fn runs_answer_their_sends()
+    ensures story { (s : Tree) (past : List Entry) (send : ℕ) → IsRun s past → IsSendStory past send }
+    ensures settled { (s : Tree) (past : List Entry) → IsRun s past → end_of s past ≡ End.Done → IsSettled past (send_count past) }
 {}

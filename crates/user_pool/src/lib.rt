@@ -10,7 +10,10 @@ mod laws;
 mod run;
 mod seat;
 
-pub use laws::{one_run, runs_are_lawful, runs_are_not_cut, runs_are_short};
+pub use laws::{
+    no_call_out_of_turn, one_run, runs_answer_their_sends, runs_are_lawful, runs_are_not_cut,
+    runs_are_short,
+};
 pub use run::run_listed;
 
 #[cfg(test)]

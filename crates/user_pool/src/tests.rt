@@ -1,14 +1,14 @@
 ghost use Rattle.std.specs.Prelude.{◌≡◌, ◌≤◌, length, IsTrue};
 ghost use Rattle.user_model.specs.declared.entry.Entry.{Entry};
 ghost use Rattle.user_model.specs.declared.entry.Setup.{Setup};
-ghost use Rattle.user_pool.specs.Replays.{IsPlayable, past_at, bar_of};
+ghost use Rattle.user_pool.specs.Replays.{IsPlayable, past_at, bar_of, no_sends};
 
 use super::run_listed;
 use log_text::End;
 use script_tree::{Body, CallStatement, Comparison, Operand, Script, Statement, Test};
 use std::alloc::AllocError;
 use std::test::Fail;
-use user_model::{Answer, Call, Entry, Machine, Origin, Setup};
+use user_model::{Answer, Call, Entry, Machine, Origin, SendCount, Setup};
 use win_num::{Hwnd, Msg, Point, Thread};
 
 /// Plays a history back while its calls are made, and has no memory for others.
@@ -45,6 +45,25 @@ impl Machine for Replay<'_> {
 
     fn history(&self) -> &[Entry] {
         &self.entries[..self.place]
+    }
+
+    fn send_count(&self) -> SendCount {
+        no_sends()
+    }
+}
+
+/// The counts where no send was made.
+fn no_sends() -> SendCount
+    ensures { result ≡ no_sends }
+{
+    SendCount {
+        begun: 0,
+        entered: 0,
+        by_proc: 0,
+        by_reply: 0,
+        by_loss: 0,
+        by_timeout: 0,
+        unfinished: 0,
     }
 }
 
@@ -118,7 +137,15 @@ macro_rules! get {
 fn one_thread_that_ends(rt: HostRuntime) -> Result<(), Fail> {
     let alloc = rt.alloc();
     let threads = vec![in alloc; Body::new(Vec::new(alloc))]?;
-    let script = Script::new(8, 4, 100, Vec::new(alloc), Vec::new(alloc), threads);
+    let script = Script::new(
+        8,
+        4,
+        100,
+        Vec::new(alloc),
+        Vec::new(alloc),
+        Vec::new(alloc),
+        threads,
+    );
     let entries = [entry!(1, Call::EndThread, Answer::Ended)];
     let bars = [(true, false, false, false), (true, true, false, false)];
     let setup = Setup {
@@ -144,7 +171,15 @@ fn two_threads_that_wait(rt: HostRuntime) -> Result<(), Fail> {
     let first = vec![in alloc; get!()]?;
     let second = vec![in alloc; get!()]?;
     let threads = vec![in alloc; Body::new(first), Body::new(second)]?;
-    let script = Script::new(8, 4, 100, Vec::new(alloc), Vec::new(alloc), threads);
+    let script = Script::new(
+        8,
+        4,
+        100,
+        Vec::new(alloc),
+        Vec::new(alloc),
+        Vec::new(alloc),
+        threads,
+    );
     let entries = [
         entry!(1, Call::Get(0, 0, 0), Answer::Wait),
         entry!(2, Call::Get(0, 0, 0), Answer::Wait),
@@ -212,7 +247,15 @@ fn two_threads_that_post_to_a_third(rt: HostRuntime) -> Result<(), Fail> {
     let second = vec![in alloc; post!(1024, 3)]?;
     let third = vec![in alloc; get!(), get!(), get!()]?;
     let threads = vec![in alloc; Body::new(first), Body::new(second), Body::new(third)]?;
-    let script = Script::new(8, 4, 100, Vec::new(alloc), Vec::new(alloc), threads);
+    let script = Script::new(
+        8,
+        4,
+        100,
+        Vec::new(alloc),
+        Vec::new(alloc),
+        Vec::new(alloc),
+        threads,
+    );
     let entries = [
         entry!(1, Call::PostThread(3, 1024, 1, 0), Answer::Posted(1)),
         entry!(2, Call::PostThread(3, 1024, 3, 0), Answer::Posted(2)),
@@ -260,7 +303,7 @@ fn by_the_order_list(rt: HostRuntime) -> Result<(), Fail> {
     let second = vec![in alloc; Statement::Call(CallStatement::Yield)]?;
     let threads = vec![in alloc; Body::new(first), Body::new(second)]?;
     let order = vec![in alloc; 2, 9, 2, 2, 1]?;
-    let script = Script::new(8, 4, 100, order, Vec::new(alloc), threads);
+    let script = Script::new(8, 4, 100, order, Vec::new(alloc), Vec::new(alloc), threads);
     let entries = [
         entry!(2, Call::Yield, Answer::Okay),
         entry!(2, Call::EndThread, Answer::Ended),
@@ -301,7 +344,15 @@ fn a_loop_that_spends_its_budget(rt: HostRuntime) -> Result<(), Fail> {
     };
     let body = vec![in alloc; Statement::While(always, Vec::new(alloc))]?;
     let threads = vec![in alloc; Body::new(body)]?;
-    let script = Script::new(8, 4, 2, Vec::new(alloc), Vec::new(alloc), threads);
+    let script = Script::new(
+        8,
+        4,
+        2,
+        Vec::new(alloc),
+        Vec::new(alloc),
+        Vec::new(alloc),
+        threads,
+    );
     let entries = [
         entry!(1, Call::Yield, Answer::Okay),
         entry!(1, Call::Yield, Answer::Okay),

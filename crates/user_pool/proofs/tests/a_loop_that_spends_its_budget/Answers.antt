@@ -29,7 +29,7 @@ lawful = ((tt, refl), refl)
 
 playable : IsPlayable setup history bars
 unfolding reply is_barred
-playable = record { short = omega arith; each = refl; answers = answered; told = told }
+playable = record { short = omega arith; each = refl; answers = answered; told = told; unsent = refl }
   where
     answered : (place : ℕ) (d : Entry) → place < 2 → (slice_index_or history place d).answer ≡ reply setup (past_at history place) (slice_index_or history place d).who.0 (slice_index_or history place d).call
     answered zero d lt = refl

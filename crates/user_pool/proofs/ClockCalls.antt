@@ -1,0 +1,193 @@
+-- No program makes a call of the clock.
+use Rattle.std.proofs.Common.{◌≡◌, ℕ, Bool, true, false, List, [], ◌∷◌, ◌++◌, refl, subst}
+use Rattle.std.specs.Prelude.{◌==◌, if◌then◌else◌}
+use Rattle.user_model.specs.declared.call.Call.{Call}
+use Rattle.user_model.specs.declared.call.Call.TheVariants.{Doom, Await, Tick, Advance}
+use Rattle.user_model.specs.declared.entry.Answer.{Answer}
+use Rattle.user_model.specs.declared.entry.Answer.TheVariants.{Wait, Enter, Callback, Begun, Tell, Last, Window, Refused}
+use Rattle.script_tree.specs.declared.messages.TheConstants.{WM_CLOSE}
+use Rattle.script_tree.specs.declared.statement.CallStatement.{CallStatement}
+use Rattle.script_tree.specs.declared.statement.CallStatement.TheVariants.{Yield}
+use Rattle.script_tree.specs.declared.statement.Statement.{Statement}
+use Rattle.script_tree.specs.declared.statement.Statement.TheVariants.{Let, Compute, If', IfElse', While', Return, Call as CallOf, Sleep, Create, Destroy, Default as DefaultOf}
+use Rattle.script_tree.specs.declared.frame.Run.{Run}
+use Rattle.script_tree.specs.declared.frame.Compound.{Compound}
+use Rattle.script_tree.specs.declared.frame.Compound.TheVariants.{Making as MakingWindow, Greeting, Telling, Dooming, Unmaking, Destroying, Parting, Dropping}
+use Rattle.script_tree.specs.declared.frame.Next.{Next}
+use Rattle.script_tree.specs.declared.frame.Next.TheVariants.{Calls, Ends}
+use Rattle.script_tree.specs.declared.variables.Variables.{Variables}
+use Rattle.user_model.specs.Stacks.{leaves, waits}
+use Rattle.script_tree.specs.Tree.{Tree}
+use Rattle.script_tree.specs.Values.{holds, call_of}
+use Rattle.script_tree.specs.Compounds.{compound_after, after_making, after_telling, after_dooming, after_unmaking}
+use Rattle.script_tree.specs.Pieces.{Piece, Lines, One, PassEnd, Making, Again, Giving, Sleeping, Running, Leaving, Leaves, Feed, Default, Take, State, Going, Returning, Given, Step, Becomes, Asks, Trace, End, Cut}
+use Rattle.script_tree.specs.Steps.{step, statement, begins, returns_to, takes, goes_on, sleeps, is_callback, is_last, following, follows}
+use Rattle.script_tree.specs.Traces.{Makes, over, silent, entry, cut, IsTrace}
+
+-- a call of the clock
+abbrev pub is_of_clock : Call → Bool
+is_of_clock (Tick ms) = true
+is_of_clock Advance = true
+is_of_clock call = false
+
+-- pieces that make no call of the clock
+abbrev Free : List Piece → Type 0
+Free [] = Unit {0}
+Free (Making call ∷ ps) = (is_of_clock call ≡ false) × Free ps
+Free (Again call ∷ ps) = (is_of_clock call ≡ false) × Free ps
+Free (p ∷ ps) = Free ps
+
+-- a step to such pieces, or to such a call
+abbrev FreeStep : List Piece → Step → Type 0
+FreeStep left (Becomes ps st) = Free (ps ++ left)
+FreeStep left (Asks call) = (is_of_clock call ≡ false) × Free left
+
+abbrev FreeNext : Next → Type 0
+FreeNext (Calls call q) = is_of_clock call ≡ false
+FreeNext (Ends a) = Unit {0}
+
+-- ---- compounds and statements
+
+one_of : (b : Bool) (x y : Next) → FreeNext x → FreeNext y → FreeNext (if b then x else y)
+one_of true x y f g = f
+one_of false x y f g = g
+
+free_making : (a : Answer) → FreeNext (after_making a)
+free_making (Window w) = refl
+free_making a = tt
+
+free_telling : (w : ℕ) (a : Answer) (x : ℕ) → FreeNext (after_telling w a x)
+free_telling w (Refused code) x = refl
+free_telling w a x = one_of (x == 18446744073709551615) _ _ refl tt
+
+free_dooming : (w : ℕ) (alone : Bool) (a : Answer) → FreeNext (after_dooming w alone a)
+free_dooming w alone (Refused code) = one_of alone _ _ tt tt
+free_dooming w alone a = refl
+
+free_unmaking : (w : ℕ) (alone : Bool) (a : Answer) → FreeNext (after_unmaking w alone a)
+free_unmaking w alone (Tell v) = refl
+free_unmaking w alone (Last v) = refl
+free_unmaking w alone (Refused code) = one_of alone _ _ tt tt
+free_unmaking w alone a = one_of alone _ _ tt tt
+
+free_compound : (q : Compound) (a : Answer) (x : ℕ) → FreeNext (compound_after q a x)
+free_compound MakingWindow a x = free_making a
+free_compound (Greeting w) a x = one_of (x == 0) _ _ refl refl
+free_compound (Telling w) a x = free_telling w a x
+free_compound (Dooming w alone) a x = free_dooming w alone a
+free_compound (Unmaking w alone) a x = free_unmaking w alone a
+free_compound (Destroying w alone) a x = refl
+free_compound (Parting w v alone) a x = refl
+free_compound (Dropping w alone) a x = refl
+
+free_call : (ask : CallStatement) (v : Variables) → is_of_clock (call_of ask v) ≡ false
+free_call Yield v = refl
+free_call ask v = refl
+
+-- ---- steps
+
+module _ (s : Tree) (n : ℕ) (left : List Piece) (h : Free left) where
+  either : (b : Bool) (x y : Step) → FreeStep left x → FreeStep left y → FreeStep left (if b then x else y)
+  either true x y f g = f
+  either false x y f g = g
+
+  free_default : (b : Bool) (w : ℕ) (q : Compound) (x : ℕ) (st : State) → FreeStep left (Becomes ((if b then Making (Doom w) ∷ Feed q ∷ [] else []) ++ Default x ∷ Take ∷ []) st)
+  free_default true w q x st = (refl, h)
+  free_default false w q x st = h
+
+  free_leaving : (b : Bool) (w : ℕ) (q : Compound) (x : ℕ) (run : Run) (st : State) → FreeStep left (Becomes ((if b then Making (Doom w) ∷ Feed q ∷ [] else []) ++ Default x ∷ Leaving run ∷ []) st)
+  free_leaving true w q x run st = (refl, h)
+  free_leaving false w q x run st = h
+
+  free_statement : (line : Statement) (v : Variables) → FreeStep left (statement line v n)
+  free_statement (If' t k a) v = either (holds t v) _ _ h h
+  free_statement (While' t k a) v = either (holds t v) _ _ h h
+  free_statement (CallOf ask) v = (free_call ask v, h)
+  free_statement DefaultOf v = free_default (v.parameters.number == WM_CLOSE) _ _ _ (Going v)
+  free_statement (Let x e) v = h
+  free_statement (Compute x e op f) v = h
+  free_statement (IfElse' t k a j b) v = h
+  free_statement (Return e) v = h
+  free_statement (Sleep e) v = (refl, h)
+  free_statement (Create c) v = (refl, h)
+  free_statement (Destroy e) v = (refl, h)
+
+  free_next : (v : Variables) (next : Next) → FreeNext next → FreeStep left (goes_on v next)
+  free_next v (Calls call q) f = (f, h)
+  free_next v (Ends a) f = h
+
+  free_sleep : (ms : ℕ) (v : Variables) (a : Answer) (x : ℕ) → FreeStep left (sleeps ms v a x)
+  free_sleep ms v (Refused code) x = h
+  free_sleep ms v a x = (refl, h)
+
+  free_begins : (p : Piece) (v : Variables) → Free (p ∷ left) → FreeStep left (begins s p v n)
+  free_begins (Lines []) v k = h
+  free_begins (Lines (line ∷ lines)) v k = h
+  free_begins (One line) v k = free_statement line v
+  free_begins (PassEnd loop began) v k = either (n == began) _ _ (refl, h) h
+  free_begins (Making call) v k = k
+  free_begins (Running run) v k = h
+  free_begins (Leaving run) v k = either (is_callback run.frame) _ _ h (free_leaving (run.parameters.number == WM_CLOSE) _ _ _ run (Going v))
+  free_begins (Leaves frame x) v k = (refl, h)
+  free_begins p v k = h
+
+  free_returns : (p : Piece) (v : Variables) (x : ℕ) → Free (p ∷ left) → FreeStep left (returns_to p v x)
+  free_returns (Making call) v x k = k
+  free_returns (Again call) v x k = k
+  free_returns p v x k = h
+
+  free_takes : (p : Piece) (v : Variables) (a : Answer) (x : ℕ) → FreeStep left (takes p v a x)
+  free_takes (Sleeping ms) v a x = free_sleep ms _ a x
+  free_takes (Feed q) v a x = free_next v (compound_after q a x) (free_compound q a x)
+  free_takes p v a x = h
+
+  free_step : (p : Piece) (st : State) → Free (p ∷ left) → FreeStep left (step s p st n)
+  free_step p (Going v) k = free_begins p v k
+  free_step p (Returning v x) k = free_returns p v x k
+  free_step p (Given v a x) k = free_takes p v a x
+
+-- what follows a call that isn't one of the clock's
+free_again : (b : Bool) (call : Call) (a : Answer) (left : List Piece) → is_of_clock call ≡ false → Free left → Free ((if b then Giving a else Again call) ∷ left)
+free_again true call a left f h = h
+free_again false call a left f h = (f, h)
+
+free_begun : (b : Bool) (call : Call) (left : List Piece) → is_of_clock call ≡ false → Free left → Free ((if b then Making call ∷ [] else []) ++ left)
+free_begun true call left f h = (f, h)
+free_begun false call left f h = h
+
+free_following : (call : Call) (a : Answer) (left : List Piece) → is_of_clock call ≡ false → Free left → Free (following call a ++ left)
+free_following call (Enter i j w m p q) left f h = (f, h)
+free_following call (Callback i j w m p q) left f h = free_again (leaves call) call (Callback i j w m p q) left f h
+free_following call (Begun i) left f h = free_begun (waits call) (Await i.0) left refl h
+free_following call a left f h = h
+
+free_unless : (b : Bool) (ps left : List Piece) → Free left → Free (ps ++ left) → Free ((if b then [] else ps) ++ left)
+free_unless true ps left h k = h
+free_unless false ps left h k = k
+
+free_follows : (call : Call) (a : Answer) (left : List Piece) → is_of_clock call ≡ false → Free left → Free (follows call a ++ left)
+free_follows call Wait left f h = (f, h)
+free_follows call a left f h = free_unless (is_last call) (following call a) left h (free_following call a left f h)
+
+behind : (p : Piece) (left : List Piece) → Free (p ∷ left) → Free left
+behind (Making call) left h = h.1
+behind (Again call) left h = h.1
+behind p left h = h
+
+module _ (s : Tree) where
+  -- pieces that make no call of the clock come to none
+  comes_to : {ps : List Piece} {st : State} {n : ℕ} {tr : Trace} {e : End} → Makes s ps st n tr e → Free ps → (call : Call) → e ≡ Cut call → is_of_clock call ≡ false
+  comes_to over h call f = absurd cc
+  comes_to (silent {p = p} {left = left} {st = st} {n = n} ps st' g m) h call f =
+      comes_to m (subst (FreeStep left) g (free_step s n left (behind p left h) p st h)) call f
+  comes_to (entry {p = p} {left = left} {st = st} {n = n} c a g m) h call f =
+      let k : (is_of_clock c ≡ false) × Free left = subst (FreeStep left) g (free_step s n left (behind p left h) p st h) in
+      comes_to m (free_follows c a left k.0 k.1) call f
+  comes_to (cut {p = p} {left = left} {st = st} {n = n} c g) h call f =
+      let k : (is_of_clock c ≡ false) × Free left = subst (FreeStep left) g (free_step s n left (behind p left h) p st h) in
+      let same : c ≡ call = cc in
+      subst (λ x. is_of_clock x ≡ false) same k.0
+
+  -- so a thread makes none
+  pub none_of_clock : (t : ℕ) (tr : Trace) (call : Call) → IsTrace s t tr (Cut call) → is_of_clock call ≡ false
+  none_of_clock t tr call m = comes_to m (refl, tt) call refl
