@@ -1,5 +1,6 @@
 pub mod MadeScripts
 pub mod Requests
+pub mod RunEnds
 pub mod SameBodies
 pub mod SameLogs
 pub mod SameOutputs

@@ -12,7 +12,8 @@ use Rattle.script_lines.specs.declared.line.Line.{Line}
 use Rattle.script_lines.specs.declared.line.Line.TheVariants.{Thread, While as WhileLine, End}
 use Rattle.script_lines.specs.LineLimits.{IsLine}
 use Rattle.script_lines.specs.LineTexts.{line_text}
-use Rattle.script_lines.specs.NameLimits.{are_in_order}
+use Rattle.script_lines.specs.Known.{nothing_known}
+use Rattle.script_lines.specs.NameLimits.{are_in_order, are_procedures_in_order}
 use Rattle.script_lines.specs.Words.{line_words}
 use Rattle.script_text.specs.Lines.{statement_lines, row_lines, body_lines, thread_lines, script_lines}
 use Rattle.script_text.specs.Nesting.{nests}
@@ -30,7 +31,7 @@ loop_lines t pass = search (rules, the_lemmas, row_is)
 
 -- the tree of these bodies
 abbrev pub made_tree : List Statement → List Statement → Tree
-made_tree a b = record { width = 8; height = 4; budget = 65536; order = []; names = []; threads = a ∷ b ∷ [] }
+made_tree a b = record { width = 8; height = 4; budget = 65536; order = []; names = []; procedures = []; threads = a ∷ b ∷ [] }
 
 -- its lines
 abbrev made_lines : ℕ → List Line
@@ -78,7 +79,7 @@ rest = codes "post_thread 2 WM_USER a 0\nlet a a + 1\nend\npost_thread 2 WM_QUIT
 spelled : (n : ℕ) (a b : List Statement) → body_lines a ≡ sender_lines n → body_lines b ≡ receiver_lines → spelling (made_tree a b) ≡ made_text n
 unfolding spelling
 spelled n a b x y =
-    ap (λ (l : List Line). flat_map line_text (head_words (made_tree a b) ++ map (line_words []) l)) (lines_are n a b x y) ∙ simp (nought, one, two, four, eight, most) (ap (λ (l : List ℕ). front ++ l) (line_end (decimal n) rest))
+    ap (λ (l : List Line). flat_map line_text (head_words (made_tree a b) ++ map (line_words nothing_known) l)) (lines_are n a b x y) ∙ simp (nought, one, two, four, eight, most) (ap (λ (l : List ℕ). front ++ l) (line_end (decimal n) rest))
 
 are_lines : (n : ℕ) → n ≤ 60000 → AllByRecursion IsLine (made_lines n)
 are_lines n few = (tt, ((tt, (tt, (omega (arith, few), tt))), ((omega arith, (refl, (tt, (omega arith, tt)))), ((tt, (tt, (tt, (omega arith, tt)))), (tt, ((omega arith, (refl, (omega arith, (omega arith, tt)))), (tt, (tt, ((omega arith, (omega arith, (omega arith, tt))), ((tt, (tt, (omega arith, tt))), ((tt, (tt, (tt, (tt, tt)))), ((omega arith, (omega arith, (omega arith, tt))), (tt, (tt, tt))))))))))))))
@@ -99,10 +100,11 @@ made n a b few x y =
         budget = (omega arith, omega arith);
         turns = refl;
         few_turns = omega arith;
-        named = record { spelled = refl; distinct = refl; few = omega arith };
+        named = record { names = record { spelled = refl; distinct = refl; few = omega arith }; procedures = record { spelled = refl; distinct = refl; few = omega arith } };
         threads = (omega arith, omega arith);
         lines = subst (AllByRecursion IsLine) (sym lines) (are_lines n few);
         in_order = ap (are_in_order 0) lines;
+        procedures_in_order = ap (are_procedures_in_order 0) lines;
         nested = ap nests lines;
         short = subst (λ (l : List ℕ). length l ≤ 1048576) (sym (spelled n a b x y)) (short n few);
       };

@@ -1,12 +1,13 @@
 -- The lines of statements tell them apart.
 use Rattle.std.proofs.Common.{◌≡◌, ℕ, zero, suc, List, [], ◌∷◌, ◌++◌, length, get_or, refl, sym, ap, ◌∙◌, subst, append_assoc}
-use Rattle.std.specs.Prelude.{⊤}
+use Rattle.std.specs.Prelude.{⊤, ◌+◌, slice_get}
 use Rattle.std.specs.List.{flat_map}
 use Rattle.script_tree.specs.declared.statement.Statement.{Statement, Row_of-Statement, end_of-Statement, more_of-Statement, items-the_row-Statement}
-use Rattle.script_tree.specs.declared.statement.Statement.TheVariants.{Let, Compute, If', IfElse', While', Call}
+use Rattle.script_tree.specs.declared.statement.Statement.TheVariants.{Let, Compute, If', IfElse', While', Return, Call, Sleep, Create, Destroy, Default}
+use Rattle.script_tree.specs.Tree.{ProcedureTree, statements_of}
 use Rattle.script_lines.specs.declared.line.Line.{Line}
 use Rattle.script_lines.specs.declared.line.Line.TheVariants as lines
-use Rattle.script_text.specs.Lines.{statement_lines, row_lines, body_lines, thread_lines}
+use Rattle.script_text.specs.Lines.{statement_lines, row_lines, body_lines, thread_lines, numbered_lines, bodies_of}
 
 pub line_of : {x y : Line} {xs ys : List Line} → x ∷ xs ≡ y ∷ ys → x ≡ y
 line_of e = cc
@@ -28,7 +29,12 @@ not_shut (Compute v a op b) r h = h
 not_shut (If' t k a) r h = h
 not_shut (IfElse' t k a j b) r h = h
 not_shut (While' t k a) r h = h
+not_shut (Return a) r h = h
 not_shut (Call c) r h = h
+not_shut (Sleep a) r h = h
+not_shut (Create c) r h = h
+not_shut (Destroy a) r h = h
+not_shut Default r h = h
 
 -- and there is one
 pub some_line : (x : Statement) (r : List Line) → [] ≡ statement_lines x ++ r → ⊥
@@ -37,7 +43,12 @@ some_line (Compute v a op b) r e = absurd cc
 some_line (If' t k a) r e = absurd cc
 some_line (IfElse' t k a j b) r e = absurd cc
 some_line (While' t k a) r e = absurd cc
+some_line (Return a) r e = absurd cc
 some_line (Call c) r e = absurd cc
+some_line (Sleep a) r e = absurd cc
+some_line (Create c) r e = absurd cc
+some_line (Destroy a) r e = absurd cc
+some_line Default r e = absurd cc
 
 -- lines of a first part and a second, which are told apart
 abbrev Apart : List Line → List Line → List Line → List Line → Type 0
@@ -90,7 +101,12 @@ mutual
   statement_apart (While' t k a) (While' u l b) r q e =
       let f = row_apart a b (lines.End ∷ r) (lines.End ∷ q) tt tt (regrouped (row_lines a) (lines.End ∷ []) r (row_lines b) (lines.End ∷ []) q (lines_behind e)) in
       block (lines.While t) (lines.While u) (row_lines a) (row_lines b) r q (line_of e) f.0 f.1
+  statement_apart (Return a) (Return b) r q e = one_line _ _ r q e
   statement_apart (Call c) (Call d) r q e = one_line _ _ r q e
+  statement_apart (Sleep a) (Sleep b) r q e = one_line _ _ r q e
+  statement_apart (Create c) (Create d) r q e = one_line _ _ r q e
+  statement_apart (Destroy a) (Destroy b) r q e = one_line _ _ r q e
+  statement_apart Default Default r q e = one_line _ _ r q e
   statement_apart x y r q e = absurd cc
 
   -- the lines of the statements inside of one end where its block does
@@ -140,7 +156,7 @@ end_no_else a b d e =
     let clash : lines.End ≡ lines.Else = line_of f.1 in
     cc
 
--- bodies of the same lines, one for each thread
+-- bodies of the same lines, one after another
 abbrev pub SameBodies : List (List Statement) → List (List Statement) → Type 0
 SameBodies [] [] = ⊤
 SameBodies (x ∷ xs) (y ∷ ys) = (body_lines x ≡ body_lines y) × SameBodies xs ys
@@ -153,6 +169,37 @@ bodies_apart (x ∷ xs) [] e = absurd cc
 bodies_apart (x ∷ xs) (y ∷ ys) e =
     let f = body_apart x y (lines.End ∷ flat_map thread_lines xs) (lines.End ∷ flat_map thread_lines ys) tt tt (regrouped (body_lines x) (lines.End ∷ []) (flat_map thread_lines xs) (body_lines y) (lines.End ∷ []) (flat_map thread_lines ys) (lines_behind e)) in
     (f.0, bodies_apart xs ys (lines_behind f.1))
+
+no_procedure : (ts : List (List Statement)) (k : ℕ) (r : List Line) → flat_map thread_lines ts ≡ lines.Procedure k ∷ r → ⊥
+no_procedure [] k r e = absurd cc
+no_procedure (t ∷ ts) k r e = absurd cc
+
+-- the body of a procedure, and from its end on the rest
+to_the_right : (a b c : List Line) → ((a ++ lines.End ∷ []) ++ b) ++ c ≡ a ++ (lines.End ∷ (b ++ c))
+to_the_right a b c = append_assoc (a ++ lines.End ∷ []) b c ∙ append_assoc a (lines.End ∷ []) (b ++ c)
+
+-- the lines of procedures that are numbered from a number on end where the threads begin
+pub procedures_apart : (k : ℕ) (xs ys ts us : List (List Statement)) → numbered_lines k xs ++ flat_map thread_lines ts ≡ numbered_lines k ys ++ flat_map thread_lines us
+    → SameBodies xs ys × (flat_map thread_lines ts ≡ flat_map thread_lines us)
+procedures_apart k [] [] ts us e = (tt, e)
+procedures_apart k [] (y ∷ ys) ts us e = absurd (no_procedure ts k _ e)
+procedures_apart k (x ∷ xs) [] ts us e = absurd (no_procedure us k _ (sym e))
+procedures_apart k (x ∷ xs) (y ∷ ys) ts us e =
+    let rest : List Line = numbered_lines (k + 1) xs ++ flat_map thread_lines ts in
+    let other : List Line = numbered_lines (k + 1) ys ++ flat_map thread_lines us in
+    let tail : body_lines x ++ (lines.End ∷ rest) ≡ body_lines y ++ (lines.End ∷ other) =
+    sym (to_the_right (body_lines x) (numbered_lines (k + 1) xs) (flat_map thread_lines ts)) ∙ lines_behind e ∙ to_the_right (body_lines y) (numbered_lines (k + 1) ys) (flat_map thread_lines us) in
+    let f = body_apart x y (lines.End ∷ rest) (lines.End ∷ other) tt tt tail in
+    let below = procedures_apart (k + 1) xs ys ts us (lines_behind f.1) in
+    ((f.0, below.0), below.1)
+
+-- procedures of the same bodies, by their numbers
+pub same_procedure : (ps qs : List ProcedureTree) (k : ℕ) → SameBodies (bodies_of ps) (bodies_of qs) → body_lines (statements_of (slice_get ps k)) ≡ body_lines (statements_of (slice_get qs k))
+same_procedure [] [] k h = refl
+same_procedure [] (q ∷ qs) k h = absurd h
+same_procedure (p ∷ ps) [] k h = absurd h
+same_procedure (p ∷ ps) (q ∷ qs) zero h = h.0
+same_procedure (p ∷ ps) (q ∷ qs) (suc k) h = same_procedure ps qs k h.1
 
 pub same_count : (xs ys : List (List Statement)) → SameBodies xs ys → length xs ≡ length ys
 same_count [] [] h = refl

@@ -1,9 +1,11 @@
 -- Two trees that say the same have the same logs.
 use Rattle.std.proofs.Common.{◌≡◌, ℕ, zero, suc, not, List, [], ◌∷◌, ◌++◌, length, Option, Some, None, refl, sym, ap, ◌∙◌}
-use Rattle.std.specs.Prelude.{◌==◌, ◌&&◌, if◌then◌else◌, is_none, reverse, codes, decimal}
+use Rattle.std.specs.Prelude.{◌==◌, ◌&&◌, if◌then◌else◌, is_none, reverse, codes, decimal, slice_get, unwrap_or}
 use Rattle.std.specs.List.{flat_map}
 use Rattle.user_model.specs.declared.call.Call.{Call}
 use Rattle.user_model.specs.declared.call.Call.TheVariants as calls
+use Rattle.user_model.specs.declared.entry.Answer.{Answer}
+use Rattle.user_model.specs.declared.entry.Answer.TheVariants as answers
 use Rattle.user_model.specs.declared.entry.Entry.{Entry}
 use Rattle.user_model.specs.declared.entry.Setup.{Setup}
 use Rattle.user_model.specs.Past.{Past}
@@ -11,23 +13,50 @@ use Rattle.user_model.specs.Places.{has_ended}
 use Rattle.user_model.specs.Threads.{lowest, from_each}
 use Rattle.user_model.specs.Idle.{is_idle, is_quiet, have_all_ended, ends_stuck, is_barred}
 use Rattle.user_io.specs.Text.{operand}
-use Rattle.script_tree.specs.Tree.{Tree}
+use Rattle.script_tree.specs.Tree.{ProcedureTree, Tree}
+use Rattle.script_text.specs.Lines.{names_of}
 use Rattle.log_text.specs.declared.end.End.{End}
 use Rattle.log_text.specs.declared.end.End.TheVariants.{Done, Stuck, Spent, Cut}
 use Rattle.log_text.specs.Ends.{setup_of, used, end_of}
-use Rattle.log_text.specs.Entries.{call_text, answer_text, entry_text}
+use Rattle.log_text.specs.Entries.{name_text, message_text, posting_text, procedure_name, procedure_text, call_text, answer_text, entry_text}
 use Rattle.log_text.specs.Endings.{end_line, last_call, waits_line, spent_line, extra, sends_line, ending}
 use Rattle.log_text.specs.Logs.{log}
 use Rattle.user_app.proofs.SameRuns.{SameRules}
 
--- a tree with these names and nothing else
-abbrev named : List (List ℕ) → Tree
-named names = record { width = 0; height = 0; budget = 0; order = []; names = names; threads = [] }
+-- procedures with these names and nothing else
+abbrev bare : List (List ℕ) → List ProcedureTree
+bare [] = []
+bare (name ∷ names) = record { name = name; body = [] } ∷ bare names
+
+-- a tree with these names, procedures of these names, and nothing else
+abbrev named : List (List ℕ) → List (List ℕ) → Tree
+named names procedures = record { width = 0; height = 0; budget = 0; order = []; names = names; procedures = bare procedures; threads = [] }
+
+bare_name : (ps : List ProcedureTree) (k : ℕ) → procedure_name (slice_get ps k) ≡ procedure_name (slice_get (bare (names_of ps)) k)
+bare_name [] k = refl
+bare_name (p ∷ ps) zero = refl
+bare_name (p ∷ ps) (suc k) = bare_name ps k
+
+by_name : (s : Tree) (k : ℕ) → procedure_text s k ≡ procedure_text (named s.names (names_of s.procedures)) k
+by_name s k = ap (λ (o : Option (List ℕ)). 32 ∷ unwrap_or o (decimal k)) (bare_name s.procedures k)
 
 -- the text of a call takes only the names
-by_names : (s : Tree) (call : Call) → call_text s call ≡ call_text (named s.names) call
-by_names s calls.EndThread = refl
-by_names s call = refl
+call_by_names : (s : Tree) (call : Call) → call_text s call ≡ call_text (named s.names (names_of s.procedures)) call
+call_by_names s (calls.SendCallback w m p q procedure extra) = ap (λ (x : List ℕ). codes "send_callback" ++ (posting_text w m p q ++ (x ++ operand extra))) (by_name s procedure)
+call_by_names s (calls.Register class procedure colour) = ap (λ (x : List ℕ). codes "register" ++ (name_text s class ++ (x ++ operand colour))) (by_name s procedure)
+call_by_names s calls.EndThread = refl
+call_by_names s call = refl
+
+-- and so does that of an answer
+answer_by_names : (s : Tree) (a : Answer) → answer_text s a ≡ answer_text (named s.names (names_of s.procedures)) a
+answer_by_names s (answers.Called procedure) = ap (λ (x : List ℕ). codes "called" ++ x) (by_name s procedure)
+answer_by_names s (answers.Inside n procedure) = ap (λ (x : List ℕ). codes "inside" ++ (operand n.0 ++ x)) (by_name s procedure)
+answer_by_names s (answers.Enter n procedure w m p q) =
+    ap (λ (x : List ℕ). codes "enter" ++ ((operand n.0 ++ (x ++ (operand w.0 ++ message_text m))) ++ (operand p ++ operand q))) (by_name s procedure)
+answer_by_names s (answers.Callback n procedure w m extra v) =
+    ap (λ (x : List ℕ). codes "callback" ++ ((operand n.0 ++ (x ++ (operand w.0 ++ message_text m))) ++ (operand extra ++ operand v))) (by_name s procedure)
+answer_by_names s answers.Okay = refl
+answer_by_names s a = refl
 
 -- an end by what it takes of a tree
 abbrev ends_so : Setup → ℕ → ℕ → Past → End
@@ -36,11 +65,19 @@ ends_so setup budget count past =
     if not (is_quiet setup past) && is_none (lowest (λ t. not (is_idle setup past t) && not (used past t == budget)) count) then Spent else Cut
 
 module _ (s t : Tree) (h : SameRules s t) where
+  same_names : named s.names (names_of s.procedures) ≡ named t.names (names_of t.procedures)
+  same_names = ap (λ (x : List (List ℕ)). named x (names_of s.procedures)) h.names ∙ ap (named t.names) h.procedure_names
+
   same_call_text : (call : Call) → call_text s call ≡ call_text t call
-  same_call_text call = by_names s call ∙ ap (λ (x : List (List ℕ)). call_text (named x) call) h.names ∙ sym (by_names t call)
+  same_call_text call = call_by_names s call ∙ ap (λ (x : Tree). call_text x call) same_names ∙ sym (call_by_names t call)
+
+  same_answer_text : (a : Answer) → answer_text s a ≡ answer_text t a
+  same_answer_text a = answer_by_names s a ∙ ap (λ (x : Tree). answer_text x a) same_names ∙ sym (answer_by_names t a)
 
   same_entry : (e : Entry) → entry_text s e ≡ entry_text t e
-  same_entry e = ap (λ (x : List ℕ). decimal e.who.0 ++ (codes " " ++ (x ++ (codes " = " ++ (answer_text e.answer ++ codes "\n"))))) (same_call_text e.call)
+  same_entry e =
+      ap (λ (x : List ℕ). decimal e.who.0 ++ (codes " " ++ (x ++ (codes " = " ++ (answer_text s e.answer ++ codes "\n"))))) (same_call_text e.call)
+      ∙ ap (λ (x : List ℕ). decimal e.who.0 ++ (codes " " ++ (call_text t e.call ++ (codes " = " ++ (x ++ codes "\n"))))) (same_answer_text e.answer)
 
   same_entries : (es : List Entry) → flat_map (entry_text s) es ≡ flat_map (entry_text t) es
   same_entries [] = refl
@@ -72,7 +109,7 @@ module _ (s t : Tree) (h : SameRules s t) where
 
   same_ending : (past : Past) (end : End) → ending s past end ≡ ending t past end
   same_ending past end =
-      ap (λ (x : List ℕ). end_line end ++ (x ++ sends_line)) (each_extra past end (length s.threads) ∙ ap (from_each (extra t past end)) h.count)
+      ap (λ (x : List ℕ). end_line end ++ (x ++ sends_line past)) (each_extra past end (length s.threads) ∙ ap (from_each (extra t past end)) h.count)
 
   -- the text of a past
   pub same_log : (past : Past) → log s past ≡ log t past

@@ -11,12 +11,12 @@ use Rattle.user_model.specs.Idle.{reply, is_idle, is_barred}
 use Rattle.script_tree.specs.Tree.{Tree}
 use Rattle.script_tree.specs.Pieces.{Cut}
 use Rattle.script_tree.specs.Traces.{trace_of}
-use Rattle.script_text.specs.Lines.{script_lines}
+use Rattle.script_text.specs.Lines.{names_of, bodies_of, script_lines}
 use Rattle.script_text.specs.Refusals.{IsSame}
 use Rattle.log_text.specs.Ends.{setup_of, used}
 use Rattle.user_pool.specs.Runs.{is_runnable, behind_first, left, last_thread, choice, ComesNext, IsMove, IsRun, IsListed}
 use Rattle.user_pool.proofs.OneRun.{one_listed}
-use Rattle.user_app.proofs.SameBodies.{SameBodies, bodies_apart, same_count}
+use Rattle.user_app.proofs.SameBodies.{SameBodies, procedures_apart, bodies_apart, same_count}
 use Rattle.user_app.proofs.SameTraces.{same_trace}
 
 -- all that runs and logs take of a tree is the same
@@ -25,22 +25,29 @@ pub record SameRules (s t : Tree) : Type 0 where
   pub budget : s.budget ≡ t.budget
   pub order : s.order ≡ t.order
   pub names : s.names ≡ t.names
+  pub procedure_names : names_of s.procedures ≡ names_of t.procedures
+  pub procedures : SameBodies (bodies_of s.procedures) (bodies_of t.procedures)
   pub count : length s.threads ≡ length t.threads
   pub bodies : SameBodies s.threads t.threads
 
-same_bodies : (s t : Tree) → script_lines s ≡ script_lines t → SameBodies s.threads t.threads
+same_bodies : (s t : Tree) → script_lines s ≡ script_lines t → SameBodies (bodies_of s.procedures) (bodies_of t.procedures) × SameBodies s.threads t.threads
 unfolding script_lines
-same_bodies s t e = bodies_apart s.threads t.threads e
+same_bodies s t e =
+    let apart = procedures_apart 0 (bodies_of s.procedures) (bodies_of t.procedures) s.threads t.threads e in
+    (apart.0, bodies_apart s.threads t.threads apart.1)
 
 pub same_rules : (s t : Tree) → IsSame s t → SameRules s t
 same_rules s t h =
-    let bodies : SameBodies s.threads t.threads = same_bodies s t h.lines in
+    let both = same_bodies s t h.lines in
+    let bodies : SameBodies s.threads t.threads = both.1 in
     let count : length s.threads ≡ length t.threads = same_count s.threads t.threads bodies in
     record {
       setup = ap (λ (n : ℕ). setup_from n s.width s.height) count ∙ ap (λ (n : ℕ). setup_from (length t.threads) n s.height) h.width ∙ ap (λ (n : ℕ). setup_from (length t.threads) t.width n) h.height;
       budget = h.budget;
       order = h.order;
       names = h.names;
+      procedure_names = h.procedures;
+      procedures = both.0;
       count = count;
       bodies = bodies;
     }
@@ -78,7 +85,7 @@ module _ (s t : Tree) (h : SameRules s t) where
 
   next_too : (past : Past) (who : ℕ) (call : Call) → ComesNext s past who call → ComesNext t past who call
   next_too past zero call k = k
-  next_too past (suc n) call k = same_trace s t (suc n) (trace_of past (suc n)) (Cut call) h.bodies k
+  next_too past (suc n) call k = same_trace s t h.procedures (suc n) (trace_of past (suc n)) (Cut call) h.bodies k
 
   move_too : (past : Past) (e : Entry) → IsMove s past e → IsMove t past e
   move_too past e m = record {

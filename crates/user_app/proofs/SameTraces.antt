@@ -4,32 +4,25 @@ use Rattle.std.specs.Prelude.{⊤, ◌==◌, if◌then◌else◌}
 use Rattle.std.proofs.lemmas.Bool.{false≢true}
 use Rattle.user_model.specs.declared.call.Call.{Call}
 use Rattle.user_model.specs.declared.entry.Answer.{Answer}
-use Rattle.script_tree.specs.declared.operand.Letter.{Letter}
-use Rattle.script_tree.specs.declared.operand.Operand.{Operand}
-use Rattle.script_tree.specs.declared.operand.Operator.{Operator}
 use Rattle.script_tree.specs.declared.operand.Test.{Test}
-use Rattle.script_tree.specs.declared.statement.CallStatement.{CallStatement}
 use Rattle.script_tree.specs.declared.statement.Statement.{Statement}
-use Rattle.script_tree.specs.declared.statement.Statement.TheVariants.{Let, Compute, If', IfElse', While', Call as CallOf}
+use Rattle.script_tree.specs.declared.statement.Statement.TheVariants.{Let, Compute, If', IfElse', While', Return, Call as CallOf, Sleep, Create, Destroy, Default as DefaultOf}
 use Rattle.script_tree.specs.declared.variables.Variables.{Variables}
 use Rattle.script_tree.specs.Tree.{Tree}
-use Rattle.script_tree.specs.Values.{value_of, computed, holds, assigned, call_of, settled}
-use Rattle.script_tree.specs.Pieces.{Piece, Lines, One, PassEnd, Making, Settle, Quiet, State, Going, Given, Step, Becomes, Asks, Trace, End}
-use Rattle.script_tree.specs.Steps.{statement, begins, takes, step, follows}
+use Rattle.script_tree.specs.Values.{holds}
+use Rattle.script_tree.specs.Pieces.{Piece, Lines, One, PassEnd, Running, State, Going, Returning, Given, Step, Becomes, Asks, Trace, End}
+use Rattle.script_tree.specs.Steps.{statement, begins, returns_to, takes, step, follows}
 use Rattle.script_tree.specs.Traces.{Makes, over, silent, entry, cut, IsTrace, program}
 use Rattle.script_lines.specs.declared.line.Line.TheVariants as lines
-use Rattle.script_text.specs.Lines.{statement_lines, body_lines}
-use Rattle.user_app.proofs.SameBodies.{line_of, lines_behind, some_line, statement_apart, same_items, only_end, else_and_end, end_no_else, SameBodies, same_body}
+use Rattle.script_text.specs.Lines.{statement_lines, body_lines, bodies_of}
+use Rattle.user_app.proofs.SameBodies.{line_of, lines_behind, some_line, statement_apart, same_items, only_end, else_and_end, end_no_else, SameBodies, same_body, same_procedure}
 
--- pieces of the same lines
-abbrev SamePiece : Piece → Piece → Type 0
-SamePiece (Lines xs) (Lines ys) = body_lines xs ≡ body_lines ys
-SamePiece (One x) (One y) = statement_lines x ≡ statement_lines y
-SamePiece (PassEnd x m) (PassEnd y n) = (statement_lines x ≡ statement_lines y) × (m ≡ n)
-SamePiece (Making c) (Making d) = c ≡ d
-SamePiece (Settle c) (Settle d) = c ≡ d
-SamePiece Quiet Quiet = ⊤
-SamePiece p q = ⊥
+-- pieces of the same lines, and all others but themselves
+data SamePiece : Piece → Piece → Type 0 where
+  same_lines : {xs ys : List Statement} → body_lines xs ≡ body_lines ys → SamePiece (Lines xs) (Lines ys)
+  same_one : {x y : Statement} → statement_lines x ≡ statement_lines y → SamePiece (One x) (One y)
+  same_pass : {x y : Statement} {n : ℕ} → statement_lines x ≡ statement_lines y → SamePiece (PassEnd x n) (PassEnd y n)
+  itself : {p : Piece} → SamePiece p p
 
 abbrev SamePieces : List Piece → List Piece → Type 0
 SamePieces [] [] = ⊤
@@ -42,17 +35,13 @@ SameStep (Becomes ps st) (Becomes qs st') = SamePieces ps qs × (st ≡ st')
 SameStep (Asks c) (Asks d) = c ≡ d
 SameStep x y = ⊥
 
-itself : (p : Piece) → SamePiece p p
-itself (Lines xs) = refl
-itself (One x) = refl
-itself (PassEnd x n) = (refl, refl)
-itself (Making c) = refl
-itself (Settle c) = refl
-itself Quiet = tt
-
 themselves : (ps : List Piece) → SamePieces ps ps
 themselves [] = tt
-themselves (p ∷ ps) = (itself p, themselves ps)
+themselves (p ∷ ps) = (itself, themselves ps)
+
+step_itself : (x : Step) → SameStep x x
+step_itself (Becomes ps st) = (themselves ps, refl)
+step_itself (Asks c) = refl
 
 one_after_another : (ps qs rs vs : List Piece) → SamePieces ps qs → SamePieces rs vs → SamePieces (ps ++ rs) (qs ++ vs)
 one_after_another [] [] rs vs h k = k
@@ -74,79 +63,75 @@ either_lines true false x y z w e h k = absurd (false≢true (sym e))
 either_lines false true x y z w e h k = absurd (false≢true e)
 either_lines false false x y z w e h k = k
 
-same_let : (x y : Letter) (a b : Operand) (v : Variables) → lines.Let x a ≡ lines.Let y b → assigned v x (value_of a v) ≡ assigned v y (value_of b v)
-same_let x y a b v e =
-    let f : x ≡ y = cc in
-    let g : a ≡ b = cc in
-    ap (λ (l : Letter). assigned v l (value_of a v)) f ∙ ap (λ (o : Operand). assigned v y (value_of o v)) g
-
-same_compute : (x y : Letter) (a b c d : Operand) (op oq : Operator) (v : Variables) → lines.Compute x a op c ≡ lines.Compute y b oq d
-    → assigned v x (computed (value_of a v) op (value_of c v)) ≡ assigned v y (computed (value_of b v) oq (value_of d v))
-same_compute x y a b c d op oq v e =
-    let f : x ≡ y = cc in
-    let g : a ≡ b = cc in
-    let h : op ≡ oq = cc in
-    let k : c ≡ d = cc in
-    ap (λ (l : Letter). assigned v l (computed (value_of a v) op (value_of c v))) f
-    ∙ ap (λ (o : Operand). assigned v y (computed (value_of o v) op (value_of c v))) g
-    ∙ ap (λ (o : Operator). assigned v y (computed (value_of b v) o (value_of c v))) h
-    ∙ ap (λ (o : Operand). assigned v y (computed (value_of b v) oq (value_of o v))) k
-
 same_if : (t u : Test) (v : Variables) → lines.If t ≡ lines.If u → holds t v ≡ holds u v
 same_if t u v e = let f : t ≡ u = cc in ap (λ (x : Test). holds x v) f
 
 same_while : (t u : Test) (v : Variables) → lines.While t ≡ lines.While u → holds t v ≡ holds u v
 same_while t u v e = let f : t ≡ u = cc in ap (λ (x : Test). holds x v) f
 
-same_call : (c d : CallStatement) (v : Variables) → lines.Call c ≡ lines.Call d → call_of c v ≡ call_of d v
-same_call c d v e = let f : c ≡ d = cc in ap (λ (x : CallStatement). call_of x v) f
+-- a statement without a body is known by its line
+alike : (x y : Statement) (v : Variables) (n : ℕ) → x ≡ y → SameStep (statement x v n) (statement y v n)
+alike x y v n e = subst (λ z. SameStep (statement x v n) (statement z v n)) e (step_itself (statement x v n))
 
 same_statement : (x y : Statement) (v : Variables) (n : ℕ) → statement_lines x ≡ statement_lines y → SameStep (statement x v n) (statement y v n)
-same_statement (Let x a) (Let y b) v n e = (tt, ap (λ (w : Variables). Going w) (same_let x y a b v (line_of e)))
-same_statement (Compute x a op c) (Compute y b oq d) v n e = (tt, ap (λ (w : Variables). Going w) (same_compute x y a b c d op oq v (line_of e)))
+same_statement (Let x a) (Let y b) v n e = let f : lines.Let x a ≡ lines.Let y b = line_of e in alike (Let x a) (Let y b) v n cc
+same_statement (Compute x a op c) (Compute y b oq d) v n e =
+    let f : lines.Compute x a op c ≡ lines.Compute y b oq d = line_of e in alike (Compute x a op c) (Compute y b oq d) v n cc
 same_statement (If' t k a) (If' u l b) v n e =
-    either (holds t v) (holds u v) _ _ _ _ (same_if t u v (line_of e)) ((same_items a b (only_end a b (lines_behind e)), tt), refl) (tt, refl)
+    either (holds t v) (holds u v) _ _ _ _ (same_if t u v (line_of e)) ((same_lines (same_items a b (only_end a b (lines_behind e))), tt), refl) (tt, refl)
 same_statement (If' t k a) (IfElse' u l b m d) v n e = absurd (end_no_else a b d (lines_behind e))
 same_statement (IfElse' t k a j c) (If' u l b) v n e = absurd (end_no_else b a c (sym (lines_behind e)))
 same_statement (IfElse' t k a j c) (IfElse' u l b m d) v n e =
     let f = else_and_end a b c d (lines_behind e) in
-    ((either_lines (holds t v) (holds u v) _ _ _ _ (same_if t u v (line_of e)) (same_items a b f.0) (same_items c d f.1), tt), refl)
+    ((same_lines (either_lines (holds t v) (holds u v) _ _ _ _ (same_if t u v (line_of e)) (same_items a b f.0) (same_items c d f.1)), tt), refl)
 same_statement (While' t k a) (While' u l b) v n e =
-    either (holds t v) (holds u v) _ _ _ _ (same_while t u v (line_of e)) ((same_items a b (only_end a b (lines_behind e)), ((e, refl), tt)), refl) (tt, refl)
-same_statement (CallOf c) (CallOf d) v n e = let f = same_call c d v (line_of e) in ((f, (f, tt)), refl)
+    either (holds t v) (holds u v) _ _ _ _ (same_while t u v (line_of e)) ((same_lines (same_items a b (only_end a b (lines_behind e))), (same_pass e, tt)), refl) (tt, refl)
+same_statement (Return a) (Return b) v n e = let f : lines.Return a ≡ lines.Return b = line_of e in alike (Return a) (Return b) v n cc
+same_statement (CallOf c) (CallOf d) v n e = let f : lines.Call c ≡ lines.Call d = line_of e in alike (CallOf c) (CallOf d) v n cc
+same_statement (Sleep a) (Sleep b) v n e = let f : lines.Sleep a ≡ lines.Sleep b = line_of e in alike (Sleep a) (Sleep b) v n cc
+same_statement (Create c) (Create d) v n e = let f : lines.Create c ≡ lines.Create d = line_of e in alike (Create c) (Create d) v n cc
+same_statement (Destroy a) (Destroy b) v n e = let f : lines.Destroy a ≡ lines.Destroy b = line_of e in alike (Destroy a) (Destroy b) v n cc
+same_statement DefaultOf DefaultOf v n e = step_itself (statement DefaultOf v n)
 same_statement x y v n e = absurd cc
 
 -- ---- the steps of pieces
 
-module _ (s t : Tree) where
-  same_pass : (x y : Statement) (i j : ℕ) (v : Variables) (n : ℕ) → statement_lines x ≡ statement_lines y → i ≡ j → SameStep (begins s (PassEnd x i) v n) (begins t (PassEnd y j) v n)
-  same_pass x y i j v n e f = either (n == i) (n == j) _ _ _ _ (ap (λ (k : ℕ). n == k) f) ((refl, (tt, (e, tt))), refl) ((e, tt), refl)
+module _ (s t : Tree) (procedures : SameBodies (bodies_of s.procedures) (bodies_of t.procedures)) where
+  lines_begin : (xs ys : List Statement) (v : Variables) (n : ℕ) → body_lines xs ≡ body_lines ys → SameStep (begins s (Lines xs) v n) (begins t (Lines ys) v n)
+  lines_begin [] [] v n h = (tt, refl)
+  lines_begin [] (y ∷ ys) v n h = absurd (some_line y (body_lines ys) h)
+  lines_begin (x ∷ xs) [] v n h = absurd (some_line x (body_lines xs) (sym h))
+  lines_begin (x ∷ xs) (y ∷ ys) v n h =
+      let f = statement_apart x y (body_lines xs) (body_lines ys) h in ((same_one f.0, (same_lines f.1, tt)), refl)
 
-  same_begins : (p q : Piece) (v : Variables) (n : ℕ) → SamePiece p q → SameStep (begins s p v n) (begins t q v n)
-  same_begins (Lines []) (Lines []) v n h = (tt, refl)
-  same_begins (Lines []) (Lines (y ∷ ys)) v n h = absurd (some_line y (body_lines ys) h)
-  same_begins (Lines (x ∷ xs)) (Lines []) v n h = absurd (some_line x (body_lines xs) (sym h))
-  same_begins (Lines (x ∷ xs)) (Lines (y ∷ ys)) v n h =
-      let f = statement_apart x y (body_lines xs) (body_lines ys) h in ((f.0, (f.1, tt)), refl)
-  same_begins (One x) (One y) v n h = same_statement x y v n h
-  same_begins (PassEnd x i) (PassEnd y j) v n h = same_pass x y i j v n h.0 h.1
-  same_begins (Making c) (Making d) v n h = h
-  same_begins (Settle c) (Settle d) v n h = (tt, refl)
-  same_begins Quiet Quiet v n h = (tt, refl)
-  same_begins p q v n h = absurd h
+  -- of the tree a piece takes the statements of its procedure alone
+  begins_itself : (p : Piece) (v : Variables) (n : ℕ) → SameStep (begins s p v n) (begins t p v n)
+  begins_itself (Lines xs) v n = lines_begin xs xs v n refl
+  begins_itself (Running run) v n = ((same_lines (same_procedure s.procedures t.procedures run.procedure procedures), (itself, (itself, tt))), refl)
+  begins_itself p v n = step_itself (begins s p v n)
 
-  same_takes : (p q : Piece) (v : Variables) (a : Answer) → SamePiece p q → SameStep (takes p v a) (takes q v a)
-  same_takes (Lines xs) (Lines ys) v a h = (tt, refl)
-  same_takes (One x) (One y) v a h = (tt, refl)
-  same_takes (PassEnd x i) (PassEnd y j) v a h = (tt, refl)
-  same_takes (Making c) (Making d) v a h = (tt, refl)
-  same_takes (Settle c) (Settle d) v a h = (tt, ap (λ (x : Call). Going (settled v x a)) h)
-  same_takes Quiet Quiet v a h = (tt, refl)
-  same_takes p q v a h = absurd h
+  same_begins : {p q : Piece} (v : Variables) (n : ℕ) → SamePiece p q → SameStep (begins s p v n) (begins t q v n)
+  same_begins v n (same_lines {xs = xs} {ys = ys} e) = lines_begin xs ys v n e
+  same_begins v n (same_one {x = x} {y = y} e) = same_statement x y v n e
+  same_begins v n (same_pass {n = i} e) = either (n == i) (n == i) _ _ _ _ refl ((itself, (itself, (same_one e, tt))), refl) ((same_one e, tt), refl)
+  same_begins v n (itself {p = p}) = begins_itself p v n
+
+  same_returns : {p q : Piece} (v : Variables) (x : ℕ) → SamePiece p q → SameStep (returns_to p v x) (returns_to q v x)
+  same_returns v x (same_lines e) = (tt, refl)
+  same_returns v x (same_one e) = (tt, refl)
+  same_returns v x (same_pass e) = (tt, refl)
+  same_returns v x (itself {p = p}) = step_itself (returns_to p v x)
+
+  same_takes : {p q : Piece} (v : Variables) (a : Answer) (x : ℕ) → SamePiece p q → SameStep (takes p v a x) (takes q v a x)
+  same_takes v a x (same_lines e) = (tt, refl)
+  same_takes v a x (same_one e) = (tt, refl)
+  same_takes v a x (same_pass e) = (tt, refl)
+  same_takes v a x (itself {p = p}) = step_itself (takes p v a x)
 
   same_step : (p q : Piece) (st : State) (n : ℕ) → SamePiece p q → SameStep (step s p st n) (step t q st n)
-  same_step p q (Going v) n h = same_begins p q v n h
-  same_step p q (Given v a) n h = same_takes p q v a h
+  same_step p q (Going v) n h = same_begins v n h
+  same_step p q (Returning v x) n h = same_returns v x h
+  same_step p q (Given v a x) n h = same_takes v a x h
 
   -- ---- traces
 
@@ -177,4 +162,4 @@ module _ (s t : Tree) where
 
   -- threads of the same lines have the same traces
   pub same_trace : (u : ℕ) (tr : Trace) (e : End) → SameBodies s.threads t.threads → IsTrace s u tr e → IsTrace t u tr e
-  same_trace u tr e h m = makes_too m (program t u) (same_body s.threads t.threads (u - 1) h, (refl, tt))
+  same_trace u tr e h m = makes_too m (program t u) (same_lines (same_body s.threads t.threads (u - 1) h), (itself, tt))

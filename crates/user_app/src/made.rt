@@ -110,5 +110,13 @@ pub fn made_script(alloc: Global, count: u32) -> Result<Script, AllocError>
     let mut threads = Vec::new(alloc);
     threads.push(Body::new(sender(alloc, count)?))?;
     threads.push(Body::new(receiver(alloc)?))?;
-    Ok(Script::new(8, 4, 65536, Vec::new(alloc), Vec::new(alloc), threads))
+    Ok(Script::new(
+        8,
+        4,
+        65536,
+        Vec::new(alloc),
+        Vec::new(alloc),
+        Vec::new(alloc),
+        threads,
+    ))
 }

@@ -2,8 +2,12 @@ ghost use Rattle.std.specs.Prelude.{◌<◌};
 
 use super::*;
 use crate::io::{MemSink, MemSource};
+use script_proc::{Turn, Worker};
+use script_text::read;
 use std::alloc::{AllocError, Global};
 use std::test::Fail;
+use user_core::User;
+use user_model::{Alone, Setup};
 
 /// A script of one thread without statements.
 const ONE_END: &[u8] = b"user 1\nscreen 8 4\nbudget 100\norder\nthread\nend\n";
@@ -39,11 +43,21 @@ const ORDERED: &[u8] =
 const ORDERED_LOG: &[u8] =
     b"log 1\n2 post_thread 3 WM_USER 3 0 = posted 1\n2 end_thread = ended\n1 post_thread 3 WM_USER 1 0 = posted 2\n3 get 0 0 0 = got posted 1 0 WM_USER 3 0 0 0 0\n1 post_thread 3 1025 2 0 = posted 3\n3 get 0 0 0 = got posted 2 0 WM_USER 1 0 0 0 0\n1 end_thread = ended\n3 get 0 0 0 = got posted 3 0 1025 2 0 0 0 0\n3 end_thread = ended\nend done\nsends begun 0 entered 0 proc 0 reply 0 loss 0 timeout 0 open 0\n";
 
+/// A procedure that answers a send of another thread with its wParam.
+const SENDS: &[u8] =
+    b"user 1\nscreen 8 4\nbudget 100\norder\nproc echo\nif msg = WM_USER\nreturn wp\nend\nend\nthread\nregister box echo 0\ncreate box first 0 0 0 0 0 1 1\npost_thread 2 WM_USER r 0\nget 0 0 0\nend\nthread\nget 0 0 0\nsend gwp WM_USER 5 0\npost_thread 1 WM_QUIT r 0\nend\n";
+
+const SENDS_LOG: &[u8] =
+    b"log 1\n1 register box echo 0 = value 1\n2 get 0 0 0 = wait\n1 new_window box first 0 0 0 0 0 1 1 = window 16\n1 send 16 WM_NCCREATE 0 0 = inside 1 echo\n1 leave 1 = left 1\n1 send 16 WM_CREATE 0 0 = inside 2 echo\n1 leave 0 = left 2\n1 post_thread 2 WM_USER 16 0 = posted 1\n2 get 0 0 0 = got posted 1 0 WM_USER 16 0 0 0 0\n1 get 0 0 0 = wait\n2 send 16 WM_USER 5 0 = begun 3\n1 get 0 0 0 = enter 3 echo 16 WM_USER 5 0\n2 await 3 = wait\n1 leave 5 = left 3\n2 await 3 = done 5 proc\n1 get 0 0 0 = wait\n2 post_thread 1 WM_QUIT 5 0 = posted 2\n1 get 0 0 0 = got posted 2 0 WM_QUIT 5 0 0 0 0\n2 end_thread = ended\n1 end_thread = ended\nend done\nsends begun 3 entered 3 proc 3 reply 0 loss 0 timeout 0 open 0\n";
+
 /// A loop without calls.
 const LOOPS: &[u8] = b"user 1\nscreen 8 4\nbudget 3\norder\nthread\nwhile 1 = 1\nend\nend\n";
 
 const LOOPS_LOG: &[u8] =
     b"log 1\n1 yield = ok\n1 yield = ok\n1 yield = ok\nend spent\nspent 1\nsends begun 0 entered 0 proc 0 reply 0 loss 0 timeout 0 open 0\n";
+
+/// The same loop, which may make one entry.
+const ONE_PASS: &[u8] = b"user 1\nscreen 8 4\nbudget 1\norder\nthread\nwhile 1 = 1\nend\nend\n";
 
 /// What is written of the run that is made from 1000.
 const THOUSAND: &[u8] =
@@ -74,12 +88,13 @@ fn call(
 #[test]
 fn runs(rt: HostRuntime) -> Result<(), Fail> {
     let alloc: Global = rt.alloc();
-    let cases: [(&[u8], &[u8], Status, u8); 7] = [
+    let cases: [(&[u8], &[u8], Status, u8); 8] = [
         (ONE_END, ONE_END_LOG, Status::Done, 0),
         (POSTS, POSTS_LOG, Status::Done, 0),
         (WAITS, WAITS_LOG, Status::Stuck, 4),
         (REFUSALS, REFUSALS_LOG, Status::Done, 0),
         (ORDERED, ORDERED_LOG, Status::Done, 0),
+        (SENDS, SENDS_LOG, Status::Done, 0),
         (LOOPS, LOOPS_LOG, Status::Spent, 5),
         (b"user 1\n", b"refused 0 later\n", Status::Script, 3),
     ];
@@ -88,6 +103,26 @@ fn runs(rt: HostRuntime) -> Result<(), Fail> {
         assert_eq!(rt; sink.bytes(), log);
         assert_eq!(rt; told, status);
         assert_eq!(rt; told.number(), number);
+    }
+    Ok(())
+}
+
+#[test]
+fn turns_of_a_thread(rt: HostRuntime) -> Result<(), Fail> {
+    let alloc: Global = rt.alloc();
+    let cases: [(&[u8], [Turn; 3]); 3] = [
+        (ONE_END, [Turn::Went, Turn::Ended, Turn::Ended]),
+        (WAITS, [Turn::Went, Turn::Idle, Turn::Idle]),
+        (ONE_PASS, [Turn::Went, Turn::Spent, Turn::Spent]),
+    ];
+    for (text, turns) in cases {
+        let machine = User::new(alloc, Setup::new(2, 8, 4))?;
+        let mut teller = Alone { machine };
+        let script = read(alloc, text).expect(&rt, "a script");
+        let mut worker = Worker::new(alloc, &script, 1)?;
+        for turn in turns {
+            assert_eq!(rt; worker.turn(&script, &mut teller)?, turn);
+        }
     }
     Ok(())
 }
