@@ -9,6 +9,7 @@ pub mod CallingBack
 pub mod Popping
 pub mod Finishing
 pub mod Losing
+pub mod StoryLosses
 pub mod Room
 pub mod Beginning
 pub mod Joining
@@ -33,4 +34,5 @@ pub mod ToldDropped
 pub mod ToldEnded
 pub mod Counts
 pub mod Tallies
+pub mod Stories
 pub mod Needs

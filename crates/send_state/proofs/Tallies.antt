@@ -53,12 +53,12 @@ same_tally {a = a} {b = b} {c = c} {d = d} {f = f} {t = t} entered by_proc by_re
 -- ---- a send that is made
 
 -- the entry makes one send, of the next number
-record IsNew (past : Past) (e : Entry) : Type 0 where
-  of : SentMsg
-  one : sends_by e.call e past ≡ of ∷ []
-  next : of.number ≡ suc (length (sends past))
-  entering : (s : ℕ) → enters e.answer s ≡ (enters_one e.answer && eqb of.number s)
-  tells_none : (s : ℕ) → answers_in e.call e past s ≡ None
+pub record IsNew (past : Past) (e : Entry) : Type 0 where
+  pub of : SentMsg
+  pub one : sends_by e.call e past ≡ of ∷ []
+  pub next : of.number ≡ suc (length (sends past))
+  pub entering : (s : ℕ) → enters e.answer s ≡ (enters_one e.answer && eqb of.number s)
+  pub tells_none : (s : ℕ) → answers_in e.call e past s ≡ None
 
 -- a call that sends answers none
 sends_tell : (call : Call) (of : CallParts) (e : Entry) (past : Past) (s : ℕ) → parts_of call ≡ Some of → answers_in call e past s ≡ None
@@ -67,7 +67,7 @@ sends_tell (calls.Reply v) of e past s is = absurd cc
 sends_tell (calls.Await t) of e past s is = absurd cc
 sends_tell _ of e past s is = refl
 
-is_new : (setup : Setup) (past : Past) (e : Entry) (a : Answer) → IsLawful setup (e ∷ past) → e.answer ≡ a → is_sent a ≡ true → IsNew past e
+pub is_new : (setup : Setup) (past : Past) (e : Entry) (a : Answer) → IsLawful setup (e ∷ past) → e.answer ≡ a → is_sent a ≡ true → IsNew past e
 is_new setup past e (answers_of.Inside s n) lawful is h =
     let i : IsInside past e.who.0 e.call s.0 n = (entry_told setup past e.who.0 e.call (answers_of.Inside s n) (sym lawful.1 ∙ is) refl).1 in
     let of = i.made.of in
@@ -102,15 +102,15 @@ module _ (setup : Setup) (past : Past) (e : Entry) (lawful : IsLawful setup (e �
   standing = lawful_standing setup past lawful.0
 
   module _ (new : IsNew past e) where
-    none_yet : send past new.of.number ≡ None
+    pub none_yet : send past new.of.number ≡ None
     none_yet = find_above 0 (sends past) new.of.number standing.counted (omega (arith, new.next))
 
-    unanswered_yet : answer past new.of.number ≡ None
+    pub unanswered_yet : answer past new.of.number ≡ None
     unanswered_yet = none_of (answer past new.of.number)
         (ap (is_answered past) new.next
         ∙ not_there (is_answered past (suc (length (sends past)))) (send past (suc (length (sends past)))) (standing.answered (length (sends past))) (ap (send past) (sym new.next) ∙ none_yet))
 
-    loses_none : loses e past new.of.number ≡ false
+    pub loses_none : loses e past new.of.number ≡ false
     loses_none = ap (λ o. elim o as (λ _. Bool) [ Some y ↦ drops_window e past y.hwnd && not (is_entered past new.of.number) | None ↦ false ]) none_yet
 
     still_unanswered : answer (e ∷ past) new.of.number ≡ None
@@ -118,7 +118,7 @@ module _ (setup : Setup) (past : Past) (e : Entry) (lawful : IsLawful setup (e �
         answer-next e past new.of.number right ∙ ap (λ o. or_else o (answers e past new.of.number)) unanswered_yet
         ∙ ap (λ b. cond b (Some (outcome past 0 causes.Loss)) (answers_in e.call e past new.of.number)) loses_none ∙ new.tells_none new.of.number
 
-    unentered_yet : is_entered past new.of.number ≡ false
+    pub unentered_yet : is_entered past new.of.number ≡ false
     unentered_yet = not_there (is_entered past new.of.number) (send past new.of.number) (standing.entered new.of.number) none_yet
 
   -- ---- entering
@@ -370,7 +370,7 @@ module _ (setup : Setup) (past : Past) (e : Entry) (lawful : IsLawful setup (e �
 
 -- ---- a refused entry
 
-no_name : (p : SendParts) (who : ℕ) (a : Answer) (call : Call) → is_refusal a ≡ true → named_send p who a call ≡ None
+pub no_name : (p : SendParts) (who : ℕ) (a : Answer) (call : Call) → is_refusal a ≡ true → named_send p who a call ≡ None
 no_name p who (answers_of.Refused code) (calls.Leave v) h = refl
 no_name p who (answers_of.Refused code) (calls.Reply v) h = refl
 no_name p who (answers_of.Refused code) (calls.Await t) h = refl

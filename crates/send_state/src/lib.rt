@@ -6,12 +6,14 @@
 #![tactic(auto)]
 
 mod state;
+mod story;
 mod tally;
 #[cfg(test)]
 mod tests;
 
 pub use send_frames::SendRow;
 pub use state::SendState;
-pub use tally::{Tally, first_cause};
+pub use story::{SendStory, add_story, note_answer};
+pub use tally::{Tally, first_cause, named_send};
 pub use user_model::Answer;
 pub use win_num::{Cause, Code, Fault, Frame, Hwnd, Kind, SendId, Thread};

@@ -6,7 +6,9 @@ ghost use Rattle.send_frames.specs.Book.{IsFaultFor, IsThread, NamesKnown, pushe
 ghost use Rattle.win_num.specs.declared.message.Hwnd.{Hwnd};
 ghost use Rattle.send_variants.specs.Lists.{with_list, IsThread as IsListed};
 ghost use Rattle.send_state.specs.Parts.{CanAnswer, CanBegin, CanJoin, CanLeaveFrom, CanLose, ended, freed_to, is_from, is_losable, lost, CanReplyIn, CanServe, answered, begun, blocks_as, callback_in, deadline_of, dispatched, enter_as, finished, head_of, left, lists_joined, lost_count, next_answer, next_window, no_parts, rank, replied, runs_callback, served, timed_out, top_of};
+ghost use Rattle.send_state.specs.Stories.{EachStory, noted_loss};
 
+use crate::story::{Event, SendStory, note};
 use send_frames::{SendRow, Sends};
 use send_variants::{Ready, ReadyLists};
 use std::alloc::{AllocError, Global};
@@ -167,6 +169,21 @@ impl SendState {
             last = send;
         }
         rank - first
+    }
+
+    /// Notes in the stories of all sends, from send 1 on, which of them are lost where windows go. To be
+    /// asked before they are lost.
+    pub fn note_losses<F: Fn(Hwnd) -> bool>(&self, stories: &mut [SendStory], goes: &F, place: u32)
+        requires callable { F.IsAlwaysCallable goes.now }
+        ensures { (test : ℕ → Bool) → ((w : Hwnd) (b : Bool) → F.post goes.now w b → b ≡ test w.0) → EachStory (noted_loss test self.now place) stories.old stories.new }
+    {
+        let mut last = SendId(0);
+        while let Some(send) = self.sends.next_known(last) {
+            if self.is_losable(send, goes) {
+                note(stories, send, Event::Lost, place);
+            }
+            last = send;
+        }
     }
 
     /// Ends a thread: nothing is ready for it, and no result is owed to it.

@@ -89,8 +89,8 @@ pub fn first_cause(sends: &SendState, entry: Entry) -> Option<Cause>
     }
 }
 
-/// The send that an entry may answer, and by which cause.
-fn named_send(sends: &SendState, entry: Entry) -> Option<(SendId, Cause)>
+/// The send that an entry may answer, and by which cause. To be asked before the entry's change.
+pub fn named_send(sends: &SendState, entry: Entry) -> Option<(SendId, Cause)>
     requires { FitsNaming sends.now entry.who.0 entry.answer entry.call }
     ensures { result ≡ named_send sends.now entry.who.0 entry.answer entry.call }
 {

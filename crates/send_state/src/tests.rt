@@ -1,7 +1,8 @@
-//! A state without sends, and counts. Changes of a state are tested with `user_core`, whose calls ask
+//! A state without sends, counts and stories. Changes of a state are tested with `user_core`, whose calls ask
 //! nothing of it.
 
-use crate::{Answer, Cause, SendId, SendState, Tally, Thread};
+use crate::*;
+use std::alloc::Global;
 use std::test::Fail;
 
 #[test]
@@ -29,4 +30,25 @@ fn a_send_is_counted_by_its_answer(rt: HostRuntime) {
     assert_eq!(rt; replied.by_reply, 1);
     let lost = Tally::new().with(Answer::Okay, None, 3);
     assert_eq!(rt; lost.by_loss, 3);
+}
+
+#[test]
+fn what_came_first_is_told(rt: HostRuntime) -> Result<(), Fail> {
+    let alloc: Global = rt.alloc();
+    let state = SendState::new(alloc, 2)?;
+    let mut stories = Vec::new(alloc);
+    stories.reserve(1)?;
+    add_story(&mut stories, Answer::Begun(SendId(1)));
+    let left = Some((SendId(1), Cause::Proc));
+    let replied = Some((SendId(1), Cause::Reply));
+    note_answer(&mut stories, Answer::Left(SendId(1)), left, 3);
+    note_answer(&mut stories, Answer::Value(1), replied, 4);
+    state.note_losses(&mut stories, &|_w: Hwnd| -> bool { true }, 5);
+    let told = SendStory {
+        entered_at: None,
+        answered_at: Some(3),
+        cause: Some(Cause::Proc),
+    };
+    assert_eq!(rt; stories.first().copied(), Some(told));
+    Ok(())
 }
