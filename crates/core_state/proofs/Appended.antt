@@ -22,16 +22,19 @@ use Rattle.core_state.specs.Changes.{Change, changed, noted, count_kept, time_ke
 use Rattle.core_state.specs.Deliveries.{growth_in, settling_in}
 use Rattle.core_state.specs.Effects.{IsGrownBy, grown_classes, settled_classes, settled_tree}
 use Rattle.core_state.specs.Needs.{FitsCarrying, FitsGrowth, FitsNaming, FitsSettling, FitsUnmaking, IsOne}
-use Rattle.core_state.specs.Queues.{ThreadView, thread_at}
+use Rattle.thread_state.specs.Threads.{ThreadView, thread_at}
 use Rattle.send_state.specs.Parts.{SendParts}
 use Rattle.send_state.specs.Standing.{PartsStand}
-use Rattle.send_state.specs.Tallies.{FitsTally, first_cause, tallied}
+use Rattle.send_state.specs.Stories.{EachStory, noted_answer, with_begun}
+use Rattle.send_state.specs.Tallies.{FitsTally, first_cause, named_send, tallied}
+use Rattle.send_state.specs.declared.story.SendStory.{SendStory}
 use Rattle.send_state.specs.declared.tally.Tally.{Tally}
-use Rattle.core_state.specs.Sendings.{FitsGrownSends, FitsSettledSends, grown_sends, losses_by, settled_sends}
+use Rattle.core_state.specs.Sendings.{FitsGrownSends, FitsSettledSends, grown_sends, losses_by, noted_losses, settled_sends}
 use Rattle.core_state.proofs.SendCounts.{counts_after, grown_losses, losses_few, same_losses, tally_fits}
 use Rattle.core_state.proofs.SendLosses.{dropped_stand, ended_stand}
 use Rattle.core_state.proofs.SendNeeds.{grown_fits, settled_fits}
 use Rattle.core_state.proofs.SendSteps.{sends_after}
+use Rattle.core_state.proofs.StoryChanges.{losses_noted, stories_after}
 use Rattle.core_state.specs.States.{EachBy, Parts, Stands, parts}
 use Rattle.core_state.proofs.ClassSteps.{classes_after, fits_naming, fits_unregister}
 use Rattle.core_state.proofs.Deliveries.{both_changes, fits_post, fits_posting, running_is_one}
@@ -139,7 +142,7 @@ tally_step setup past p e place lost tree sends st right here made begun counted
     tally_fits past p.tally lost st.tally st.short (subst (λ n. n ≤ 1024) (sym same) (losses_few setup past e p.sends p.tree.live (st.lawful, right) st.sends st.tree.windows))
 
 -- the parts that were brought up to date stand for the past with the entry
-pub stands_step : (setup : Setup) (past : Past) (p : Parts) (e : Entry) (classes1 classes2 : ClassTable) (tree1 tree2 : Windows) (threads1 threads2 threads3 : List ThreadView) (sends1 sends2 : SendParts) (first : Option Cause) (lost : ℕ) (tally : Tally) (place : ℕ)
+pub stands_step : (setup : Setup) (past : Past) (p : Parts) (e : Entry) (classes1 classes2 : ClassTable) (tree1 tree2 : Windows) (threads1 threads2 threads3 : List ThreadView) (sends1 sends2 : SendParts) (first : Option Cause) (lost : ℕ) (tally : Tally) (stories1 stories2 stories3 : List SendStory) (place : ℕ)
     → is_full past ≡ false → e.answer ≡ reply setup past e.who.0 e.call → Stands setup past p
     → classes1 ≡ grown_classes e.answer e.call p.classes → classes2 ≡ settled_classes e.answer e.call classes1
     → IsGrownBy e.who.0 e.answer e.call p.tree tree1 → tree2 ≡ settled_tree e.who.0 e.answer e.call tree1
@@ -148,8 +151,9 @@ pub stands_step : (setup : Setup) (past : Past) (p : Parts) (e : Entry) (classes
     → EachBy (λ t. noted t e) threads2 threads3
     → sends1 ≡ grown_sends p.tree.live p.time place e.who e.answer e.call p.sends → sends2 ≡ settled_sends tree1.live place e.who.0 e.answer e.call sends1 → place ≡ place_after past
     → first ≡ first_cause p.sends e.who.0 e.answer e.call → lost ≡ losses_by tree1.live place e.who.0 e.answer e.call sends1 → tally ≡ tallied e.answer first lost p.tally
-    → Stands setup (e ∷ past) (parts tree2 classes2 threads3 (count_kept e.answer p.post_count) (time_kept e p.time) sends2 tally)
-stands_step setup past p e classes1 classes2 tree1 tree2 threads1 threads2 threads3 sends1 sends2 cause lost tally place room right st grown settled made given first second note begun left here named counted noted_tally = record {
+    → stories1 ≡ with_begun e.answer p.stories → EachStory (noted_losses tree1.live place e.who.0 e.answer e.call sends1) stories1 stories2 → EachStory (noted_answer e.answer (named_send p.sends e.who.0 e.answer e.call) place) stories2 stories3
+    → Stands setup (e ∷ past) (parts tree2 classes2 threads3 (count_kept e.answer p.post_count) (time_kept e p.time) sends2 tally stories3)
+stands_step setup past p e classes1 classes2 tree1 tree2 threads1 threads2 threads3 sends1 sends2 cause lost tally stories1 stories2 stories3 place room right st grown settled made given first second note begun left here named counted noted_tally story_more story_losses story_answers = record {
   lawful = (st.lawful, right);
   short = grind (arith, nat_tests, room);
   tree = tree_after setup past e p.tree tree1 tree2 st.lawful st.tree right made given;
@@ -171,4 +175,9 @@ stands_step setup past p e classes1 classes2 tree1 tree2 threads1 threads2 threa
   tally = noted_tally ∙ ap (λ (c : Option Cause). tallied e.answer c lost p.tally) named ∙ ap (λ n. tallied e.answer (first_cause p.sends e.who.0 e.answer e.call) n p.tally) (counted ∙ losses_now p e place tree1 sends1 made begun ∙ ap (λ n. losses_by p.tree.live n e.who.0 e.answer e.call p.sends) here)
       ∙ ap (tallied e.answer (first_cause p.sends e.who.0 e.answer e.call) (losses_by p.tree.live (place_after past) e.who.0 e.answer e.call p.sends)) st.tally
       ∙ sym (counts_after setup past e p.sends p.tree.live (st.lawful, right) st.sends st.tree.windows);
+  stories = stories_after setup past e p.sends p.tree.live (st.lawful, right) st.sends st.tree.windows p.stories stories2 stories3 st.stories
+      (subst (λ n. EachStory (noted_answer e.answer (named_send p.sends e.who.0 e.answer e.call) n) stories2 stories3) here story_answers)
+      (subst (λ n. EachStory (noted_losses p.tree.live n e.who.0 e.answer e.call p.sends) (with_begun e.answer p.stories) stories2) here
+      (subst (λ (f : ℕ → SendStory → SendStory). EachStory f (with_begun e.answer p.stories) stories2) (losses_noted e p.time place p.tree tree1 p.sends sends1 made begun)
+      (subst (λ (l : List SendStory). EachStory (noted_losses tree1.live place e.who.0 e.answer e.call sends1) l stories2) story_more story_losses)));
 }

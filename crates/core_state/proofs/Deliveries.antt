@@ -29,9 +29,10 @@ use Rattle.user_model.proofs.ReplyLaws.{not_false}
 use Rattle.user_model.proofs.DeliveryReplies.{IsPost}
 use Rattle.user_model.proofs.PostOwners.{message_of, post_runs}
 use Rattle.core_state.specs.Trees.{as_made}
-use Rattle.core_state.specs.Queues.{ThreadView, as_kept, queue_at, thread_at}
+use Rattle.thread_state.specs.Threads.{ThreadView, as_kept, queue_at, thread_at}
 use Rattle.core_state.specs.Changes.{Change, posts as posts_one, purges, change_by, changed, kin_of}
-use Rattle.core_state.specs.Deliveries.{thread_in, passes_window_in, passes_here, passes_in, posting, FitsPost, kin_in, change_of_post, growth_in, carried_in, settling_in}
+use Rattle.thread_state.specs.Passing.{passes_window_in, passes_here, passes_in}
+use Rattle.core_state.specs.Deliveries.{thread_in, posting, FitsPost, kin_in, change_of_post, growth_in, carried_in, settling_in}
 use Rattle.core_state.specs.Needs.{IsOne, HasRoom, FitsPosting}
 use Rattle.core_state.specs.States.{EachThread}
 use Rattle.core_state.proofs.Bridges.{window_made, live_made, kin_made, below_made, filter_made}

@@ -9,7 +9,7 @@ use Rattle.win_tree.specs.Kin.{is_kin}
 use Rattle.post_queue.specs.Queue.{Posted, queue}
 use Rattle.core_state.specs.Changes.{without_windows}
 use Rattle.core_state.specs.Deliveries.{kin_in}
-use Rattle.core_state.specs.Queues.{ThreadView}
+use Rattle.thread_state.specs.Threads.{ThreadView}
 use Rattle.core_state.proofs.QueueLists.{without_windows-is}
 
 same_number : (a b : ℕ) → eqb a b ≡ eqb b a

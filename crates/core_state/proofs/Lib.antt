@@ -13,6 +13,8 @@ pub mod Outcomes
 pub mod Procs
 pub mod QueueLists
 pub mod SendCounts
+pub mod StoryChanges
+pub mod StoryReads
 pub mod SendLosses
 pub mod SendNeeds
 pub mod SendStacks

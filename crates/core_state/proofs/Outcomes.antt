@@ -22,7 +22,7 @@ use Rattle.post_queue.specs.Queue.{queue}
 use Rattle.core_state.specs.Changes.{changed, purges, without_windows}
 use Rattle.core_state.specs.Effects.{IsMadeBy, IsRowOf}
 use Rattle.core_state.specs.Needs.{IsAnswered, IsOne}
-use Rattle.core_state.specs.Queues.{ThreadView}
+use Rattle.thread_state.specs.Threads.{ThreadView}
 use Rattle.core_state.specs.States.{EachBy}
 
 -- where there is no reason for a refusal, none comes

@@ -15,7 +15,7 @@ use Rattle.user_model.specs.ReplyDelivery.{next_post_number}
 use Rattle.user_model.specs.Legal.{IsLawful}
 use Rattle.user_model.proofs.ListLaws.{filter_same, filter_every, filter_twice}
 use Rattle.user_model.proofs.PostLaws.{goes_with, all_below}
-use Rattle.core_state.specs.Queues.{as_kept, queue_at}
+use Rattle.thread_state.specs.Threads.{as_kept, queue_at}
 use Rattle.core_state.specs.Changes.{without_windows, kin_of}
 
 -- a test of what a queue holds is one of what it stands for

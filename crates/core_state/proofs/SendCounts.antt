@@ -73,10 +73,10 @@ module _ (setup : Setup) (past : Past) (e : Entry) (p : SendParts) (ws : List Ke
 
   -- the windows that go with a dropped one
   module _ (w : ℕ) (is_call : e.call ≡ calls.Drop w) (is : e.answer ≡ answers.Okay) where
-    dropped : (v : ℕ) → goes_with ws w v ≡ drops_window e past v
+    pub dropped : (v : ℕ) → goes_with ws w v ≡ drops_window e past v
     dropped v = dropped_goes past e ws w v at is_call is
 
-    dropping : IsLosing past e
+    pub dropping : IsLosing past e
     dropping = losing-dropped setup past e p w (goes_with ws w) dropped lawful h is_call is
 
     dropped_losses : lost_count (goes_with ws w) p (place_after past) ≡ losses e past (length (sends past))
@@ -90,10 +90,10 @@ module _ (setup : Setup) (past : Past) (e : Entry) (p : SendParts) (ws : List Ke
 
   -- the windows of a thread that ends
   module _ (is : e.answer ≡ answers.Ended) where
-    owned : (v : ℕ) → is_of ws e.who.0 v ≡ drops_window e past v
+    pub owned : (v : ℕ) → is_of ws e.who.0 v ≡ drops_window e past v
     owned v = ended_goes setup past e ws v lawful at is
 
-    ending : IsLosing past e
+    pub ending : IsLosing past e
     ending = losing-ended setup past e p (is_of ws e.who.0) owned lawful h is
 
     ended_losses : lost_count (is_of ws e.who.0) p (place_after past) ≡ losses e past (length (sends past))
@@ -109,7 +109,7 @@ module _ (setup : Setup) (past : Past) (e : Entry) (p : SendParts) (ws : List Ke
   kept_counts : is_refused e ≡ false → is_drop e.call ≡ false → is_end e.answer ≡ false → Counts 0
   kept_counts right stays lives = tally-kept setup past e lawful right p h (λ s. loses-none e past s stays lives)
 
-  undropped : (a : Answer) (call : Call) → e.answer ≡ a → e.call ≡ call → is_refusal a ≡ false → (a ≡ answers.Okay → ⊥) → is_drop call ≡ false
+  pub undropped : (a : Answer) (call : Call) → e.answer ≡ a → e.call ≡ call → is_refusal a ≡ false → (a ≡ answers.Okay → ⊥) → is_drop call ≡ false
   undropped a (calls.Drop w) is k fine other = absurd (other (drop_okay setup past e.who.0 w a (ap (reply setup past e.who.0) (sym k) ∙ sym lawful.1 ∙ is) fine))
   undropped a _ is k fine other = refl
 

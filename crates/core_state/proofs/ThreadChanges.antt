@@ -29,7 +29,7 @@ use Rattle.user_model.proofs.PostLaws.{GoWithin, goes_with, is_plain, posted-pla
 use Rattle.user_model.proofs.QuitLaws.{is_post_quit, is_got_quit, quit-plain, quit-posted, quit-taken, quit-other}
 use Rattle.user_model.proofs.WindowFacts.{kin_of_thread}
 use Rattle.user_model.proofs.WindowReplies.{drop_told}
-use Rattle.core_state.specs.Queues.{ThreadView, as_kept, queue_with, thread_at, waiting_with, waiting_call}
+use Rattle.thread_state.specs.Threads.{ThreadView, as_kept, queue_with, thread_at, waiting_with, waiting_call}
 use Rattle.core_state.specs.Changes.{Change, posts as posts_one, takes, quits, none, change_by, change_of, kin_of, changed, noted, thread_after, count_kept, time_kept, time_told_to, queue_more, without_windows}
 use Rattle.core_state.proofs.QueueLists.{without_number-kept, without_kin, kept_more}
 

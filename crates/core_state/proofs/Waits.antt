@@ -21,7 +21,7 @@ use Rattle.user_model.specs.Legal.{IsLawful}
 use Rattle.user_model.proofs.ClockLaws.{last_entry-next}
 use Rattle.user_model.proofs.ReplyLaws.{by_row}
 use Rattle.user_model.proofs.SendLaws.{stack-other, stack-same}
-use Rattle.core_state.specs.Queues.{waiting_call, waiting_with}
+use Rattle.thread_state.specs.Threads.{waiting_call, waiting_with}
 
 -- the wait for a send is the thread's newest frame
 pub record IsWaitFor (past : Past) (t s : ℕ) : Type 0 where

@@ -13,7 +13,7 @@ use Rattle.user_model.specs.Places.{clock, cursor}
 use Rattle.user_model.specs.Windows.{live, is_kin}
 use Rattle.user_model.specs.Retrievals.{removes}
 use Rattle.user_model.specs.Posts.{message, queue_of}
-use Rattle.core_state.specs.Queues.{ThreadView, waiting_with}
+use Rattle.thread_state.specs.Threads.{ThreadView, waiting_with}
 
 -- a change at one thread: a post under its number, a post taken out, quit with a code or taken back, the messages of
 -- windows taken out, the end of the thread; or none

@@ -4,7 +4,6 @@ pub mod Deliveries
 pub mod Effects
 pub mod Frames
 pub mod Needs
-pub mod Queues
 pub mod Sendings
 pub mod States
 pub mod Steps

@@ -14,7 +14,7 @@ use Rattle.user_model.specs.declared.entry.Answer.{Answer}
 use Rattle.user_model.specs.declared.entry.Answer.TheVariants.{Okay, Ended, Value, Window, Posted as PostMade, Tell, Last, Got}
 use Rattle.core_state.specs.Deliveries.{posting, FitsPost}
 use Rattle.core_state.specs.Effects.{IsRowOf}
-use Rattle.core_state.specs.Queues.{ThreadView}
+use Rattle.thread_state.specs.Threads.{ThreadView}
 
 -- it is the number of a thread
 pub record IsOne (threads : List ThreadView) (t : ℕ) : Type 0 where

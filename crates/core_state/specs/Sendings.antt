@@ -9,6 +9,8 @@ use Rattle.win_tree.specs.Windows.{is_live}
 use Rattle.send_frames.specs.declared.row.SendRow.{SendRow}
 use Rattle.send_frames.specs.Book.{IsThread, refusal_at_begin, stack_of}
 use Rattle.send_state.specs.Parts.{SendParts, CanBegin, CanLeaveFrom, CanLose, CanReplyIn, CanServe, begun, dispatched, ended, finished, head_of, left, lost, lost_count, rank, replied, served, timed_out, top_of}
+use Rattle.send_state.specs.Stories.{noted_loss}
+use Rattle.send_state.specs.declared.story.SendStory.{SendStory}
 use Rattle.user_model.specs.declared.call.Call.{Call}
 use Rattle.user_model.specs.declared.call.Call.TheVariants.{Send, SendTimeout, SendNotify, SendCallback, Await, Leave, Reply, Drop}
 use Rattle.user_model.specs.declared.entry.Answer.{Answer}
@@ -130,6 +132,17 @@ abbrev pub losses_by : List Window → ℕ → ℕ → Answer → Call → SendP
 losses_by ws place who Okay call p = dropped_count ws place call p
 losses_by ws place who Ended call p = lost_count (is_of ws who) p place
 losses_by ws place who _ call p = 0
+
+-- what a call that was answered by ok says to the stories of sends
+abbrev pub dropped_losses : List Window → ℕ → Call → SendParts → ℕ → SendStory → SendStory
+dropped_losses ws place (Drop v) p = noted_loss (goes_with ws v) p place
+dropped_losses ws place _ p = λ s x. x
+
+-- what an answer says to the stories of the sends that it loses
+abbrev pub noted_losses : List Window → ℕ → ℕ → Answer → Call → SendParts → ℕ → SendStory → SendStory
+noted_losses ws place who Okay call p = dropped_losses ws place call p
+noted_losses ws place who Ended call p = noted_loss (is_of ws who) p place
+noted_losses ws place who _ call p = λ s x. x
 
 -- ---- what that needs
 

@@ -9,10 +9,12 @@ use Rattle.win_tree.specs.Windows.{Windows}
 use Rattle.win_class.specs.ClassTable.{ClassTable}
 use Rattle.send_state.specs.Parts.{SendParts}
 use Rattle.send_state.specs.Standing.{PartsStand}
+use Rattle.send_state.specs.Stories.{StoriesStand}
 use Rattle.send_state.specs.Tallies.{tally_at}
+use Rattle.send_state.specs.declared.story.SendStory.{SendStory}
 use Rattle.send_state.specs.declared.tally.Tally.{Tally}
 use Rattle.core_state.specs.ClassTables.{classes_at}
-use Rattle.core_state.specs.Queues.{ThreadView, thread_at}
+use Rattle.thread_state.specs.Threads.{ThreadView, thread_at}
 use Rattle.core_state.specs.Trees.{IsTreeAt}
 
 -- its setup and its past
@@ -29,10 +31,11 @@ pub record Parts : Type 0 where
   pub time : ℕ
   pub sends : SendParts
   pub tally : Tally
+  pub stories : List SendStory
 
 -- the parts from their values
-abbrev pub parts : Windows → ClassTable → List ThreadView → ℕ → ℕ → SendParts → Tally → Parts
-parts tree classes threads post_count time sends tally = record { tree = tree; classes = classes; threads = threads; post_count = post_count; time = time; sends = sends; tally = tally }
+abbrev pub parts : Windows → ClassTable → List ThreadView → ℕ → ℕ → SendParts → Tally → List SendStory → Parts
+parts tree classes threads post_count time sends tally stories = record { tree = tree; classes = classes; threads = threads; post_count = post_count; time = time; sends = sends; tally = tally; stories = stories }
 
 -- each thread's part is what the past says of the thread
 pub record EachThread (past : Past) (threads : List ThreadView) : Type 0 where
@@ -55,3 +58,4 @@ pub record Stands (setup : Setup) (past : Past) (p : Parts) : Type 0 where
   pub clock : p.time ≡ clock past
   pub sends : PartsStand setup past p.sends
   pub tally : p.tally ≡ tally_at past
+  pub stories : StoriesStand past p.stories

@@ -1,38 +1,13 @@
-//! Which posted messages a filter lets pass, and which message a call posts.
+//! Live windows and their threads, and which message a call posts.
 
 ghost use Rattle.std.specs.Prelude.{◌≡◌, ◌≤◌, ◌==◌, ◌||◌, IsTrue};
 ghost use Rattle.win_tree.specs.Windows.{is_live};
 ghost use Rattle.user_model.specs.Posts.{message};
-ghost use Rattle.core_state.specs.Deliveries.{FitsPost, origin, passes_here, passes_window_in, posting, thread_in};
+ghost use Rattle.core_state.specs.Deliveries.{FitsPost, origin, posting, thread_in};
 
 use user_model::{Call, Entry};
-use win_num::{Filter, Hwnd, Msg, Point, names};
+use win_num::{Hwnd, Msg, Point};
 use win_tree::Tree;
-
-/// Whether a filter lets a posted message pass: by its number, where a posted WM_QUIT passes every
-/// range, and by its window.
-pub fn passes(tree: &Tree, filter: Filter, msg: &Msg) -> bool
-    ensures { result ≡ passes_here tree.now.live filter msg.now }
-{
-    if !filter.passes_number(msg.number) && msg.number != names::WM_QUIT {
-        return false;
-    }
-    passes_window(tree, filter.hwnd, msg.hwnd)
-}
-
-/// Whether a filter's window lets a window pass: 0 lets all pass, minus one what has no window, and a
-/// live window itself and what stands below it.
-fn passes_window(tree: &Tree, wanted: u64, w: Hwnd) -> bool
-    ensures { result ≡ passes_window_in tree.now.live wanted w.0 }
-{
-    if wanted == 0 || (wanted == names::NO_WINDOW && w.0 == 0) {
-        return true;
-    }
-    match tree.find(wanted) {
-        Some(above) => above == w || tree.is_child(above, w),
-        None => false,
-    }
-}
 
 /// The live window of a number, or for 0 no window.
 pub fn window_or_none(tree: &Tree, w: u64) -> Hwnd

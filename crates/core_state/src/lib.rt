@@ -11,9 +11,8 @@ mod queues;
 mod sendings;
 mod state;
 mod tables;
-mod thread_state;
 
-pub use send_state::SendRow;
+pub use send_state::{SendRow, SendStory};
 pub use state::CoreState;
 
 #[cfg(test)]

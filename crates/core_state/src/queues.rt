@@ -6,12 +6,12 @@ ghost use Rattle.user_model.specs.Retrievals.{removes};
 ghost use Rattle.core_state.specs.Changes.{changed, count_kept, ends, noted, posts, purges, quits, taken_if, takes, time_kept};
 ghost use Rattle.core_state.specs.Deliveries.{goes_with, kin_in, removal};
 ghost use Rattle.core_state.specs.Needs.{HasRoom, IsOne};
-ghost use Rattle.core_state.specs.Queues.{waiting_with};
+ghost use Rattle.thread_state.specs.Threads.{waiting_with};
 ghost use Rattle.core_state.specs.States.{EachBy};
 
 use crate::delivery::posting;
-use crate::thread_state::ThreadState;
 use std::alloc::AllocError;
+use thread_state::ThreadState;
 use user_model::{Answer, Call, Entry, Origin};
 use win_num::{Hwnd, Msg, Thread, names};
 use win_tree::Tree;

@@ -5,11 +5,12 @@ ghost use Rattle.win_num.specs.declared.send.Kind.{Kind};
 ghost use Rattle.win_tree.specs.Windows.{is_live};
 ghost use Rattle.send_frames.specs.Book.{IsThread};
 ghost use Rattle.send_state.specs.Parts.{lost_count};
+ghost use Rattle.send_state.specs.Stories.{EachStory, noted_loss};
 ghost use Rattle.core_state.specs.Deliveries.{goes_with, thread_in};
-ghost use Rattle.core_state.specs.Sendings.{FitsCallback, FitsDropped, FitsLeave, FitsLosing, FitsOption, FitsReply, FitsSending, FitsSettledSends, FitsWait, begun_with, called_back, dropped_count, dropped_sends, ended_sends, is_of, left_by_call, losses_by, replied_by_call, row_to, sending, settled_sends, waited};
+ghost use Rattle.core_state.specs.Sendings.{FitsCallback, FitsDropped, FitsLeave, FitsLosing, FitsOption, FitsReply, FitsSending, FitsSettledSends, FitsWait, begun_with, called_back, dropped_count, dropped_losses, dropped_sends, ended_sends, is_of, left_by_call, losses_by, noted_losses, replied_by_call, row_to, sending, settled_sends, waited};
 
 use crate::delivery::{thread_of, window_or_none};
-use send_state::{SendRow, SendState};
+use send_state::{SendRow, SendState, SendStory};
 use std::alloc::AllocError;
 use user_model::{Answer, Call, Entry};
 use win_num::{Fault, Hwnd, Kind, SendId, Thread};
@@ -97,10 +98,18 @@ pub fn begin(
 }
 
 /// Does to the sends what takes no memory: runs what is ready, calls and leaves procedures, replies, ends
-/// waits, and loses the sends to windows that go. The result is how many sends it lost.
-pub fn settle_sends(sends: &mut SendState, tree: &Tree, place: u32, entry: Entry) -> u32
+/// waits, and loses the sends to windows that go, which their stories note. The result is how many sends
+/// it lost.
+pub fn settle_sends(
+    sends: &mut SendState,
+    stories: &mut [SendStory],
+    tree: &Tree,
+    place: u32,
+    entry: Entry,
+) -> u32
     requires { FitsSettledSends tree.now.live place entry.who.0 entry.answer entry.call sends.old }
     ensures sends { sends.new ≡ settled_sends tree.now.live place entry.who.0 entry.answer entry.call sends.old }
+    ensures stories { EachStory (noted_losses tree.now.live place entry.who.0 entry.answer entry.call sends.old) stories.old stories.new }
     ensures lost { result ≡ losses_by tree.now.live place entry.who.0 entry.answer entry.call sends.old }
 {
     match entry.answer {
@@ -128,8 +137,8 @@ pub fn settle_sends(sends: &mut SendState, tree: &Tree, place: u32, entry: Entry
             end_wait(sends, entry);
             0
         }
-        Answer::Okay => lose_dropped(sends, tree, place, entry.call),
-        Answer::Ended => end_thread(sends, tree, place, entry.who),
+        Answer::Okay => lose_dropped(sends, stories, tree, place, entry.call),
+        Answer::Ended => end_thread(sends, stories, tree, place, entry.who),
         _ => 0,
     }
 }
@@ -181,9 +190,16 @@ fn end_wait(sends: &mut SendState, entry: Entry)
 }
 
 /// Loses the sends to a window that is dropped and its kin. The result is how many these are.
-fn lose_dropped(sends: &mut SendState, tree: &Tree, place: u32, call: Call) -> u32
+fn lose_dropped(
+    sends: &mut SendState,
+    stories: &mut [SendStory],
+    tree: &Tree,
+    place: u32,
+    call: Call,
+) -> u32
     requires { FitsDropped tree.now.live place call sends.old }
     ensures sends { sends.new ≡ dropped_sends tree.now.live place call sends.old }
+    ensures stories { EachStory (dropped_losses tree.now.live place call sends.old) stories.old stories.new }
     ensures lost { result ≡ dropped_count tree.now.live place call sends.old }
 {
     if let Call::Drop(w) = call {
@@ -191,21 +207,30 @@ fn lose_dropped(sends: &mut SendState, tree: &Tree, place: u32, call: Call) -> u
         let goes = |w: Hwnd| -> bool
             ensures { result ≡ goes_with tree.entry.now.live window.0 w.0 }
         { tree.row(w).is_some() && tree.is_kin(window, w) };
+        sends.note_losses(stories, &goes, place);
         return sends.lose(goes, place);
     }
     0
 }
 
 /// Loses the sends to the windows of a thread, and ends it. The result is how many sends these are.
-fn end_thread(sends: &mut SendState, tree: &Tree, place: u32, who: Thread) -> u32
+fn end_thread(
+    sends: &mut SendState,
+    stories: &mut [SendStory],
+    tree: &Tree,
+    place: u32,
+    who: Thread,
+) -> u32
     requires thread { IsThread sends.old.book who.0 }
     requires losing { FitsLosing (is_of tree.now.live who.0) sends.old place }
     ensures sends { sends.new ≡ ended_sends tree.now.live place who.0 sends.old }
+    ensures stories { EachStory (noted_loss (is_of tree.now.live who.0) sends.old place) stories.old stories.new }
     ensures lost { result ≡ lost_count (is_of tree.now.live who.0) sends.old place }
 {
     let goes = |w: Hwnd| -> bool
         ensures { result ≡ is_of tree.entry.now.live who.0 w.0 }
     { tree.row(w).is_some() && thread_of(tree, w) == who.0 };
+    sends.note_losses(stories, &goes, place);
     let lost = sends.lose(goes, place);
     sends.end(who);
     lost

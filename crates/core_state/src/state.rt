@@ -15,22 +15,25 @@ ghost use Rattle.user_model.specs.Next.{next_ready};
 ghost use Rattle.user_model.specs.Counts.{send_count};
 ghost use Rattle.user_model.specs.ReplySends.{blocks, deadline, next_send_number};
 ghost use Rattle.send_state.specs.Standing.{as_told, row_of};
+ghost use Rattle.send_state.specs.Stories.{send_story};
 ghost use Rattle.core_state.specs.Frames.{IsOnTop, wait_end};
 ghost use Rattle.user_model.specs.Windows.{live, window, is_live, thread_of, up, next_top};
 ghost use Rattle.user_model.specs.Destruction.{is_marked, was_given, ended};
 ghost use Rattle.user_model.specs.Classes.{class, classes, registered_count, is_used, message_names, message_number, proc_of};
 ghost use Rattle.user_model.specs.Idle.{reply, is_idle, ends_stuck, last_entry, one_of, times_of};
-ghost use Rattle.core_state.specs.Queues.{fresh_thread, waiting_call};
+ghost use Rattle.thread_state.specs.Threads.{fresh_thread, waiting_call};
 ghost use Rattle.core_state.specs.Steps.{destruction_answer, told_of, up_of};
 
 use crate::change::{grow, settle};
 use crate::delivery::thread_of;
 use crate::queues::{count_after, note_entry, time_after};
 use crate::sendings::settle_sends;
-use crate::thread_state::ThreadState;
-use send_state::{SendRow, SendState, Tally, first_cause};
+use send_state::{
+    SendRow, SendState, SendStory, Tally, add_story, first_cause, named_send, note_answer,
+};
 use std::alloc::{AllocError, Global};
 use std::marker::Model;
+use thread_state::ThreadState;
 use user_model::{Answer, Call, Entry, HISTORY_LIMIT, SendCount, Setup};
 use win_class::Classes;
 use win_num::{Cause, Filter, Frame, Hwnd, Msg, SendId, Thread};
@@ -55,6 +58,8 @@ pub struct CoreState {
     time: u64,
     sends: SendState,
     tally: Tally,
+    /// What became of each send, from send 1 on.
+    stories: Vec<SendStory>,
 }
 
 impl Model for CoreState {
@@ -65,7 +70,7 @@ impl Model for CoreState {
 
     ghost view = { λ s. record { setup = s.setup; past = reverse s.history.items } };
 
-    ghost invariant = { λ s. Stands s.setup (reverse s.history.items) (parts s.tree s.classes s.threads.items s.post_count s.time s.sends s.tally) };
+    ghost invariant = { λ s. Stands s.setup (reverse s.history.items) (parts s.tree s.classes s.threads.items s.post_count s.time s.sends s.tally s.stories.items) };
 }
 
 impl CoreState {
@@ -85,6 +90,7 @@ impl CoreState {
             time: 0,
             sends: SendState::new(alloc, setup.threads)?,
             tally: Tally::new(),
+            stories: Vec::new(alloc),
         })
     }
 
@@ -315,6 +321,17 @@ impl CoreState {
         }
     }
 
+    /// What became of the send of a number: nothing, where there is none.
+    pub fn send_story(&self, send: SendId) -> SendStory
+        ensures { result ≡ send_story self.now.past send.0 }
+    {
+        let number = send.0 as usize;
+        if number == 0 || number > self.stories.len() {
+            return SendStory::new();
+        }
+        self.stories[number - 1]
+    }
+
     /// The number that the next send gets.
     pub fn next_send(&self) -> SendId
         requires { is_full self.now.past ≡ false }
@@ -483,7 +500,9 @@ impl CoreState {
         ensures err { OnErr result (self.new ≡ self.old) }
     {
         let first = first_cause(&self.sends, entry);
+        let named = named_send(&self.sends, entry);
         self.history.reserve(1)?;
+        self.stories.reserve(1)?;
         let place = self.history.len() as u32;
         grow(
             &mut self.classes,
@@ -494,7 +513,9 @@ impl CoreState {
             place,
             entry,
         )?;
-        let lost = settle_sends(&mut self.sends, &self.tree, place, entry);
+        add_story(&mut self.stories, entry.answer);
+        let lost = settle_sends(&mut self.sends, &mut self.stories, &self.tree, place, entry);
+        note_answer(&mut self.stories, entry.answer, named, place);
         settle(&mut self.classes, &mut self.tree, &mut self.threads, entry);
         note_entry(&mut self.threads, entry);
         self.post_count = count_after(self.post_count, entry.answer);

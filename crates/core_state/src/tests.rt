@@ -67,6 +67,7 @@ fn a_new_state_has_no_sends(rt: HostRuntime) -> Result<(), Fail> {
     let state = CoreState::new(rt.alloc(), Setup::new(2, 8, 4))?;
     assert_eq!(rt; state.unfinished_count(), 0usize);
     assert_eq!(rt; state.next_send(), SendId(1));
+    assert_eq!(rt; state.send_story(SendId(1)), SendStory::new());
     let count = state.send_count();
     assert!(rt; count.begun == 0 && count.entered == 0 && count.unfinished == 0);
     assert!(rt; count.by_proc == 0 && count.by_reply == 0);

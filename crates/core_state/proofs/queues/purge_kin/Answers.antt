@@ -3,7 +3,7 @@ use Rattle.std.specs.List.{list_any}
 use Rattle.post_queue.specs.Queue.{queue}
 use Rattle.core_state.specs.Changes.{without_windows}
 use Rattle.core_state.specs.Deliveries.{kin_in}
-use Rattle.core_state.specs.Queues.{ThreadView}
+use Rattle.thread_state.specs.Threads.{ThreadView}
 use Rattle.core_state.proofs.KinLists.{kin_any, purged}
 use Rattle.core_state.proofs.Outcomes.{one_purged}
 use Rattle.core_state.proofs.queues.purge_kin.Goals as goal

@@ -14,3 +14,6 @@ end-requires c =
     let test = is_of c.args.tree.now.live c.args.who.0 in
     let same = ap (λ (p : SendParts). length p.book.stacks) (c.lose-lost.ensures.lost test (λ w b p. p.1)) ∙ ap (λ (l : List (List Frame)). length l) (lost-stacks test c.args.sends.now c.args.place) in
     (c.requires.thread.0, subst (λ (n : ℕ). c.args.who.0 ≤ n) (sym same) c.requires.thread.1)
+
+pub returns-clause-stories : goal.returns-clause-stories
+returns-clause-stories c = c.note_losses.ensures (is_of c.args.tree.now.live c.args.who.0) (λ w b p. p.1)

@@ -1,7 +1,7 @@
 use Rattle.std.proofs.Common.{◌≡◌, All, sym, ap, ◌∙◌, subst, length, ◌+◌}
 use Rattle.std.proofs.lemmas.List.{length_push}
 use Rattle.std.proofs.lemmas.List.Elements.{All-push}
-use Rattle.core_state.specs.Queues.{ThreadView, fresh_thread}
+use Rattle.thread_state.specs.Threads.{ThreadView, fresh_thread}
 use Rattle.core_state.proofs.state.fresh_threads.Goals as goal
 
 pub loop-preserved : goal.loop-preserved

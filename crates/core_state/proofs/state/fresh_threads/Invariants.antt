@@ -1,5 +1,5 @@
 use Rattle.std.proofs.Common.{◌≡◌, length, All}
-use Rattle.core_state.specs.Queues.{fresh_thread}
+use Rattle.thread_state.specs.Threads.{fresh_thread}
 use Rattle.core_state.proofs.state.fresh_threads.Given as goal
 
 abbrev pub invariant-loop : goal.invariant-loop

@@ -3,8 +3,8 @@ use Rattle.std.specs.Prelude.{find, option_map}
 use Rattle.post_queue.specs.Queue.{pair_of}
 use Rattle.user_model.specs.Past.{Past}
 use Rattle.user_model.specs.Posts.{first_post}
-use Rattle.core_state.specs.Deliveries.{passes_in}
-use Rattle.core_state.specs.Queues.{ThreadView, thread_at}
+use Rattle.thread_state.specs.Passing.{passes_in}
+use Rattle.thread_state.specs.Threads.{ThreadView, thread_at}
 use Rattle.core_state.specs.States.{Seen}
 use Rattle.core_state.proofs.Deliveries.{first_kept}
 use Rattle.core_state.proofs.state.CoreState.first_post.Goals as goal

@@ -1,4 +1,4 @@
-use Rattle.std.proofs.Common.{◌≡◌, ◌<◌, ◌^◌, ℕ, reverse, subst, sym}
+use Rattle.std.proofs.Common.{◌<◌, ◌^◌, ℕ, reverse, subst, sym}
 use Rattle.user_model.specs.Past.{Past}
 use Rattle.core_state.proofs.TimeBounds.{clock_small}
 use Rattle.core_state.proofs.state.CoreState.time.Goals as goal

@@ -4,7 +4,7 @@ use Rattle.user_model.specs.Past.{Past}
 use Rattle.user_model.specs.Idle.{last_entry, one_of, times_of}
 use Rattle.user_model.specs.Stacks.{top}
 use Rattle.core_state.specs.Frames.{wait_end}
-use Rattle.core_state.specs.Queues.{waiting_call}
+use Rattle.thread_state.specs.Threads.{waiting_call}
 use Rattle.core_state.specs.States.{Seen}
 use Rattle.std.specs.Prelude.{option_and_then}
 use Rattle.core_state.proofs.Waits.{await_times}

@@ -3,10 +3,10 @@
 ghost use Rattle.std.specs.Prelude.{◌≡◌, ◌<◌, ◌==◌, ℕ, [], ◌∷◌, ◌++◌, All, Bool, true, filter, find, length, not, option_map, OnOk, OnErr};
 ghost use Rattle.post_queue.specs.Queue.{pair_of, post_of, queue, without_number};
 ghost use Rattle.win_num.specs.declared.message.Hwnd.{Hwnd};
-ghost use Rattle.core_state.specs.Deliveries.{passes_here, passes_in};
-ghost use Rattle.core_state.specs.Queues.{fresh_thread};
+ghost use Rattle.thread_state.specs.Passing.{passes_here, passes_in};
+ghost use Rattle.thread_state.specs.Threads.{fresh_thread};
 
-use crate::delivery::passes;
+use crate::passing::passes;
 use post_queue::{Posts, Steps};
 use std::alloc::{AllocError, Global};
 use std::marker::{Brand, Model};
@@ -28,7 +28,7 @@ pub struct ThreadState {
 }
 
 impl Model for ThreadState {
-    ghost use Rattle.core_state.specs.Queues.{ThreadView};
+    ghost use Rattle.thread_state.specs.Threads.{ThreadView};
 
     ghost Value = { ThreadView };
 

@@ -1,0 +1,12 @@
+//! What is kept of one thread: its posted messages, its quit, whether it has ended, and the call that it
+//! waits with.
+#![tactic(auto)]
+
+mod passing;
+mod thread;
+
+pub use passing::passes;
+pub use thread::ThreadState;
+
+#[cfg(test)]
+mod tests;
