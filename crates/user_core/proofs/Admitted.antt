@@ -1,5 +1,5 @@
 -- The answer of a thread by what keeps it from its call, if anything does.
-use Rattle.std.proofs.Common.{◌≡◌, ℕ, Bool, true, false, not, cond, Option, Some, None, refl}
+use Rattle.std.proofs.Common.{◌≡◌, ℕ, Bool, true, false, not, cond, Some, None, refl}
 use Rattle.std.specs.Prelude.{◌||◌}
 use Rattle.win_num.specs.declared.code.Code.{Code}
 use Rattle.win_num.specs.declared.code.Code.TheVariants.{NotNow, Full}

@@ -10,6 +10,7 @@ mod codes;
 mod user;
 mod windows;
 
+pub use core_state::SendStory;
 pub use user::User;
 
 #[cfg(test)]

@@ -1,17 +1,18 @@
 //! The machine.
 
 ghost use Rattle.std.specs.Prelude.{◌≡◌, [], IfOk, reverse};
+ghost use Rattle.send_state.specs.Stories.{send_story};
 ghost use Rattle.user_model.specs.Idle.{have_all_ended};
 ghost use Rattle.user_model.specs.Legal.{IsLegal};
 ghost use Rattle.user_model.specs.Setups.{IsSetup};
 
 use crate::answer::{answer, have_all_ended, is_barred, is_clock_barred};
 use core_deliver::{deliver, is_delivery, is_retrieval, retrieve};
-use core_state::CoreState;
+use core_state::{CoreState, SendStory};
 use std::alloc::{AllocError, Global};
 use std::marker::Model;
 use user_model::{Answer, Call, Entry, Machine, SendCount, Setup};
-use win_num::Thread;
+use win_num::{SendId, Thread};
 
 /// The message machine for the threads of one script. Each of its answers is the reply of the
 /// definitions, found from kept parts; no step walks the history.
@@ -44,6 +45,13 @@ impl User {
         ensures legal { IsLegal self.now.setup result.now }
     {
         self.state.history()
+    }
+
+    /// What became of the send of a number: nothing, where there is none.
+    pub fn send_story(&self, send: SendId) -> SendStory
+        ensures { result ≡ send_story self.now.past send.0 }
+    {
+        self.state.send_story(send)
     }
 
     /// Whether all threads have ended.

@@ -1,18 +1,19 @@
 //! Laws of the machine, over its definitions alone: they hold of every history that a machine can have.
-//! `sum_law` tells of a given machine what one of them speaks of.
+//! `send_law` and `sum_law` tell of a given machine what two of them speak of.
 #![tactic(auto)]
 
 mod machines;
 mod sends;
 mod times;
 
-pub use machines::sum_law;
+pub use machines::{send_law, sum_law};
 pub use sends::{
     all_sends_come_to_an_end, answers_stay, awaits_pop_their_frames, frames_and_sends_are_few,
     leaves_pop_their_frames, sends_are_numbered, sends_keep_their_order, stacks_are_in_order,
     stacks_change_at_the_top,
 };
 pub use times::{clock_never_goes_back, clock_wakes_a_thread, soonest_time_is_to_come};
+pub use user_core::SendStory;
 
 #[cfg(test)]
 mod tests;

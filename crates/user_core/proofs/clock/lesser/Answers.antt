@@ -1,4 +1,4 @@
-use Rattle.std.proofs.Common.{◌≡◌, ◌++◌, Some, ap, ◌∙◌, sym, arith}
+use Rattle.std.proofs.Common.{◌≡◌, ◌++◌, Some, ap, ◌∙◌, arith}
 use Rattle.std.specs.Prelude.{min}
 use Rattle.user_model.specs.Idle.{least_of, one_of}
 use Rattle.user_core.proofs.Leasts.{least_one, least_only}

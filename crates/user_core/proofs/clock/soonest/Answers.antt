@@ -1,4 +1,4 @@
-use Rattle.std.proofs.Common.{◌≡◌, ℕ, suc, ◌+◌, List, ◌++◌, ap, ◌∙◌, sym, add-one}
+use Rattle.std.proofs.Common.{ℕ, List, ◌++◌, ap, ◌∙◌, sym, add-one}
 use Rattle.user_model.specs.Threads.{from_each}
 use Rattle.user_model.specs.Idle.{last_entry, least_of, times_of}
 use Rattle.user_core.proofs.clock.soonest.Goals as goal
