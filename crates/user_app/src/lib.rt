@@ -17,4 +17,6 @@ pub mod io {
 }
 
 #[cfg(test)]
+mod refusing;
+#[cfg(test)]
 mod tests;

@@ -2,12 +2,13 @@ ghost use Rattle.std.specs.Prelude.{◌<◌};
 
 use super::*;
 use crate::io::{MemSink, MemSource};
+use crate::refusing::Refusing;
 use script_proc::{Turn, Worker};
 use script_text::read;
 use std::alloc::{AllocError, Global};
 use std::test::Fail;
 use user_core::User;
-use user_model::{Alone, Setup};
+use user_model::{Alone, Machine, Setup};
 
 /// A script of one thread without statements.
 const ONE_END: &[u8] = b"user 1\nscreen 8 4\nbudget 100\norder\nthread\nend\n";
@@ -124,6 +125,24 @@ fn turns_of_a_thread(rt: HostRuntime) -> Result<(), Fail> {
             assert_eq!(rt; worker.turn(&script, &mut teller)?, turn);
         }
     }
+    Ok(())
+}
+
+#[test]
+fn a_turn_without_memory_is_tried_again(rt: HostRuntime) -> Result<(), Fail> {
+    let alloc: Global = rt.alloc();
+    let machine = User::new(alloc, Setup::new(1, 8, 4))?;
+    let mut teller = Refusing {
+        teller: Alone { machine },
+        refuses: true,
+    };
+    let script = read(alloc, ONE_END).expect(&rt, "a script");
+    let mut worker = Worker::new(alloc, &script, 1)?;
+    assert!(rt; worker.turn(&script, &mut teller).is_err());
+    assert_eq!(rt; teller.teller.machine.history().len(), 0usize);
+    assert_eq!(rt; worker.turn(&script, &mut teller)?, Turn::Went);
+    assert_eq!(rt; worker.turn(&script, &mut teller)?, Turn::Ended);
+    assert_eq!(rt; teller.teller.machine.history().len(), 1usize);
     Ok(())
 }
 
