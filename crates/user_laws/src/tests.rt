@@ -50,7 +50,7 @@ fn is_told(user: &User, first: u32, told: &Told) -> bool {
         && story.cause == cause
 }
 
-/// Whether all these sends are told so after the steps.
+/// Whether all these sends are told so after the steps, and no counts, since a thread still runs.
 fn are_told(alloc: Global, threads: u8, steps: &[Step], sends: &[Told]) -> Result<bool, AllocError>
     requires some { 0 < threads }
     requires few { threads ≤ 15 }
@@ -62,7 +62,7 @@ fn are_told(alloc: Global, threads: u8, steps: &[Step], sends: &[Told]) -> Resul
             return Ok(false);
         }
     }
-    Ok(true)
+    Ok(sum_law(&user).is_none())
 }
 
 #[test]
@@ -126,7 +126,7 @@ fn sends_that_procedures_answer(rt: HostRuntime) -> Result<(), Fail> {
 }
 
 #[test]
-fn sends_that_time_out_are_replied_to_or_lost(rt: HostRuntime) -> Result<(), Fail> {
+fn sends_that_end_otherwise(rt: HostRuntime) -> Result<(), Fail> {
     static BLOCKING: [Step; 11] = [
         (1, Call::SendTimeout(17, 1024, 0, 0, 1, 100)),
         (2, Call::SendTimeout(16, 1024, 0, 0, 1, 200)),
@@ -159,13 +159,26 @@ fn sends_that_time_out_are_replied_to_or_lost(rt: HostRuntime) -> Result<(), Fai
         (1, Call::Await(1)),
         (2, Call::Leave(7)),
     ];
-    static DROPPED: [Step; 6] = [
+    static DROPPED: [Step; 13] = [
+        (1, Call::Post(17, 1025, 0, 0)),
+        (1, Call::Post(17, 1026, 0, 0)),
         (1, Call::Send(17, 1024, 0, 0)),
         (1, Call::Await(1)),
         (2, Call::Doom(17)),
         (2, Call::Unmake(17)),
         (2, Call::Unmake(17)),
         (2, Call::Drop(17)),
+        (2, Call::Unmake(17)),
+        (1, Call::Await(1)),
+        (0, Call::Tick(20)),
+        (2, Call::Peek(0, 0, 0, 1)),
+        (1, Call::Post(17, 1025, 0, 0)),
+    ];
+    static CALLBACK: [Step; 4] = [
+        (1, Call::SendCallback(17, 1024, 0, 0, 0, 0)),
+        (2, Call::Get(0, 0, 0)),
+        (1, Call::EndThread),
+        (2, Call::Leave(5)),
     ];
     static ENDED: [Step; 3] = [
         (1, Call::Send(17, 1024, 0, 0)),
@@ -175,12 +188,14 @@ fn sends_that_time_out_are_replied_to_or_lost(rt: HostRuntime) -> Result<(), Fai
     static TOLD_BLOCKING: [Told; 2] = [(1, None, Some(5), Some(Cause::Timeout)), by_proc!(2, 7, 8)];
     static TOLD_OVER: [Told; 1] = [(1, Some(1), Some(3), Some(Cause::Timeout))];
     static TOLD_EARLY: [Told; 1] = [(1, Some(1), Some(3), Some(Cause::Reply))];
-    static TOLD_DROPPED: [Told; 1] = [(1, None, Some(5), Some(Cause::Loss))];
+    static TOLD_DROPPED: [Told; 1] = [(1, None, Some(7), Some(Cause::Loss))];
+    static TOLD_CALLBACK: [Told; 1] = [by_proc!(1, 1, 3)];
     static TOLD_ENDED: [Told; 1] = [(1, None, Some(1), Some(Cause::Loss))];
     assert!(rt; are_told(rt.alloc(), 2, &BLOCKING, &TOLD_BLOCKING)?);
     assert!(rt; are_told(rt.alloc(), 2, &OVER, &TOLD_OVER)?);
     assert!(rt; are_told(rt.alloc(), 2, &EARLY, &TOLD_EARLY)?);
     assert!(rt; are_told(rt.alloc(), 2, &DROPPED, &TOLD_DROPPED)?);
+    assert!(rt; are_told(rt.alloc(), 2, &CALLBACK, &TOLD_CALLBACK)?);
     assert!(rt; are_told(rt.alloc(), 2, &ENDED, &TOLD_ENDED)?);
     Ok(())
 }
