@@ -1,6 +1,6 @@
 //! What posts and retrievals answer.
 
-ghost use Rattle.std.specs.Prelude.{◌≡◌, ◌<◌, ◌≤◌, false, pos};
+ghost use Rattle.std.specs.Prelude.{◌≡◌, ◌<◌, ◌≤◌, false};
 ghost use Rattle.user_model.specs.Past.{is_full};
 ghost use Rattle.win_num.specs.declared.names.TheConstants.{WM_QUIT};
 ghost use Rattle.user_model.specs.Filters.{is_no_filter_window};
@@ -30,7 +30,7 @@ fn is_no_filter_window(state: &CoreState, who: u8, w: u64) -> bool
 fn next(state: &CoreState, who: u8, filter: Filter) -> Option<Answer>
     requires some { 0 < who }
     requires known { who ≤ state.now.setup.threads }
-    ensures { result ≡ next state.now.past who filter }
+    ensures { result ≡ next state.now.setup state.now.past who filter }
 {
     if let Some(answer) = state.next_ready(who) {
         return Some(answer);
@@ -55,14 +55,14 @@ fn next_quit(state: &CoreState, who: u8) -> Option<Answer>
         return None;
     }
     match state.quit(who) {
-        Some(code) => Some(quit(code, state.time())),
+        Some(code) => Some(quit(code, state.time(), state.cursor())),
         None => None,
     }
 }
 
 /// Quit as a retrieval hands it out, with the clock and the cursor of the retrieval.
-fn quit(code: u64, time: u64) -> Answer
-    ensures { result ≡ Answer.Got Origin.Quit 0 (message 0 WM_QUIT code 0 time (record { x = pos 0; y = pos 0 })) }
+fn quit(code: u64, time: u64, cursor: Point) -> Answer
+    ensures { result ≡ Answer.Got Origin.Quit 0 (message 0 WM_QUIT code 0 time cursor) }
 {
     Answer::Got {
         origin: Origin::Quit,
@@ -73,7 +73,7 @@ fn quit(code: u64, time: u64) -> Answer
             wparam: code,
             lparam: 0,
             time,
-            point: Point { x: 0, y: 0 },
+            point: cursor,
         },
     }
 }
@@ -82,7 +82,7 @@ fn quit(code: u64, time: u64) -> Answer
 pub fn get_answer(state: &CoreState, who: u8, filter: Filter) -> Answer
     requires some { 0 < who }
     requires known { who ≤ state.now.setup.threads }
-    ensures { result ≡ get_reply state.now.past who filter.hwnd filter.min filter.max }
+    ensures { result ≡ get_reply state.now.setup state.now.past who filter.hwnd filter.min filter.max }
 {
     if is_no_filter_window(state, who, filter.hwnd) {
         return Answer::Refused(INVALID_WINDOW_HANDLE);
@@ -97,7 +97,7 @@ pub fn get_answer(state: &CoreState, who: u8, filter: Filter) -> Answer
 pub fn peek_answer(state: &CoreState, who: u8, filter: Filter, flags: u64) -> Answer
     requires some { 0 < who }
     requires known { who ≤ state.now.setup.threads }
-    ensures { result ≡ peek_reply state.now.past who filter.hwnd filter.min filter.max flags }
+    ensures { result ≡ peek_reply state.now.setup state.now.past who filter.hwnd filter.min filter.max flags }
 {
     if flags > 3 {
         return Answer::Refused(INVALID_PARAMETER);

@@ -3,6 +3,7 @@ use Rattle.std.proofs.Common.{◌≡◌, ℕ, ◌+◌, ◌<◌, ◌≤◌, true,
 use Rattle.std.proofs.lemmas.Bool.Decides.{nat_tests}
 use Rattle.win_num.specs.declared.message.Thread.{Thread}
 use Rattle.win_num.specs.declared.send.Cause.{Cause}
+use Rattle.win_num.specs.declared.shapes.Point.{Point}
 use Rattle.win_class.specs.ClassTable.{ClassTable, unregister_refusal}
 use Rattle.win_tree.specs.Windows.{Windows}
 use Rattle.win_tree.specs.Kin.{doom_refusal, drop_refusal}
@@ -13,6 +14,7 @@ use Rattle.user_model.specs.declared.entry.Answer.TheVariants as answers
 use Rattle.user_model.specs.declared.entry.Entry.{Entry}
 use Rattle.user_model.specs.declared.entry.Setup.{Setup}
 use Rattle.user_model.specs.Past.{Past, is_full, place_after}
+use Rattle.user_model.specs.Places.{cursor}
 use Rattle.user_model.specs.Idle.{reply}
 use Rattle.user_model.specs.Legal.{IsLawful}
 use Rattle.user_model.specs.Threads.{is_running}
@@ -45,17 +47,17 @@ use Rattle.core_state.proofs.TreeSteps.{tree_after}
 
 -- ---- what a change needs
 
-growth_by : (setup : Setup) (past : Past) (p : Parts) (who : Thread) (a : Answer) (call : Call) → Stands setup past p → a ≡ reply setup past who.0 call → FitsGrowth p.classes p.tree p.threads p.time who.0 a call
-growth_by setup past p who (answers.Posted k) call st right =
+growth_by : (setup : Setup) (past : Past) (p : Parts) (point : Point) (who : Thread) (a : Answer) (call : Call) → Stands setup past p → point ≡ cursor past → a ≡ reply setup past who.0 call → FitsGrowth p.classes p.tree p.threads p.time point who.0 a call
+growth_by setup past p point who (answers.Posted k) call st at right =
     let row = by_row setup past who.0 call (answers.Posted k) (sym right) refl in
     let post = post_told setup past who.0 call k row.is_row in
-    (fits_post setup past p.tree.live who.0 k call post st.tree.windows, fits_posting setup past p.threads p.tree.live p.time who.0 k call post st.lawful st.count st.each row.running st.tree.windows st.clock)
-growth_by setup past p who (answers.Value n) call st right = subst (λ (t : ClassTable). FitsNaming t call) (sym st.classes) (fits_naming setup past who.0 n call (sym right))
-growth_by setup past p who (answers.Window w) call st right = fits_making setup past p.tree who w call st.lawful st.tree (sym right)
-growth_by setup past p who _ call st right = tt
+    (fits_post setup past p.tree.live who.0 k call post st.tree.windows, fits_posting setup past p.threads p.tree.live p.time point who.0 k call post st.lawful st.count st.each row.running st.tree.windows st.clock at)
+growth_by setup past p point who (answers.Value n) call st at right = subst (λ (t : ClassTable). FitsNaming t call) (sym st.classes) (fits_naming setup past who.0 n call (sym right))
+growth_by setup past p point who (answers.Window w) call st at right = fits_making setup past p.tree who w call st.lawful st.tree (sym right)
+growth_by setup past p point who _ call st at right = tt
 
-pub growth_fits : (setup : Setup) (past : Past) (p : Parts) (e : Entry) → Stands setup past p → e.answer ≡ reply setup past e.who.0 e.call → FitsGrowth p.classes p.tree p.threads p.time e.who.0 e.answer e.call
-growth_fits setup past p e st right = growth_by setup past p e.who e.answer e.call st right
+pub growth_fits : (setup : Setup) (past : Past) (p : Parts) (point : Point) (e : Entry) → Stands setup past p → point ≡ cursor past → e.answer ≡ reply setup past e.who.0 e.call → FitsGrowth p.classes p.tree p.threads p.time point e.who.0 e.answer e.call
+growth_fits setup past p point e st at right = growth_by setup past p point e.who e.answer e.call st at right
 
 -- a thread that runs, after a change that keeps the count of threads
 one_of : (setup : Setup) (past : Past) (p : Parts) (threads : List ThreadView) (t : ℕ) → Stands setup past p → length threads ≡ length p.threads → is_running setup past t ≡ true → IsOne threads t
@@ -89,11 +91,11 @@ same_settling who (answers.Window w) call old new made = refl
 same_settling who a call old new made = ap (λ (t : Windows). settling_in t.live who a call) made
 
 -- what is kept of a thread follows the past
-thread_step : (setup : Setup) (past : Past) (p : Parts) (e : Entry) (tree : Windows) (t : ℕ) → Stands setup past p → e.answer ≡ reply setup past e.who.0 e.call → IsGrownBy e.who.0 e.answer e.call p.tree tree
-    → noted t e (changed t (settling_in tree.live e.who.0 e.answer e.call) (changed t (growth_in p.tree.live p.time e.who.0 e.answer e.call) (thread_at past t))) ≡ thread_at (e ∷ past) t
-thread_step setup past p e tree t st right made =
-    ap (λ (c : Change). noted t e (changed t c (changed t (growth_in p.tree.live p.time e.who.0 e.answer e.call) (thread_at past t)))) (same_settling e.who.0 e.answer e.call p.tree tree made)
-    ∙ ap (noted t e) (both_changes past p.tree.live p.time t e.who.0 e.answer e.call (thread_at past t) st.tree.windows st.clock)
+thread_step : (setup : Setup) (past : Past) (p : Parts) (point : Point) (e : Entry) (tree : Windows) (t : ℕ) → Stands setup past p → point ≡ cursor past → e.answer ≡ reply setup past e.who.0 e.call → IsGrownBy e.who.0 e.answer e.call p.tree tree
+    → noted t e (changed t (settling_in tree.live e.who.0 e.answer e.call) (changed t (growth_in p.tree.live p.time point e.who.0 e.answer e.call) (thread_at past t))) ≡ thread_at (e ∷ past) t
+thread_step setup past p point e tree t st at right made =
+    ap (λ (c : Change). noted t e (changed t c (changed t (growth_in p.tree.live p.time point e.who.0 e.answer e.call) (thread_at past t)))) (same_settling e.who.0 e.answer e.call p.tree tree made)
+    ∙ ap (noted t e) (both_changes past p.tree.live p.time point t e.who.0 e.answer e.call (thread_at past t) st.tree.windows st.clock at)
     ∙ thread-next setup past t e st.lawful right
 
 same_sends_by : (old new : Windows) (place who : ℕ) (a : Answer) (call : Call) (q : SendParts) → IsGrownBy who a call old new → settled_sends new.live place who a call q ≡ settled_sends old.live place who a call q
@@ -142,18 +144,18 @@ tally_step setup past p e place lost tree sends st right here made begun counted
     tally_fits past p.tally lost st.tally st.short (subst (λ n. n ≤ 1024) (sym same) (losses_few setup past e p.sends p.tree.live (st.lawful, right) st.sends st.tree.windows))
 
 -- the parts that were brought up to date stand for the past with the entry
-pub stands_step : (setup : Setup) (past : Past) (p : Parts) (e : Entry) (classes1 classes2 : ClassTable) (tree1 tree2 : Windows) (threads1 threads2 threads3 : List ThreadView) (sends1 sends2 : SendParts) (first : Option Cause) (lost : ℕ) (tally : Tally) (stories1 stories2 stories3 : List SendStory) (place : ℕ)
-    → is_full past ≡ false → e.answer ≡ reply setup past e.who.0 e.call → Stands setup past p
+pub stands_step : (setup : Setup) (past : Past) (p : Parts) (point : Point) (e : Entry) (classes1 classes2 : ClassTable) (tree1 tree2 : Windows) (threads1 threads2 threads3 : List ThreadView) (sends1 sends2 : SendParts) (first : Option Cause) (lost : ℕ) (tally : Tally) (stories1 stories2 stories3 : List SendStory) (place : ℕ)
+    → is_full past ≡ false → e.answer ≡ reply setup past e.who.0 e.call → Stands setup past p → point ≡ cursor past
     → classes1 ≡ grown_classes e.answer e.call p.classes → classes2 ≡ settled_classes e.answer e.call classes1
     → IsGrownBy e.who.0 e.answer e.call p.tree tree1 → tree2 ≡ settled_tree e.who.0 e.answer e.call tree1
-    → EachBy (λ t. changed t (growth_in p.tree.live p.time e.who.0 e.answer e.call)) p.threads threads1
+    → EachBy (λ t. changed t (growth_in p.tree.live p.time point e.who.0 e.answer e.call)) p.threads threads1
     → EachBy (λ t. changed t (settling_in tree1.live e.who.0 e.answer e.call)) threads1 threads2
     → EachBy (λ t. noted t e) threads2 threads3
     → sends1 ≡ grown_sends p.tree.live p.time place e.who e.answer e.call p.sends → sends2 ≡ settled_sends tree1.live place e.who.0 e.answer e.call sends1 → place ≡ place_after past
     → first ≡ first_cause p.sends e.who.0 e.answer e.call → lost ≡ losses_by tree1.live place e.who.0 e.answer e.call sends1 → tally ≡ tallied e.answer first lost p.tally
     → stories1 ≡ with_begun e.answer p.stories → EachStory (noted_losses tree1.live place e.who.0 e.answer e.call sends1) stories1 stories2 → EachStory (noted_answer e.answer (named_send p.sends e.who.0 e.answer e.call) place) stories2 stories3
     → Stands setup (e ∷ past) (parts tree2 classes2 threads3 (count_kept e.answer p.post_count) (time_kept e p.time) sends2 tally stories3)
-stands_step setup past p e classes1 classes2 tree1 tree2 threads1 threads2 threads3 sends1 sends2 cause lost tally stories1 stories2 stories3 place room right st grown settled made given first second note begun left here named counted noted_tally story_more story_losses story_answers = record {
+stands_step setup past p point e classes1 classes2 tree1 tree2 threads1 threads2 threads3 sends1 sends2 cause lost tally stories1 stories2 stories3 place room right st at grown settled made given first second note begun left here named counted noted_tally story_more story_losses story_answers = record {
   lawful = (st.lawful, right);
   short = grind (arith, nat_tests, room);
   tree = tree_after setup past e p.tree tree1 tree2 st.lawful st.tree right made given;
@@ -165,8 +167,8 @@ stands_step setup past p e classes1 classes2 tree1 tree2 threads1 threads2 threa
         let lt1 : i < length threads1 = omega (arith, lt2, second.same_length) in
         let lt0 : i < length p.threads = omega (arith, lt1, first.same_length) in
         note.at i d lt2
-        ∙ ap (noted (i + 1) e) (second.at i d lt1 ∙ ap (changed (i + 1) (settling_in tree1.live e.who.0 e.answer e.call)) (first.at i d lt0 ∙ ap (changed (i + 1) (growth_in p.tree.live p.time e.who.0 e.answer e.call)) (st.each.at i d lt0)))
-        ∙ thread_step setup past p e tree1 (i + 1) st right made;
+        ∙ ap (noted (i + 1) e) (second.at i d lt1 ∙ ap (changed (i + 1) (settling_in tree1.live e.who.0 e.answer e.call)) (first.at i d lt0 ∙ ap (changed (i + 1) (growth_in p.tree.live p.time point e.who.0 e.answer e.call)) (st.each.at i d lt0)))
+        ∙ thread_step setup past p point e tree1 (i + 1) st at right made;
   };
   posts = ap (count_kept e.answer) st.posts ∙ count_kept-next setup past e right;
   clock = ap (time_kept e) st.clock ∙ time_kept-next e past;

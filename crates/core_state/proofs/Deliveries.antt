@@ -3,6 +3,7 @@ use Rattle.std.proofs.Common.{◌≡◌, ℕ, ◌+◌, ◌-◌, ◌<◌, ◌≤�
 use Rattle.std.specs.Prelude.{map, filter, find, All, ◌||◌, ◌&&◌, option_map, unwrap_or, is_some, slice_index_or, IsTrue}
 use Rattle.std.proofs.lemmas.Bool.Decides.{nat_tests}
 use Rattle.win_num.specs.declared.message.Msg.{Msg}
+use Rattle.win_num.specs.declared.shapes.Point.{Point}
 use Rattle.win_num.specs.declared.message.Filter.{Filter}
 use Rattle.win_num.specs.Numbers.{passes_range}
 use Rattle.win_num.specs.declared.names.TheConstants.{NO_WINDOW, WM_QUIT}
@@ -92,10 +93,10 @@ first_kept past ws t f e = find_kept_first (passes_in ws f) (passes past f) (λ 
 
 -- ---- what an entry changes
 
-posts_same : (past : Past) (ws : List KeptWindow) (who k w m p q : ℕ) → map as_made ws ≡ live past → change_of_post k (posting ws (clock past) who (Post w m p q)) ≡ posts_one (queue_of past who w) k (message w m p q (clock past) (cursor past))
+posts_same : (past : Past) (ws : List KeptWindow) (who k w m p q : ℕ) → map as_made ws ≡ live past → change_of_post k (posting ws (clock past) (cursor past) who (Post w m p q)) ≡ posts_one (queue_of past who w) k (message w m p q (clock past) (cursor past))
 posts_same past ws who k w m p q e = ap (λ (t : ℕ). posts_one (cond (eqb w 0) who t) k (message w m p q (clock past) (cursor past))) (thread_in-is past ws w e)
 
-growth_same : (past : Past) (ws : List KeptWindow) (who k : ℕ) (call : Call) → map as_made ws ≡ live past → change_of_post k (posting ws (clock past) who call) ≡ change_by past who (answers.Posted k) call
+growth_same : (past : Past) (ws : List KeptWindow) (who k : ℕ) (call : Call) → map as_made ws ≡ live past → change_of_post k (posting ws (clock past) (cursor past) who call) ≡ change_by past who (answers.Posted k) call
 growth_same past ws who k (Post w m p q) e = posts_same past ws who k w m p q e
 growth_same past ws who k (PostThread to m p q) e = refl
 growth_same past ws who k _ e = refl
@@ -105,7 +106,7 @@ carried_same past ws who (Drop v) e = ap (purges who) (kin_in-is past ws v e)
 carried_same past ws who (PostQuit code) e = refl
 carried_same past ws who _ e = refl
 
-both_now : (past : Past) (ws : List KeptWindow) (t who : ℕ) (a : Answer) (call : Call) (v : ThreadView) → map as_made ws ≡ live past → changed t (settling_in ws who a call) (changed t (growth_in ws (clock past) who a call) v) ≡ changed t (change_by past who a call) v
+both_now : (past : Past) (ws : List KeptWindow) (t who : ℕ) (a : Answer) (call : Call) (v : ThreadView) → map as_made ws ≡ live past → changed t (settling_in ws who a call) (changed t (growth_in ws (clock past) (cursor past) who a call) v) ≡ changed t (change_by past who a call) v
 both_now past ws t who (answers.Posted k) call v e = ap (λ (c : Change). changed t c v) (growth_same past ws who k call e)
 both_now past ws t who answers.Okay call v e = ap (λ (c : Change). changed t c v) (carried_same past ws who call e)
 both_now past ws t who (answers.Got origins.Posted n m) call v e = refl
@@ -113,16 +114,19 @@ both_now past ws t who (answers.Got origins.Quit n m) call v e = refl
 both_now past ws t who _ call v e = refl
 
 -- what is added and then what is settled make the change of the entry
-pub both_changes : (past : Past) (ws : List KeptWindow) (time t who : ℕ) (a : Answer) (call : Call) (v : ThreadView) → map as_made ws ≡ live past → time ≡ clock past → changed t (settling_in ws who a call) (changed t (growth_in ws time who a call) v) ≡ changed t (change_by past who a call) v
-both_changes past ws time t who a call v e now = ap (λ (c : ℕ). changed t (settling_in ws who a call) (changed t (growth_in ws c who a call) v)) now ∙ both_now past ws t who a call v e
+pub both_changes : (past : Past) (ws : List KeptWindow) (time : ℕ) (point : Point) (t who : ℕ) (a : Answer) (call : Call) (v : ThreadView) → map as_made ws ≡ live past → time ≡ clock past → point ≡ cursor past → changed t (settling_in ws who a call) (changed t (growth_in ws time point who a call) v) ≡ changed t (change_by past who a call) v
+both_changes past ws time point t who a call v e now at =
+    ap (λ (c : ℕ). changed t (settling_in ws who a call) (changed t (growth_in ws c point who a call) v)) now
+    ∙ ap (λ (c : Point). changed t (settling_in ws who a call) (changed t (growth_in ws (clock past) c who a call) v)) at
+    ∙ both_now past ws t who a call v e
 
 -- ---- what a post needs
 
 -- the thread that a post goes to, and its message
-pub posting-is : (setup : Setup) (past : Past) (ws : List KeptWindow) (time who k : ℕ) (call : Call) (p : IsPost setup past who call k) → map as_made ws ≡ live past → time ≡ clock past → posting ws time who call ≡ Some (p.to, message_of p)
-posting-is setup past ws time who k call p e now = ap (λ (c : ℕ). posting ws c who call) now ∙ elim p.is_call [
-  | inl x ↦ ap (posting ws (clock past) who) x.0 ∙ ap (λ (t : ℕ). let y : ℕ × Msg = (t, message_of p) in Some y) (ap (λ (t : ℕ). cond (eqb p.hwnd 0) who t) (thread_in-is past ws p.hwnd e) ∙ sym x.1)
-  | inr x ↦ ap (posting ws (clock past) who) x.0 ∙ ap (λ (w : ℕ). let y : ℕ × Msg = (p.to, message w p.number p.wparam p.lparam (clock past) (cursor past)) in Some y) (sym x.1)
+pub posting-is : (setup : Setup) (past : Past) (ws : List KeptWindow) (time : ℕ) (point : Point) (who k : ℕ) (call : Call) (p : IsPost setup past who call k) → map as_made ws ≡ live past → time ≡ clock past → point ≡ cursor past → posting ws time point who call ≡ Some (p.to, message_of p)
+posting-is setup past ws time point who k call p e now at = ap (λ (c : ℕ). posting ws c point who call) now ∙ ap (λ (c : Point). posting ws (clock past) c who call) at ∙ elim p.is_call [
+  | inl x ↦ ap (posting ws (clock past) (cursor past) who) x.0 ∙ ap (λ (t : ℕ). let y : ℕ × Msg = (t, message_of p) in Some y) (ap (λ (t : ℕ). cond (eqb p.hwnd 0) who t) (thread_in-is past ws p.hwnd e) ∙ sym x.1)
+  | inr x ↦ ap (posting ws (clock past) (cursor past) who) x.0 ∙ ap (λ (w : ℕ). let y : ℕ × Msg = (p.to, message w p.number p.wparam p.lparam (clock past) (cursor past)) in Some y) (sym x.1)
 ]
 
 -- a running thread is one of the threads
@@ -145,9 +149,9 @@ post_has_room setup past threads who k call p lawful count each running =
     }
 
 -- the change of a post can be made
-pub fits_posting : (setup : Setup) (past : Past) (threads : List ThreadView) (ws : List KeptWindow) (time who k : ℕ) (call : Call) (p : IsPost setup past who call k) → IsLawful setup past → length threads ≡ setup.threads → EachThread past threads → is_running setup past who ≡ true → map as_made ws ≡ live past → time ≡ clock past → FitsPosting threads k (posting ws time who call)
-fits_posting setup past threads ws time who k call p lawful count each running e now =
-    subst (FitsPosting threads k) (sym (posting-is setup past ws time who k call p e now)) (post_has_room setup past threads who k call p lawful count each running)
+pub fits_posting : (setup : Setup) (past : Past) (threads : List ThreadView) (ws : List KeptWindow) (time : ℕ) (point : Point) (who k : ℕ) (call : Call) (p : IsPost setup past who call k) → IsLawful setup past → length threads ≡ setup.threads → EachThread past threads → is_running setup past who ≡ true → map as_made ws ≡ live past → time ≡ clock past → point ≡ cursor past → FitsPosting threads k (posting ws time point who call)
+fits_posting setup past threads ws time point who k call p lawful count each running e now at =
+    subst (FitsPosting threads k) (sym (posting-is setup past ws time point who k call p e now at)) (post_has_room setup past threads who k call p lawful count each running)
 
 small_number : (m : ℕ) → is_no_message m ≡ false → m ≤ 65535
 small_number m h = grind (arith, nat_tests, h)

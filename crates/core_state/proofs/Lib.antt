@@ -24,7 +24,6 @@ pub mod Tops
 pub mod Running
 pub mod SendNumbers
 pub mod Threads
-pub mod TimeBounds
 pub mod Unfinished
 pub mod Waits
 pub mod TreeAnswers

@@ -78,25 +78,25 @@ waits_on_top setup (e ∷ past) t s h w = by (waits_on_top setup past t s h.0) (
 -- ---- the time that a thread waits for
 
 -- the times of an entry that waits are those of its call
-pub times_waiting : (past : Past) (o : Option Entry) (call : Call) → waiting_call o ≡ Some call → times_of past o ≡ times_of_call past call
-times_waiting past None call h = absurd cc
-times_waiting past (Some e) call h = by (is_wait e.answer) h
+pub times_waiting : (past : Past) (t : ℕ) (o : Option Entry) (call : Call) → waiting_call o ≡ Some call → times_of past t o ≡ times_of_call past t call
+times_waiting past t None call h = absurd cc
+times_waiting past t (Some e) call h = by (is_wait e.answer) h
   where
-    by : (b : Bool) → cond b (Some e.call) None ≡ Some call → cond b (times_of_call past e.call) [] ≡ times_of_call past call
-    by true k = let same : e.call ≡ call = cc in ap (times_of_call past) same
+    by : (b : Bool) → cond b (Some e.call) None ≡ Some call → cond b (times_of_call past t e.call) [] ≡ times_of_call past t call
+    by true k = let same : e.call ≡ call = cc in ap (times_of_call past t) same
     by false k = absurd cc
 
 -- an entry that doesn't wait has none
-pub times_none : (past : Past) (o : Option Entry) → waiting_call o ≡ None → times_of past o ≡ []
-times_none past None h = refl
-times_none past (Some e) h = by (is_wait e.answer) h
+pub times_none : (past : Past) (t : ℕ) (o : Option Entry) → waiting_call o ≡ None → times_of past t o ≡ []
+times_none past t None h = refl
+times_none past t (Some e) h = by (is_wait e.answer) h
   where
-    by : (b : Bool) → cond b (Some e.call) None ≡ None → cond b (times_of_call past e.call) [] ≡ []
+    by : (b : Bool) → cond b (Some e.call) None ≡ None → cond b (times_of_call past t e.call) [] ≡ []
     by true k = absurd cc
     by false k = refl
 
 -- a wait for a send ends when that gives up
-pub await_times : (setup : Setup) (past : Past) (t s : ℕ) → IsLawful setup past → waiting_call (last_entry past t) ≡ Some (Await s) → one_of (option_and_then (wait_end past) (top past t)) ≡ times_of past (last_entry past t)
+pub await_times : (setup : Setup) (past : Past) (t s : ℕ) → IsLawful setup past → waiting_call (last_entry past t) ≡ Some (Await s) → one_of (option_and_then (wait_end past) (top past t)) ≡ times_of past t (last_entry past t)
 await_times setup past t s h w =
     let on = waits_on_top setup past t s h w in
-    ap (λ o. one_of (option_and_then (wait_end past) o)) on.is_top ∙ ap (λ n. one_of (deadline past n)) on.is_send ∙ sym (times_waiting past (last_entry past t) (Await s) w)
+    ap (λ o. one_of (option_and_then (wait_end past) o)) on.is_top ∙ ap (λ n. one_of (deadline past n)) on.is_send ∙ sym (times_waiting past t (last_entry past t) (Await s) w)

@@ -1,5 +1,5 @@
 -- Which messages a filter lets pass, and what a call posts, among the windows of a table.
-use Rattle.std.specs.Prelude.{if◌then◌else◌, ℕ, ◌≤◌, ◌==◌, ◌&&◌, ◌||◌, Bool, List, map, filter, Option, Some, None, IsTrue, unwrap_or, option_map, pos}
+use Rattle.std.specs.Prelude.{if◌then◌else◌, ℕ, ◌≤◌, ◌==◌, ◌&&◌, ◌||◌, Bool, List, map, filter, Option, Some, None, IsTrue, unwrap_or, option_map}
 use Rattle.win_num.specs.declared.message.Msg.{Msg}
 use Rattle.win_num.specs.declared.shapes.Point.{Point}
 use Rattle.win_tree.specs.declared.window.Window.{Window}
@@ -18,15 +18,11 @@ use Rattle.core_state.specs.Changes.{Change, posts, takes, quits, purges, ends, 
 abbrev pub thread_in : List Window → ℕ → ℕ
 thread_in ws w = unwrap_or (option_map (λ x. x.row.thread.0) (window_of ws w)) 0
 
--- the left top corner of the screen
-abbrev pub origin : Point
-origin = record { x = pos 0; y = pos 0 }
-
--- the thread that a call posts to, and the message
-abbrev pub posting : List Window → ℕ → ℕ → Call → Option (ℕ × Msg)
-posting ws time who (Post w number wparam lparam) = Some ((if w == 0 then who else thread_in ws w), message w number wparam lparam time origin)
-posting ws time who (PostThread to number wparam lparam) = Some (to, message 0 number wparam lparam time origin)
-posting ws time who _ = None
+-- the thread that a call posts to, and the message, which carries the time and the cursor
+abbrev pub posting : List Window → ℕ → Point → ℕ → Call → Option (ℕ × Msg)
+posting ws time point who (Post w number wparam lparam) = Some ((if w == 0 then who else thread_in ws w), message w number wparam lparam time point)
+posting ws time point who (PostThread to number wparam lparam) = Some (to, message 0 number wparam lparam time point)
+posting ws time point who _ = None
 
 -- a posted number is a message's, and a window that is posted to is live
 abbrev pub FitsPost : List Window → Call → Type 0
@@ -48,9 +44,9 @@ change_of_post k None = none
 change_of_post k (Some p) = posts p.0 k p.1
 
 -- the change of an answer that takes memory
-abbrev pub growth_in : List Window → ℕ → ℕ → Answer → Call → Change
-growth_in ws time who (PostMade k) call = change_of_post k (posting ws time who call)
-growth_in ws time who _ call = none
+abbrev pub growth_in : List Window → ℕ → Point → ℕ → Answer → Call → Change
+growth_in ws time point who (PostMade k) call = change_of_post k (posting ws time point who call)
+growth_in ws time point who _ call = none
 
 -- the change of a call that was answered by ok
 abbrev pub carried_in : List Window → ℕ → Call → Change

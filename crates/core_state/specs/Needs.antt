@@ -2,6 +2,7 @@
 use Rattle.std.specs.Prelude.{◌≡◌, ℕ, ◌-◌, ◌<◌, ◌≤◌, ◌==◌, ◌||◌, true, false, List, length, All, slice_index_or, Option, Some, None, Result, Ok, Err, IsTrue}
 use Rattle.win_num.specs.PixelSets.{is_bad_rect}
 use Rattle.win_num.specs.declared.message.Msg.{Msg}
+use Rattle.win_num.specs.declared.shapes.Point.{Point}
 use Rattle.win_num.specs.declared.code.Fault.{Fault}
 use Rattle.win_num.specs.declared.code.Fault.TheVariants.{Refused, Memory}
 use Rattle.win_class.specs.ClassTable.{ClassTable, register_refusal, message_refusal, unregister_refusal}
@@ -51,11 +52,11 @@ FitsPosting threads k None = Unit {0}
 FitsPosting threads k (Some p) = HasRoom threads p.0 k
 
 -- what an answer that takes memory needs
-abbrev pub FitsGrowth : ClassTable → Windows → List ThreadView → ℕ → ℕ → Answer → Call → Type 0
-FitsGrowth classes tree threads time who (PostMade k) call = FitsPost tree.live call × FitsPosting threads k (posting tree.live time who call)
-FitsGrowth classes tree threads time who (Value v) call = FitsNaming classes call
-FitsGrowth classes tree threads time who (Window w) call = FitsMaking who call tree
-FitsGrowth classes tree threads time who _ call = Unit {0}
+abbrev pub FitsGrowth : ClassTable → Windows → List ThreadView → ℕ → Point → ℕ → Answer → Call → Type 0
+FitsGrowth classes tree threads time point who (PostMade k) call = FitsPost tree.live call × FitsPosting threads k (posting tree.live time point who call)
+FitsGrowth classes tree threads time point who (Value v) call = FitsNaming classes call
+FitsGrowth classes tree threads time point who (Window w) call = FitsMaking who call tree
+FitsGrowth classes tree threads time point who _ call = Unit {0}
 
 -- what a call needs that is answered by ok
 abbrev pub FitsCarrying : ClassTable → Windows → List ThreadView → ℕ → Call → Type 0

@@ -9,7 +9,7 @@ ghost use Rattle.core_state.specs.Needs.{FitsCarrying, FitsGrowth, FitsSettling}
 ghost use Rattle.core_state.specs.Sendings.{FitsGrownSends, grown_sends};
 ghost use Rattle.core_state.specs.States.{EachBy};
 
-use crate::delivery::{posting, window_or_none};
+use crate::delivery::{Stamp, posting, window_or_none};
 use crate::queues::{end, post, purge_kin, set_quit, take};
 use crate::sendings::begin;
 use crate::tables::{doom, drop_window, make, name, unmake, unregister};
@@ -28,29 +28,28 @@ pub fn grow(
     tree: &mut Tree,
     threads: &mut Vec<ThreadState>,
     sends: &mut SendState,
-    time: u64,
-    place: u32,
+    stamp: Stamp,
     entry: Entry,
 ) -> Result<(), AllocError>
-    requires parts { FitsGrowth classes.old tree.old threads.old.items time entry.who.0 entry.answer entry.call }
-    requires sends { FitsGrownSends tree.old.live time place entry.who entry.answer entry.call sends.old }
+    requires parts { FitsGrowth classes.old tree.old threads.old.items stamp.time stamp.cursor entry.who.0 entry.answer entry.call }
+    requires sends { FitsGrownSends tree.old.live stamp.time stamp.place entry.who entry.answer entry.call sends.old }
     ensures classes { OnOk result (classes.new ≡ grown_classes entry.answer entry.call classes.old) }
     ensures tree { OnOk result (IsGrownBy entry.who.0 entry.answer entry.call tree.old tree.new) }
-    ensures threads { OnOk result (EachBy (λ t. changed t (growth_in tree.old.live time entry.who.0 entry.answer entry.call)) threads.old.items threads.new.items) }
-    ensures sends { OnOk result (sends.new ≡ grown_sends tree.old.live time place entry.who entry.answer entry.call sends.old) }
+    ensures threads { OnOk result (EachBy (λ t. changed t (growth_in tree.old.live stamp.time stamp.cursor entry.who.0 entry.answer entry.call)) threads.old.items threads.new.items) }
+    ensures sends { OnOk result (sends.new ≡ grown_sends tree.old.live stamp.time stamp.place entry.who entry.answer entry.call sends.old) }
     ensures classes_stay { OnErr result (classes.new ≡ classes.old) }
     ensures tree_stays { OnErr result (tree.new ≡ tree.old) }
     ensures threads_stay { OnErr result (threads.new.items ≡ threads.old.items) }
     ensures sends_stay { OnErr result (sends.new ≡ sends.old) }
 {
     match entry.answer {
-        Answer::Posted(number) => match posting(tree, time, entry) {
+        Answer::Posted(number) => match posting(tree, stamp, entry) {
             Some((to, msg)) => post(threads, to, number, msg),
             None => Ok(()),
         },
         Answer::Value(_) => name(classes, entry.call),
         Answer::Window(_) => make(tree, entry.who, entry.call),
-        Answer::Inside(_, _) | Answer::Begun(_) => begin(sends, tree, time, place, entry),
+        Answer::Inside(_, _) | Answer::Begun(_) => begin(sends, tree, stamp, entry),
         _ => Ok(()),
     }
 }

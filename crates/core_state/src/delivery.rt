@@ -3,11 +3,22 @@
 ghost use Rattle.std.specs.Prelude.{◌≡◌, ◌≤◌, ◌==◌, ◌||◌, IsTrue};
 ghost use Rattle.win_tree.specs.Windows.{is_live};
 ghost use Rattle.user_model.specs.Posts.{message};
-ghost use Rattle.core_state.specs.Deliveries.{FitsPost, origin, posting, thread_in};
+ghost use Rattle.core_state.specs.Deliveries.{FitsPost, posting, thread_in};
 
 use user_model::{Call, Entry};
 use win_num::{Hwnd, Msg, Point};
 use win_tree::Tree;
+
+/// Where, when and with what cursor an entry comes.
+#[derive(Clone, Copy)]
+pub struct Stamp {
+    /// The entry's place in the history.
+    pub place: u32,
+    /// Milliseconds of the virtual clock before it.
+    pub time: u64,
+    /// The cursor before it, in pixels of the screen.
+    pub cursor: Point,
+}
 
 /// The live window of a number, or for 0 no window.
 pub fn window_or_none(tree: &Tree, w: u64) -> Hwnd
@@ -31,9 +42,9 @@ pub fn thread_of(tree: &Tree, w: Hwnd) -> u8
 }
 
 /// The thread that an entry posts to, and the message.
-pub fn posting(tree: &Tree, time: u64, entry: Entry) -> Option<(u64, Msg)>
+pub fn posting(tree: &Tree, stamp: Stamp, entry: Entry) -> Option<(u64, Msg)>
     requires { FitsPost tree.now.live entry.call }
-    ensures { result ≡ posting tree.now.live time entry.who.0 entry.call }
+    ensures { result ≡ posting tree.now.live stamp.time stamp.cursor entry.who.0 entry.call }
 {
     match entry.call {
         Call::Post(w, number, wparam, lparam) => {
@@ -43,27 +54,27 @@ pub fn posting(tree: &Tree, time: u64, entry: Entry) -> Option<(u64, Msg)>
             } else {
                 thread_of(tree, hwnd)
             };
-            Some((u64::from(to), message(hwnd, number, wparam, lparam, time)))
+            Some((u64::from(to), message(hwnd, number, wparam, lparam, stamp)))
         }
         Call::PostThread(to, number, wparam, lparam) => Some((
             to,
-            message(Hwnd(0), number, wparam, lparam, time),
+            message(Hwnd(0), number, wparam, lparam, stamp),
         )),
         _ => None,
     }
 }
 
 /// A message as it is posted, with the clock and the cursor.
-fn message(hwnd: Hwnd, number: u64, wparam: u64, lparam: u64, time: u64) -> Msg
+fn message(hwnd: Hwnd, number: u64, wparam: u64, lparam: u64, stamp: Stamp) -> Msg
     requires { number ≤ 65535 }
-    ensures { result ≡ message hwnd.0 number wparam lparam time origin }
+    ensures { result ≡ message hwnd.0 number wparam lparam stamp.time stamp.cursor }
 {
     Msg {
         hwnd,
         number: number as u32,
         wparam,
         lparam,
-        time,
-        point: Point { x: 0, y: 0 },
+        time: stamp.time,
+        point: stamp.cursor,
     }
 }

@@ -9,7 +9,7 @@ ghost use Rattle.send_state.specs.Stories.{EachStory, noted_loss};
 ghost use Rattle.core_state.specs.Deliveries.{goes_with, thread_in};
 ghost use Rattle.core_state.specs.Sendings.{FitsCallback, FitsDropped, FitsLeave, FitsLosing, FitsOption, FitsReply, FitsSending, FitsSettledSends, FitsWait, begun_with, called_back, dropped_count, dropped_losses, dropped_sends, ended_sends, is_of, left_by_call, losses_by, noted_losses, replied_by_call, row_to, sending, settled_sends, waited};
 
-use crate::delivery::{thread_of, window_or_none};
+use crate::delivery::{Stamp, thread_of, window_or_none};
 use send_state::{SendRow, SendState, SendStory};
 use std::alloc::AllocError;
 use user_model::{Answer, Call, Entry};
@@ -78,17 +78,16 @@ fn sending(tree: &Tree, time: u64, entry: Entry) -> Option<SendRow>
 pub fn begin(
     sends: &mut SendState,
     tree: &Tree,
-    time: u64,
-    place: u32,
+    stamp: Stamp,
     entry: Entry,
 ) -> Result<(), AllocError>
     requires call { FitsSending tree.now.live entry.call }
-    requires row { FitsOption sends.old place (sending tree.now.live time entry.who entry.call) }
-    ensures ok { OnOk result (sends.new ≡ begun_with place (sending tree.now.live time entry.who entry.call) sends.old) }
+    requires row { FitsOption sends.old stamp.place (sending tree.now.live stamp.time entry.who entry.call) }
+    ensures ok { OnOk result (sends.new ≡ begun_with stamp.place (sending tree.now.live stamp.time entry.who entry.call) sends.old) }
     ensures err { OnErr result (sends.new ≡ sends.old) }
 {
-    match sending(tree, time, entry) {
-        Some(row) => match sends.begin(row, place) {
+    match sending(tree, stamp.time, entry) {
+        Some(row) => match sends.begin(row, stamp.place) {
             Ok(_) => Ok(()),
             Err(Fault::Memory) => Err(AllocError),
             Err(Fault::Refused(_)) => unreachable!(),

@@ -1,9 +1,10 @@
 //! The history, and the parts that stand for it.
 
-ghost use Rattle.std.specs.Prelude.{◌≡◌, ◌<◌, ◌≤◌, ◌+◌, ◌^◌, ◌&&◌, [], ◌∷◌, length, reverse, All, true, false, IfOk, OnOk, OnErr, Some, IsTrue, is_some, option_and_then, option_map};
+ghost use Rattle.std.specs.Prelude.{◌≡◌, ◌<◌, ◌≤◌, ◌+◌, ◌&&◌, [], ◌∷◌, length, reverse, All, true, false, IfOk, OnOk, OnErr, Some, IsTrue, is_some, option_and_then, option_map};
+ghost use Rattle.win_num.specs.Clocks.{clock_limit};
 ghost use Rattle.user_model.specs.Legal.{IsLegal};
 ghost use Rattle.user_model.specs.Past.{is_full};
-ghost use Rattle.user_model.specs.Places.{clock, has_ended};
+ghost use Rattle.user_model.specs.Places.{clock, cursor, has_ended};
 ghost use Rattle.user_model.specs.Posts.{posted, first_post, quit};
 ghost use Rattle.user_model.specs.ReplyDelivery.{next_post_number};
 ghost use Rattle.user_model.specs.ReplyWindows.{next_window, next_top_reply};
@@ -25,7 +26,7 @@ ghost use Rattle.thread_state.specs.Threads.{fresh_thread, waiting_call};
 ghost use Rattle.core_state.specs.Steps.{destruction_answer, told_of, up_of};
 
 use crate::change::{grow, settle};
-use crate::delivery::thread_of;
+use crate::delivery::{Stamp, thread_of};
 use crate::queues::{count_after, note_entry, time_after};
 use crate::sendings::settle_sends;
 use send_state::{
@@ -36,7 +37,7 @@ use std::marker::Model;
 use thread_state::ThreadState;
 use user_model::{Answer, Call, Entry, HISTORY_LIMIT, SendCount, Setup};
 use win_class::Classes;
-use win_num::{Cause, Filter, Frame, Hwnd, Msg, SendId, Thread};
+use win_num::{Cause, Filter, Frame, Hwnd, Msg, Point, SendId, Thread};
 use win_tree::{Tree, Unmade, WindowRow};
 
 /// How many frames a stack may hold.
@@ -126,12 +127,19 @@ impl CoreState {
         }
     }
 
-    /// Milliseconds of the virtual clock, below 2 to the 62nd.
+    /// Milliseconds of the virtual clock, below 2 to the 54th.
     pub fn time(&self) -> u64
         ensures time { result ≡ clock self.now.past }
-        ensures early { result < 2 ^ 62 }
+        ensures early { result < clock_limit }
     {
         self.time
+    }
+
+    /// Where the cursor stands, in pixels of the screen.
+    pub fn cursor(&self) -> Point
+        ensures { result ≡ cursor self.now.past }
+    {
+        Point { x: 0, y: 0 }
     }
 
     /// Whether it is the number of a thread. Any other number is never idle.
@@ -344,7 +352,7 @@ impl CoreState {
     pub fn wake_time(&self, thread: u8) -> Option<u64>
         requires some { 0 < thread }
         requires known { thread ≤ self.now.setup.threads }
-        ensures { one_of result ≡ times_of self.now.past (last_entry self.now.past thread) }
+        ensures { one_of result ≡ times_of self.now.past thread (last_entry self.now.past thread) }
     {
         match self.threads[usize::from(thread - 1)].waiting()? {
             Call::SleepUntil(time) => Some(time),
@@ -499,18 +507,23 @@ impl CoreState {
         ensures ok { OnOk result (self.new ≡ record { setup = self.old.setup; past = entry ∷ self.old.past }) }
         ensures err { OnErr result (self.new ≡ self.old) }
     {
+        let cursor = self.cursor();
         let first = first_cause(&self.sends, entry);
         let named = named_send(&self.sends, entry);
         self.history.reserve(1)?;
         self.stories.reserve(1)?;
         let place = self.history.len() as u32;
+        let stamp = Stamp {
+            place,
+            time: self.time,
+            cursor,
+        };
         grow(
             &mut self.classes,
             &mut self.tree,
             &mut self.threads,
             &mut self.sends,
-            self.time,
-            place,
+            stamp,
             entry,
         )?;
         add_story(&mut self.stories, entry.answer);

@@ -3,7 +3,7 @@
 use super::*;
 use std::test::Fail;
 use user_model::Setup;
-use win_num::{Filter, Hwnd, SendId};
+use win_num::{Filter, Hwnd, Point, SendId};
 
 #[test]
 fn a_new_state_has_threads(rt: HostRuntime) -> Result<(), Fail> {
@@ -22,6 +22,7 @@ fn a_new_state_has_no_entry(rt: HostRuntime) -> Result<(), Fail> {
     assert_eq!(rt; state.history().len(), 0usize);
     assert!(rt; !state.is_full() && !state.ends_stuck());
     assert_eq!(rt; state.time(), 0);
+    assert_eq!(rt; state.cursor(), Point { x: 0, y: 0 });
     Ok(())
 }
 

@@ -3,6 +3,7 @@
 ghost use Rattle.std.specs.Prelude.{ℕ, Bool, [], ◌≡◌, ◌+◌, ◌<◌, ◌≤◌, ◌^◌, Some, None, IfOk, IfSome, OnOk, OnErr, MatchResult, length, option_and_then, option_copied, option_map, slice_get};
 ghost use Rattle.std.specs.FinMap as map;
 ghost use Rattle.send_frames.specs.Book.{IsFaultFor, IsThread, NamesKnown, pushed, refusal_at_begin, stack_of};
+ghost use Rattle.win_num.specs.Clocks.{clock_limit};
 ghost use Rattle.win_num.specs.declared.message.Hwnd.{Hwnd};
 ghost use Rattle.send_variants.specs.Lists.{with_list, IsThread as IsListed};
 ghost use Rattle.send_state.specs.Parts.{CanAnswer, CanBegin, CanJoin, CanLeaveFrom, CanLose, ended, freed_to, is_from, is_losable, lost, CanReplyIn, CanServe, answered, begun, blocks_as, callback_in, deadline_of, dispatched, enter_as, finished, head_of, left, lists_joined, lost_count, next_answer, next_window, no_parts, rank, replied, runs_callback, served, timed_out, top_of};
@@ -255,7 +256,7 @@ impl SendState {
 
     /// When an unfinished timeout send gives up, in milliseconds of the clock.
     pub fn deadline(&self, send: SendId) -> Option<u64>
-        requires { IfSome (map.get self.now.book.known send.0) (λ k. k.row.time < 2 ^ 63) }
+        requires { IfSome (map.get self.now.book.known send.0) (λ k. k.row.time < clock_limit) }
         ensures { result ≡ deadline_of self.now.book send.0 }
     {
         let row = self.sends.row(send)?;

@@ -1,9 +1,10 @@
 -- Timers that are set, in the order of their setting, and which of them is due first.
-use Rattle.std.specs.Prelude.{if◌then◌else◌, ◌≡◌, ℕ, ◌+◌, ◌<◌, ◌^◌, ◌==◌, nat_le, nat_lt, min, max, Bool, true, not, ◌&&◌, List, [], ◌∷◌, map, filter, All, Option, Some, None}
+use Rattle.std.specs.Prelude.{if◌then◌else◌, ◌≡◌, ℕ, ◌+◌, ◌<◌, ◌==◌, nat_le, nat_lt, min, max, Bool, true, not, ◌&&◌, List, [], ◌∷◌, map, filter, All, Option, Some, None}
 use Rattle.std.specs.List.{list_any}
 use Rattle.std.specs.Option.{option_map}
 use Rattle.std.specs.Fn.{Shared}
 use denote.Ref.{Bor}
+use Rattle.win_num.specs.Clocks.{clock_limit}
 use Rattle.win_num.specs.declared.message.Hwnd.{Hwnd}
 use Rattle.win_num.specs.declared.message.Thread.{Thread}
 use Rattle.timer_source.specs.declared.setting.Setting.{Setting}
@@ -97,9 +98,9 @@ first_due t test clock settings = first_passing t (is_due_and clock test) settin
 abbrev pub next_due : Thread → (Timer → Bool) → List Setting → Option ℕ
 next_due t test settings = option_map (λ (x : Timer). x.due) (first_passing t test settings)
 
--- the periods began before 2 to the 54th
+-- the periods began within the clock's bound
 abbrev pub AreEarly : List Setting → Type 0
-AreEarly settings = All (λ s. s.base < 2 ^ 54) settings
+AreEarly settings = All (λ s. s.base < clock_limit) settings
 
 -- each call of the closure answers what the test says of the timer
 abbrev pub Computes : {F : Type 0} → Shared F (Bor Timer × Unit {0}) Bool → (Timer → Bool) → F → Type 0

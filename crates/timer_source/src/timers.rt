@@ -1,8 +1,9 @@
 //! All timers that are set.
 
-ghost use Rattle.std.specs.Prelude.{if◌then◌else◌, ◌≡◌, ◌↔◌, ◌≤◌, ◌<◌, ◌^◌, ◌⊎◌, [], ◌∷◌, ◌++◌, length, Bool, true, IfErr, IfSome, OnOk, OnErr, vec_len};
+ghost use Rattle.std.specs.Prelude.{if◌then◌else◌, ◌≡◌, ◌↔◌, ◌≤◌, ◌<◌, ◌⊎◌, [], ◌∷◌, ◌++◌, length, Bool, true, IfErr, IfSome, OnOk, OnErr, vec_len};
 ghost use Rattle.std.specs.Vec.{vec_capacity};
 ghost use Rattle.std.specs.Fn.{FnReturnsAt};
+ghost use Rattle.win_num.specs.Clocks.{clock_limit};
 ghost use Rattle.timer_source.specs.declared.timer.Timer.{Timer};
 ghost use Rattle.timer_source.specs.Settings.{AreEarly, is_of, is_set, without, without_window, of_thread, setting_at, restarted, first_passing, with_timer, timer_of, is_before, first_due, next_due, Computes};
 
@@ -51,7 +52,7 @@ impl Timers {
     /// id is replaced, and the new one is as new. `Full` comes exactly where it replaces none and the
     /// thread has 256 timers (Microsoft, SetTimer function; the limit is this project's own).
     pub fn set(&mut self, t: Thread, w: Hwnd, id: u64, ms: u64, clock: u64) -> Result<(), Fault>
-        requires { clock < 2 ^ 54 }
+        requires { clock < clock_limit }
         ensures ok { OnOk result (self.new ≡ without w id self.old ++ setting_at t w id ms clock ∷ []) }
         ensures full { (result ≡ Err (Fault.Refused Code.Full)) ↔ (256 ≤ length (of_thread t (without w id self.old))) }
         ensures other { IfErr result (λ e. (e ≡ Fault.Refused Code.Full) ⊎ (e ≡ Fault.Memory)) }
@@ -119,7 +120,7 @@ impl Timers {
     /// Begins the period of the timer `id` of the window `w` anew at the clock, which is below 2 to the
     /// 54th. It keeps its place in the order of setting. Where there is none, nothing changes.
     pub fn restart(&mut self, w: Hwnd, id: u64, clock: u64)
-        requires { clock < 2 ^ 54 }
+        requires { clock < clock_limit }
         ensures { self.new ≡ restarted w id clock self.old }
     {
         begin_anew(&mut self.settings, w, id, clock);
@@ -203,7 +204,7 @@ fn soonest<F: Fn(&Timer) -> bool>(settings: &[Setting], t: Thread, pass: F) -> O
 
 /// The timer that is due first, of the first so far and of one more that counts if it passes.
 fn sooner<F: Fn(&Timer) -> bool>(best: Option<Timer>, setting: &Setting, pass: &F) -> Option<Timer>
-    requires early { setting.now.base < 2 ^ 54 }
+    requires early { setting.now.base < clock_limit }
     requires callable { F.IsAlwaysCallable pass.now }
     ensures value { (test : Timer → Bool) → Computes F.Fn test pass.now → result ≡ with_timer test best (timer_of setting.now) }
     ensures passed { IfSome best (λ x. FnReturnsAt F.Fn pass.now x true) → IfSome result (λ x. FnReturnsAt F.Fn pass.now x true) }

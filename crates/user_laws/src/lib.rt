@@ -12,7 +12,9 @@ pub use sends::{
     leaves_pop_their_frames, sends_are_numbered, sends_keep_their_order, stacks_are_in_order,
     stacks_change_at_the_top,
 };
-pub use times::{clock_never_goes_back, clock_wakes_a_thread, soonest_time_is_to_come};
+pub use times::{
+    clock_has_a_bound, clock_never_goes_back, clock_wakes_a_thread, soonest_time_is_to_come,
+};
 pub use user_core::SendStory;
 
 #[cfg(test)]

@@ -1,6 +1,7 @@
 //! Laws of the clock and of times. Each is a function that does nothing; its contract is the law.
 
-ghost use Rattle.std.specs.Prelude.{◌≡◌, ◌<◌, ◌≤◌, ℕ, true, false, List, ◌∷◌, Some};
+ghost use Rattle.std.specs.Prelude.{◌≡◌, ◌<◌, ◌≤◌, ℕ, true, false, List, ◌∷◌, length, Some};
+ghost use Rattle.win_num.specs.Clocks.{clock_limit};
 ghost use Rattle.user_model.specs.declared.entry.Answer.{Answer};
 ghost use Rattle.user_model.specs.declared.entry.Entry.{Entry};
 ghost use Rattle.user_model.specs.declared.entry.Setup.{Setup};
@@ -11,6 +12,11 @@ ghost use Rattle.user_model.specs.Legal.{IsLawful};
 /// The clock never goes back.
 pub fn clock_never_goes_back()
     ensures { (setup : Setup) (past : List Entry) (e : Entry) → IsLawful setup (e ∷ past) → clock past ≤ clock (e ∷ past) }
+{}
+
+/// In a history that is no longer than allowed, the clock stays below its bound.
+pub fn clock_has_a_bound()
+    ensures { (setup : Setup) (past : List Entry) → IsLawful setup past → length past ≤ 2097152 → clock past < clock_limit }
 {}
 
 /// Where every thread is idle, the soonest time that one waits for is still to come.

@@ -78,16 +78,16 @@ pub record IsQuit (past : Past) (who : ℕ) (call : Call) (n : ℕ) (m : Msg) : 
   pub is_message : m ≡ message 0 WM_QUIT code 0 (clock past) (cursor past)
 
 -- a retrieval with the filter finds no next message
-abbrev pub NoneComes : Past → ℕ → Call → Type 0
-NoneComes past who call = (pass : Filter) → retrieves call ≡ Some pass → next past who pass ≡ None
+abbrev pub NoneComes : Setup → Past → ℕ → Call → Type 0
+NoneComes setup past who call = (pass : Filter) → retrieves call ≡ Some pass → next setup past who pass ≡ None
 
 -- what the answer tells
 abbrev pub Tells : Setup → Past → ℕ → Call → Answer → Type 0
 Tells setup past who call (answers.Posted k) = IsPost setup past who call k
 Tells setup past who call (answers.Got origins.Posted n m) = IsTaken past who call n m
 Tells setup past who call (answers.Got origins.Quit n m) = IsQuit past who call n m
-Tells setup past who call answers.Nothing = NoneComes past who call
-Tells setup past who call answers.Wait = NoneComes past who call
+Tells setup past who call answers.Nothing = NoneComes setup past who call
+Tells setup past who call answers.Wait = NoneComes setup past who call
 Tells setup past who call answers.Ended = call ≡ EndThread
 Tells setup past who call _ = Unit {0}
 
@@ -214,18 +214,18 @@ empty_is : {A : Type 0} (xs : List A) → is_empty xs ≡ true → xs ≡ []
 empty_is [] e = refl
 empty_is (x ∷ xs) e = absurd (false≢true e)
 
-none_after : (past : Past) (who : ℕ) (f : Filter) → next_ready past who ≡ None → next_posted past who f ≡ None → next_quit past who ≡ None → next past who f ≡ None
-none_after past who f h k l = ap (λ o. or_else o (or_else (next_posted past who f) (next_quit past who))) h ∙ ap (λ o. or_else o (next_quit past who)) k ∙ l
+none_after : (setup : Setup) (past : Past) (who : ℕ) (f : Filter) → next_ready past who ≡ None → next_posted past who f ≡ None → next_quit past who ≡ None → next setup past who f ≡ None
+none_after setup past who f h k l = ap (λ o. or_else o (or_else (next_posted past who f) (next_quit past who))) h ∙ ap (λ o. or_else o (next_quit past who)) k ∙ l
 
 -- a retrieval with a filter
-module _ (setup : Setup) (past : Past) (who : ℕ) (call : Call) (f : Filter) (is : retrieves call ≡ Some f) (d : Answer) (nothing : NoneComes past who call → Told setup past who call d) where
+module _ (setup : Setup) (past : Past) (who : ℕ) (call : Call) (f : Filter) (is : retrieves call ≡ Some f) (d : Answer) (nothing : NoneComes setup past who call → Told setup past who call d) where
   same_filter : (g : Filter) → retrieves call ≡ Some g → f ≡ g
   same_filter g h = let e : Some f ≡ Some g = sym is ∙ h in cc
 
   quit_retrieved : next_ready past who ≡ None → first_post past who f ≡ None → (b : Bool) (q : Option ℕ) → is_empty (posted past who) ≡ b → quit past who ≡ q → Told setup past who call (unwrap_or (cond b (option_map (got_quit past) q) None) d)
   quit_retrieved h k true (Some code) empty stands = record { tells = record { pass = f; is_call = is; is_unready = h; code = code; is_none = k; is_last = empty_is (posted past who) empty; stands = stands; is_zero = refl; is_message = refl } }
-  quit_retrieved h k true None empty stands = nothing (λ g same. subst (λ x. next past who x ≡ None) (same_filter g same) (none_after past who f h (ap (option_map got_posted) k) (ap (λ b. cond b (option_map (got_quit past) (quit past who)) None) empty ∙ ap (option_map (got_quit past)) stands)))
-  quit_retrieved h k false q empty stands = nothing (λ g same. subst (λ x. next past who x ≡ None) (same_filter g same) (none_after past who f h (ap (option_map got_posted) k) (ap (λ b. cond b (option_map (got_quit past) (quit past who)) None) empty)))
+  quit_retrieved h k true None empty stands = nothing (λ g same. subst (λ x. next setup past who x ≡ None) (same_filter g same) (none_after setup past who f h (ap (option_map got_posted) k) (ap (λ b. cond b (option_map (got_quit past) (quit past who)) None) empty ∙ ap (option_map (got_quit past)) stands)))
+  quit_retrieved h k false q empty stands = nothing (λ g same. subst (λ x. next setup past who x ≡ None) (same_filter g same) (none_after setup past who f h (ap (option_map got_posted) k) (ap (λ b. cond b (option_map (got_quit past) (quit past who)) None) empty)))
 
   post_retrieved : next_ready past who ≡ None → (o : Option PostedMsg) → first_post past who f ≡ o → Told setup past who call (unwrap_or (or_else (option_map got_posted o) (next_quit past who)) d)
   post_retrieved h (Some x) k = record { tells = record { pass = f; is_call = is; is_unready = h; is_first = k } }
@@ -235,7 +235,7 @@ module _ (setup : Setup) (past : Past) (who : ℕ) (call : Call) (f : Filter) (i
   later_retrieved None h = post_retrieved h (first_post past who f) refl
   later_retrieved (Some a) h = ready_told setup past who call d (Some a) h (λ none. absurd cc)
 
-  retrieved : Told setup past who call (unwrap_or (next past who f) d)
+  retrieved : Told setup past who call (unwrap_or (next setup past who f) d)
   retrieved = later_retrieved (next_ready past who) refl
 
 waits_told : (setup : Setup) (past : Past) (who : ℕ) (call : Call) → retrieves call ≡ None → Told setup past who call answers.Wait
@@ -312,11 +312,11 @@ pub quit_told : (setup : Setup) (past : Past) (who : ℕ) (call : Call) (n : ℕ
 quit_told setup past who call n m e = tells_of setup past who call (answers.Got origins.Quit n m) e
 
 -- a peek that gets nothing finds no next message
-pub nothing_told : (setup : Setup) (past : Past) (who : ℕ) (call : Call) → row setup past who call ≡ answers.Nothing → NoneComes past who call
+pub nothing_told : (setup : Setup) (past : Past) (who : ℕ) (call : Call) → row setup past who call ≡ answers.Nothing → NoneComes setup past who call
 nothing_told setup past who call e = tells_of setup past who call answers.Nothing e
 
 -- a get that waits finds no next message
-pub wait_told : (setup : Setup) (past : Past) (who : ℕ) (call : Call) → row setup past who call ≡ answers.Wait → NoneComes past who call
+pub wait_told : (setup : Setup) (past : Past) (who : ℕ) (call : Call) → row setup past who call ≡ answers.Wait → NoneComes setup past who call
 wait_told setup past who call e = tells_of setup past who call answers.Wait e
 
 -- only the end of a thread is answered so

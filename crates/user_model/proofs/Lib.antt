@@ -27,6 +27,7 @@ pub mod StepReplies
 pub mod Steps
 pub mod TellerLaws
 pub mod ThreadLaws
+pub mod TimeBounds
 pub mod TimeLaws
 pub mod WakeLaws
 pub mod WindowFacts

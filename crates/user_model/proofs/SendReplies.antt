@@ -271,8 +271,8 @@ head_told past who call (Some (to_call_back x proc_no extra place)) s r h = reco
 ready_told : (past : Past) (who : ℕ) (call : Call) → is_serving call ≡ true → ToldOption past who call (next_ready past who)
 ready_told past who call s = when_told past who call (has_room past who) (option_map (run_for past) (ready_head past who)) (λ r. head_told past who call (ready_head past who) s r refl)
 
-next_told : (past : Past) (who : ℕ) (call : Call) (f : Filter) → is_serving call ≡ true → ToldOption past who call (next past who f)
-next_told past who call f s =
+next_told : (setup : Setup) (past : Past) (who : ℕ) (call : Call) (f : Filter) → is_serving call ≡ true → ToldOption past who call (next setup past who f)
+next_told setup past who call f s =
     or_told past who call (next_ready past who) (or_else (next_posted past who f) (next_quit past who)) (ready_told past who call s)
     (or_told past who call (next_posted past who f) (next_quit past who) (map_told past who call got_posted (first_post past who f) (λ x. refl))
     (when_told past who call (is_empty (posted past who)) (option_map (got_quit past) (quit past who)) (λ h. map_told past who call (got_quit past) (quit past who) (λ x. refl))))
@@ -350,10 +350,10 @@ dispatch_told past who w number wparam lparam =
 pub row_told : (setup : Setup) (past : Past) (who : ℕ) (call : Call) → Told past who call (row setup past who call)
 row_told setup past who (Peek w min max flags) =
     let call = Peek w min max flags in
-    behind past who call (nat_lt 3 flags) invalid_parameter _ (λ a. behind past who call _ invalid_window_handle _ (λ b. default_told past who call (next past who (filter_of w min max)) answers.Nothing (next_told past who call (filter_of w min max) refl) refl))
+    behind past who call (nat_lt 3 flags) invalid_parameter _ (λ a. behind past who call _ invalid_window_handle _ (λ b. default_told past who call (next setup past who (filter_of w min max)) answers.Nothing (next_told setup past who call (filter_of w min max) refl) refl))
 row_told setup past who (Get w min max) =
     let call = Get w min max in
-    behind past who call _ invalid_window_handle _ (λ b. default_told past who call (next past who (filter_of w min max)) answers.Wait (next_told past who call (filter_of w min max) refl) refl)
+    behind past who call _ invalid_window_handle _ (λ b. default_told past who call (next setup past who (filter_of w min max)) answers.Wait (next_told setup past who call (filter_of w min max) refl) refl)
 row_told setup past who (Dispatch w number wparam lparam) = dispatch_told past who w number wparam lparam
 row_told setup past who (Send w m p q) = let call = Send w m p q in behind past who call _ invalid_parameter (waiting_send past who w) (λ n. waiting_told past who call (parts w m p q WaitKind) refl)
 row_told setup past who (SendTimeout w m p q flags ms) = let call = SendTimeout w m p q flags ms in behind past who call _ invalid_parameter (waiting_send past who w) (λ n. waiting_told past who call (parts w m p q (WithTimeout flags ms)) refl)

@@ -74,8 +74,8 @@ or_no_step : (o q : Option Answer) (a : Answer) → ((a : Answer) → o ≡ Some
 or_no_step (Some x) q a h k e = h a e
 or_no_step None q a h k e = k a e
 
-retrieved : (past : Past) (who : ℕ) (f : Filter) (d : Answer) → is_step d ≡ false → NoStep (unwrap_or (next past who f) d)
-retrieved past who f d h = none_default (next past who f) d (λ a e. or_no_step (next_ready past who) (or_else (next_posted past who f) (next_quit past who)) a (ready_no_step past (has_room past who) (ready_head past who)) (later_no_step past (first_post past who f) (is_empty (posted past who)) (quit past who)) e) h
+retrieved : (setup : Setup) (past : Past) (who : ℕ) (f : Filter) (d : Answer) → is_step d ≡ false → NoStep (unwrap_or (next setup past who f) d)
+retrieved setup past who f d h = none_default (next setup past who f) d (λ a e. or_no_step (next_ready past who) (or_else (next_posted past who f) (next_quit past who)) a (ready_no_step past (has_room past who) (ready_head past who)) (later_no_step past (first_post past who f) (is_empty (posted past who)) (quit past who)) e) h
 
 either : (b : Bool) (x y : Answer) → NoStep x → NoStep y → NoStep (cond b x y)
 either true x y h k = h
@@ -143,8 +143,8 @@ is_unmake _ = false
 
 no_step : (setup : Setup) (past : Past) (who : ℕ) (call : Call) → is_unmake call ≡ false → NoStep (row setup past who call)
 no_step setup past who (calls.Unmake w) h = absurd (false≢true (sym h))
-no_step setup past who (calls.Peek w min max flags) h = behind (ltb 3 flags) _ _ (behind (is_no_filter_window past who w) _ _ (retrieved past who (filter_of w min max) answers.Nothing refl))
-no_step setup past who (calls.Get w min max) h = behind (is_no_filter_window past who w) _ _ (retrieved past who (filter_of w min max) answers.Wait refl)
+no_step setup past who (calls.Peek w min max flags) h = behind (ltb 3 flags) _ _ (behind (is_no_filter_window past who w) _ _ (retrieved setup past who (filter_of w min max) answers.Nothing refl))
+no_step setup past who (calls.Get w min max) h = behind (is_no_filter_window past who w) _ _ (retrieved setup past who (filter_of w min max) answers.Wait refl)
 no_step setup past who (calls.Post w number wparam lparam) h = behind (is_no_message number) _ _ (behind (is_no_post_window past w) _ _ (behind (leb 10000 (length (posted past (queue_of past who w)))) _ _ (record { no = refl })))
 no_step setup past who (calls.PostThread t number wparam lparam) h = behind (is_no_message number) _ _ (behind (not (is_running setup past t)) _ _ (behind (leb 10000 (length (posted past t))) _ _ (record { no = refl })))
 no_step setup past who (calls.Message name) h = behind (is_none (message_number past name) && leb 16384 (length (message_names past))) _ _ (record { no = refl })

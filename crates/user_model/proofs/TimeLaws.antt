@@ -97,16 +97,16 @@ due_later c None h = tt
 due_later c (Some m) h = (above m c h, tt)
 
 -- the times of a call that waits are to come
-call_times : (setup : Setup) (past : Past) (t : ℕ) (call : Call) → is_wait (row setup past t call) ≡ true → AllByRecursion (λ m. clock past < m) (times_of_call past call)
+call_times : (setup : Setup) (past : Past) (t : ℕ) (call : Call) → is_wait (row setup past t call) ≡ true → AllByRecursion (λ m. clock past < m) (times_of_call past t call)
 call_times setup past t (SleepUntil time) h = (above time (clock past) (woken_late (nat_le time (clock past)) (waits_behind (nat_lt (clock past + 4294967295) time) invalid_parameter (woken (nat_le time (clock past))) h)), tt)
 call_times setup past t (Await s) h = due_later (clock past) (deadline past s) (await_wait past t s (answer past s) h)
 call_times setup past t _ h = tt
 
-still_times : (setup : Setup) (past : Past) (t : ℕ) (o : Option Entry) → still_waits setup past t o ≡ true → AllByRecursion (λ m. clock past < m) (times_of past o)
+still_times : (setup : Setup) (past : Past) (t : ℕ) (o : Option Entry) → still_waits setup past t o ≡ true → AllByRecursion (λ m. clock past < m) (times_of past t o)
 still_times setup past t None h = tt
 still_times setup past t (Some e) h = by (is_wait e.answer) h
   where
-    by : (b : Bool) → cond b (is_wait (refuse (is_full past) Full (thread_reply setup past t e.call))) false ≡ true → AllByRecursion (λ m. clock past < m) (cond b (times_of_call past e.call) [])
+    by : (b : Bool) → cond b (is_wait (refuse (is_full past) Full (thread_reply setup past t e.call))) false ≡ true → AllByRecursion (λ m. clock past < m) (cond b (times_of_call past t e.call) [])
     by true k = call_times setup past t e.call (waits_behind (is_barred_by e.call (top past t)) NotNow (row setup past t e.call) (waits_behind (not (is_running setup past t)) NotNow (stack_reply setup past t e.call) (waits_behind (is_full past) Full (thread_reply setup past t e.call) k)))
     by false k = tt
 
@@ -146,20 +146,20 @@ ended_last setup (e ∷ past) t h ended = ap last_waits (last_entry-next e past 
 -- ---- where all is quiet
 
 module _ (setup : Setup) (past : Past) (h : IsLawful setup past) (quiet : is_quiet setup past ≡ true) where
-  thread_times : (t : ℕ) → 0 < t → t ≤ setup.threads → AllByRecursion (λ m. clock past < m) (times_of past (last_entry past t))
+  thread_times : (t : ℕ) → 0 < t → t ≤ setup.threads → AllByRecursion (λ m. clock past < m) (times_of past t (last_entry past t))
   thread_times t low high = by (has_ended past t) refl (not_false (is_idle setup past t) (none_passes (λ t. not (is_idle setup past t)) setup.threads t quiet low high))
     where
-      silent : (o : Option Entry) → last_waits o ≡ false → AllByRecursion (λ m. clock past < m) (times_of past o)
+      silent : (o : Option Entry) → last_waits o ≡ false → AllByRecursion (λ m. clock past < m) (times_of past t o)
       silent None k = tt
-      silent (Some e) k = subst (λ b. AllByRecursion (λ m. clock past < m) (cond b (times_of_call past e.call) [])) (sym k) tt
+      silent (Some e) k = subst (λ b. AllByRecursion (λ m. clock past < m) (cond b (times_of_call past t e.call) [])) (sym k) tt
 
-      by : (b : Bool) → has_ended past t ≡ b → cond b true (still_waits setup past t (last_entry past t)) ≡ true → AllByRecursion (λ m. clock past < m) (times_of past (last_entry past t))
+      by : (b : Bool) → has_ended past t ≡ b → cond b true (still_waits setup past t (last_entry past t)) ≡ true → AllByRecursion (λ m. clock past < m) (times_of past t (last_entry past t))
       by true ended k = silent (last_entry past t) (ended_last setup past t h ended)
       by false lives k = still_times setup past t (last_entry past t) k
 
   -- the soonest time is to come
   pub soonest_later : (time : ℕ) → soonest setup past ≡ Some time → clock past < time
-  soonest_later time e = least_above (clock past) (wake_times setup past) time (each_above (clock past) (λ t. times_of past (last_entry past t)) setup.threads thread_times) e
+  soonest_later time e = least_above (clock past) (wake_times setup past) time (each_above (clock past) (λ t. times_of past t (last_entry past t)) setup.threads thread_times) e
 
 -- ---- the clock
 

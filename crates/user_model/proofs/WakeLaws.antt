@@ -48,21 +48,21 @@ advance_told setup past call time e = row_told setup past call time (not_refused
 deadline_same : (e : Entry) (past : Past) (s : ℕ) → sends (e ∷ past) ≡ sends past → deadline (e ∷ past) s ≡ deadline past s
 deadline_same e past s h = ap (λ xs. elim (find {X = SentMsg} (λ x. eqb x.number s) xs) as (λ _. Option ℕ) [ Some x ↦ deadline_in x x.kind | None ↦ None ]) h
 
-call_same : (e : Entry) (past : Past) (call : Call) → sends (e ∷ past) ≡ sends past → times_of_call (e ∷ past) call ≡ times_of_call past call
-call_same e past (Await s) h = ap one_of (deadline_same e past s h)
-call_same e past _ h = refl
+call_same : (e : Entry) (past : Past) (t : ℕ) (call : Call) → sends (e ∷ past) ≡ sends past → times_of_call (e ∷ past) t call ≡ times_of_call past t call
+call_same e past t (Await s) h = ap one_of (deadline_same e past s h)
+call_same e past t _ h = refl
 
-entry_same : (e : Entry) (past : Past) (o : Option Entry) → sends (e ∷ past) ≡ sends past → times_of (e ∷ past) o ≡ times_of past o
-entry_same e past None h = refl
-entry_same e past (Some x) h = ap (λ ns. cond (is_wait x.answer) ns []) (call_same e past x.call h)
+entry_same : (e : Entry) (past : Past) (t : ℕ) (o : Option Entry) → sends (e ∷ past) ≡ sends past → times_of (e ∷ past) t o ≡ times_of past t o
+entry_same e past t None h = refl
+entry_same e past t (Some x) h = ap (λ ns. cond (is_wait x.answer) ns []) (call_same e past t x.call h)
 
-wakes_same : (e : Entry) (past : Past) (n : ℕ) → sends (e ∷ past) ≡ sends past → e.who.0 ≡ 0 → from_each (λ t. times_of (e ∷ past) (last_entry (e ∷ past) t)) n ≡ from_each (λ t. times_of past (last_entry past t)) n
+wakes_same : (e : Entry) (past : Past) (n : ℕ) → sends (e ∷ past) ≡ sends past → e.who.0 ≡ 0 → from_each (λ t. times_of (e ∷ past) t (last_entry (e ∷ past) t)) n ≡ from_each (λ t. times_of past t (last_entry past t)) n
 wakes_same e past zero h actor = refl
 wakes_same e past (suc n) h actor =
     let miss : eqb e.who.0 (suc n) ≡ false = grind (arith, nat_tests, actor) in
     let last : last_entry (e ∷ past) (suc n) ≡ last_entry past (suc n) = last_entry-next e past (suc n) ∙ ap (λ b. cond b (Some e) (last_entry past (suc n))) miss in
-    ap (λ ns. ns ++ times_of (e ∷ past) (last_entry (e ∷ past) (suc n))) (wakes_same e past n h actor)
-    ∙ ap (λ ns. from_each (λ t. times_of past (last_entry past t)) n ++ ns) (ap (times_of (e ∷ past)) last ∙ entry_same e past (last_entry past (suc n)) h)
+    ap (λ ns. ns ++ times_of (e ∷ past) (suc n) (last_entry (e ∷ past) (suc n))) (wakes_same e past n h actor)
+    ∙ ap (λ ns. from_each (λ t. times_of past t (last_entry past t)) n ++ ns) (ap (times_of (e ∷ past) (suc n)) last ∙ entry_same e past (suc n) (last_entry past (suc n)) h)
 
 -- ---- so not all is quiet
 

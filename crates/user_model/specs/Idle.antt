@@ -49,20 +49,20 @@ abbrev pub one_of : Option ℕ → List ℕ
 one_of None = []
 one_of (Some n) = n ∷ []
 
--- the time that a call waits for: a sleep's, or a timeout send's
-abbrev pub times_of_call : Past → Call → List ℕ
-times_of_call past (SleepUntil time) = time ∷ []
-times_of_call past (Await s) = one_of (deadline past s)
-times_of_call past _ = []
+-- the times that a call of t waits for: a sleep's, or a timeout send's
+abbrev pub times_of_call : Past → ℕ → Call → List ℕ
+times_of_call past t (SleepUntil time) = time ∷ []
+times_of_call past t (Await s) = one_of (deadline past s)
+times_of_call past t _ = []
 
--- the times that the thread's last entry waits for; one that was answered otherwise waits for none
-abbrev pub times_of : Past → Option Entry → List ℕ
-times_of past None = []
-times_of past (Some e) = if is_wait e.answer then times_of_call past e.call else []
+-- the times that t's last entry waits for; one that was answered otherwise waits for none
+abbrev pub times_of : Past → ℕ → Option Entry → List ℕ
+times_of past t None = []
+times_of past t (Some e) = if is_wait e.answer then times_of_call past t e.call else []
 
 -- the times that threads wait for
 abbrev pub wake_times : Setup → Past → List ℕ
-wake_times setup past = from_each (λ t. times_of past (last_entry past t)) setup.threads
+wake_times setup past = from_each (λ t. times_of past t (last_entry past t)) setup.threads
 
 -- the lesser of a number and one that there may be
 abbrev pub least_with : ℕ → Option ℕ → ℕ

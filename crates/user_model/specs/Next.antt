@@ -2,6 +2,7 @@
 use Rattle.std.specs.Prelude.{if◌then◌else◌, ℕ, Bool, true, false, List, [], ◌∷◌, Option, Some, None, option_map}
 use Rattle.win_num.specs.declared.message.Filter.{Filter}
 use Rattle.win_num.specs.declared.names.TheConstants.{WM_QUIT}
+use Rattle.user_model.specs.declared.entry.Setup.{Setup}
 use Rattle.user_model.specs.declared.entry.Answer.{Answer}
 use Rattle.user_model.specs.declared.entry.Answer.TheVariants.{Enter, Callback, Got}
 use Rattle.user_model.specs.declared.entry.Origin.TheVariants.{Posted, Quit}
@@ -49,5 +50,5 @@ abbrev pub next_quit : Past → ℕ → Option Answer
 next_quit past t = if is_empty (posted past t) then option_map (got_quit past) (quit past t) else None
 
 -- ready sends and results, then the first posted message that passes, then quit
-abbrev pub next : Past → ℕ → Filter → Option Answer
-next past t f = or_else (next_ready past t) (or_else (next_posted past t f) (next_quit past t))
+abbrev pub next : Setup → Past → ℕ → Filter → Option Answer
+next setup past t f = or_else (next_ready past t) (or_else (next_posted past t f) (next_quit past t))

@@ -34,9 +34,17 @@ ends_thread e t = is_end e.answer && (e.who.0 == t)
 abbrev pub has_ended : Past → ℕ → Bool
 has_ended past t = ever (λ e before. ends_thread e t) past
 
--- the cursor stands at the left top corner of the screen, since no call moves it
+-- the left top corner of the screen
+abbrev pub corner_of_screen : Point
+corner_of_screen = record { x = pos 0; y = pos 0 }
+
+-- where an entry puts the cursor: nowhere, since no call moves it
+abbrev pub cursor_told : Entry → Past → Option Point
+cursor_told e before = None
+
+-- where the cursor was put last; before, the left top corner of the screen
 abbrev pub cursor : Past → Point
-cursor past = record { x = pos 0; y = pos 0 }
+cursor past = unwrap_or (last_of cursor_told past) corner_of_screen
 
 -- the thread's own entries, the newest first
 abbrev pub mine : Past → ℕ → Past

@@ -19,8 +19,8 @@ use Rattle.user_model.specs.Threads.{is_running}
 
 -- the answer of a thread's call that may be made now
 abbrev pub row : Setup → Past → ℕ → Call → Answer
-row setup past who (Peek w min max flags) = peek_reply past who w min max flags
-row setup past who (Get w min max) = get_reply past who w min max
+row setup past who (Peek w min max flags) = peek_reply setup past who w min max flags
+row setup past who (Get w min max) = get_reply setup past who w min max
 row setup past who (Post w number wparam lparam) = post_reply past who w number
 row setup past who (PostThread t number wparam lparam) = post_thread_reply setup past t number
 row setup past who (PostQuit code) = Okay

@@ -12,12 +12,12 @@ use Rattle.user_model.specs.Refusals.{refuse, is_no_message, invalid_parameter, 
 use Rattle.user_model.specs.Threads.{is_running}
 
 -- the next message, or none
-abbrev pub peek_reply : Past → ℕ → ℕ → ℕ → ℕ → ℕ → Answer
-peek_reply past who w min max flags = refuse (nat_lt 3 flags) invalid_parameter (refuse (is_no_filter_window past who w) invalid_window_handle (unwrap_or (next past who (filter_of w min max)) Nothing))
+abbrev pub peek_reply : Setup → Past → ℕ → ℕ → ℕ → ℕ → ℕ → Answer
+peek_reply setup past who w min max flags = refuse (nat_lt 3 flags) invalid_parameter (refuse (is_no_filter_window past who w) invalid_window_handle (unwrap_or (next setup past who (filter_of w min max)) Nothing))
 
 -- the next message, or to wait
-abbrev pub get_reply : Past → ℕ → ℕ → ℕ → ℕ → Answer
-get_reply past who w min max = refuse (is_no_filter_window past who w) invalid_window_handle (unwrap_or (next past who (filter_of w min max)) Wait)
+abbrev pub get_reply : Setup → Past → ℕ → ℕ → ℕ → ℕ → Answer
+get_reply setup past who w min max = refuse (is_no_filter_window past who w) invalid_window_handle (unwrap_or (next setup past who (filter_of w min max)) Wait)
 
 -- the number that the next post gets
 abbrev pub next_post_number : Past → ℕ

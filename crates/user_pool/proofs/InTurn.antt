@@ -96,8 +96,8 @@ fine_quit past false o = tt
 fine_quit past true None = tt
 fine_quit past true (Some code) = record { so = refl }
 
-fine_next : (past : Past) (who : ℕ) (f : Filter) → FineIn (next past who f)
-fine_next past who f =
+fine_next : (setup : Setup) (past : Past) (who : ℕ) (f : Filter) → FineIn (next setup past who f)
+fine_next setup past who f =
     fine_else (next_ready past who) (or_else (next_posted past who f) (next_quit past who)) (fine_run past (has_room past who) (ready_head past who))
     (fine_else (next_posted past who f) (next_quit past who) (fine_posted (first_post past who f)) (fine_quit past (is_empty (posted past who)) (quit past who)))
 
@@ -180,8 +180,8 @@ fine_post past t = refused_fine (nat_le 10000 (length (posted past t))) not_enou
 
 row_fine : (setup : Setup) (past : Past) (who : ℕ) (call : Call) → is_of_clock call ≡ false → Fine (row setup past who call)
 row_fine setup past who (calls.Peek w min max flags) h =
-    parameter_fine (nat_lt 3 flags) _ (window_fine (is_no_filter_window past who w) _ (fine_either (next past who (filter_of w min max)) answers.Nothing (fine_next past who (filter_of w min max)) (record { so = refl })))
-row_fine setup past who (calls.Get w min max) h = window_fine (is_no_filter_window past who w) _ (fine_either (next past who (filter_of w min max)) answers.Wait (fine_next past who (filter_of w min max)) (record { so = refl }))
+    parameter_fine (nat_lt 3 flags) _ (window_fine (is_no_filter_window past who w) _ (fine_either (next setup past who (filter_of w min max)) answers.Nothing (fine_next setup past who (filter_of w min max)) (record { so = refl })))
+row_fine setup past who (calls.Get w min max) h = window_fine (is_no_filter_window past who w) _ (fine_either (next setup past who (filter_of w min max)) answers.Wait (fine_next setup past who (filter_of w min max)) (record { so = refl }))
 row_fine setup past who (calls.Post w number p q) h = parameter_fine (is_no_message number) _ (window_fine (is_no_post_window past w) _ (fine_post past (queue_of past who w)))
 row_fine setup past who (calls.PostThread t number p q) h =
     parameter_fine (is_no_message number) _ (refused_fine (not (is_running setup past t)) invalid_thread_id _ (record { so = refl }) (fine_post past t))

@@ -1,3 +1,4 @@
+pub mod Clocks
 pub mod Codes
 pub mod Numbers
 pub mod PixelSets

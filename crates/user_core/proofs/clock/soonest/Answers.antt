@@ -6,7 +6,7 @@ use Rattle.user_core.proofs.clock.soonest.Goals as goal
 pub loop-thread-preserved : goal.loop-thread-preserved
 loop-thread-preserved c =
     let past = c.args.state.now.past in
-    let gives : ℕ → List ℕ = λ t. times_of past (last_entry past t) in
+    let gives : ℕ → List ℕ = λ t. times_of past t (last_entry past t) in
     let n = c.loop-thread.thread in
     sym (c.lesser-least.ensures (from_each gives n) (sym c.loop-thread.invariant))
     ∙ ap (λ l. least_of (from_each gives n ++ l)) c.wake_time.ensures

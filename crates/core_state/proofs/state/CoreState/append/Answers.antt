@@ -1,6 +1,7 @@
 use Rattle.std.proofs.Common.{rules, ◌≡◌, false, List, ◌∷◌, [], ◌++◌, drop, reverse, length, take, sym, ap, ◌∙◌, subst}
 use Rattle.std.proofs.lemmas.List.{length-reverse}
 use Rattle.user_model.specs.Past.{Past, is_full, place_after}
+use Rattle.user_model.specs.Places.{cursor}
 use Rattle.user_model.specs.Idle.{reply}
 use Rattle.user_model.proofs.ClockLaws.{past_more}
 use Rattle.core_state.specs.States.{Parts, Seen, Stands, parts}
@@ -19,7 +20,8 @@ grow-requires-clause-parts c =
     let past : Past = reverse s.history.items in
     let kept : Parts = parts s.tree s.classes s.threads.items s.post_count s.time s.sends s.tally s.stories.items in
     let right : e.answer ≡ reply s.setup past e.who.0 e.call = subst (λ (v : Seen). e.answer ≡ reply v.setup v.past e.who.0 e.call) (sym c.self.view_is) c.requires.answer in
-    growth_fits s.setup past kept e c.self.invariant right
+    let at : c.cursor-cursor.result ≡ cursor past = subst (λ (v : Seen). c.cursor-cursor.result ≡ cursor v.past) (sym c.self.view_is) c.cursor-cursor.ensures in
+    growth_fits s.setup past kept c.cursor-cursor.result e c.self.invariant at right
 
 pub grow-requires-clause-sends : goal.grow-requires-clause-sends
 grow-requires-clause-sends c =
@@ -75,7 +77,8 @@ invariant_of-self-2 c =
     let begun = before ∙ c.add_story.ensures ∙ ap (with_begun e.answer) c.reserve-2.ensures.items in
     let answered = subst (λ q. EachStory (noted_answer e.answer q c.len-place.result) c.deref_mut-2.result.now c.note_answer.new.stories) c.named_send-named.ensures c.note_answer.ensures in
     let noted = subst (λ (l : List SendStory). EachStory (noted_answer e.answer (named_send s.sends e.who.0 e.answer e.call) c.len-place.result) l c.note_answer.new.stories) (c.deref_mut-2.ensures.value ∙ between) answered in
-    let now = stands_step s.setup past kept e c.grow.new.classes c.settle.new.classes c.grow.new.tree c.settle.new.tree c.grow.new.threads.items c.settle.new.threads.items c.note_entry.new.threads.items c.grow.new.sends c.settle_sends-lost.new.sends c.first_cause-first.result c.settle_sends-lost.result c.with-self-inside.result c.deref_mut.result.now c.settle_sends-lost.new.stories c.note_answer.new.stories c.len-place.result room right c.self.invariant grown.classes settled.classes grown.tree settled.tree grown.threads settled.threads c.note_entry.ensures grown.sends c.settle_sends-lost.ensures.sends here first c.settle_sends-lost.ensures.lost c.with-self-inside.ensures begun c.settle_sends-lost.ensures.stories noted in
+    let at : c.cursor-cursor.result ≡ cursor past = subst (λ (v : Seen). c.cursor-cursor.result ≡ cursor v.past) (sym c.self.view_is) c.cursor-cursor.ensures in
+    let now = stands_step s.setup past kept c.cursor-cursor.result e c.grow.new.classes c.settle.new.classes c.grow.new.tree c.settle.new.tree c.grow.new.threads.items c.settle.new.threads.items c.note_entry.new.threads.items c.grow.new.sends c.settle_sends-lost.new.sends c.first_cause-first.result c.settle_sends-lost.result c.with-self-inside.result c.deref_mut.result.now c.settle_sends-lost.new.stories c.note_answer.new.stories c.len-place.result room right c.self.invariant at grown.classes settled.classes grown.tree settled.tree grown.threads settled.threads c.note_entry.ensures grown.sends c.settle_sends-lost.ensures.sends here first c.settle_sends-lost.ensures.lost c.with-self-inside.ensures begun c.settle_sends-lost.ensures.stories noted in
     let whole =
     ap (λ (l : List SendStory). take c.add_story.new.stories.len (c.note_answer.new.stories ++ drop (length c.note_answer.new.stories) l)) between
     ∙ written c.note_answer.new.stories c.settle_sends-lost.new.stories c.add_story.new.stories.len (counted ∙ sym shared) noted.same_length in

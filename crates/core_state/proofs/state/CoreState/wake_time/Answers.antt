@@ -19,4 +19,4 @@ returns-in-Await c =
     ap one_of c.wait_end.ensures
     ∙ ap (λ (v : Seen). one_of (option_and_then (wait_end v.past) (top v.past t))) (sym c.self.view_is)
     ∙ await_times s.setup past t c.in-Await.field-0 c.self.invariant.lawful waits
-    ∙ ap (λ (v : Seen). times_of v.past (last_entry v.past t)) c.self.view_is
+    ∙ ap (λ (v : Seen). times_of v.past t (last_entry v.past t)) c.self.view_is

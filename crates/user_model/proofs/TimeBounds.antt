@@ -4,6 +4,7 @@ use Rattle.std.specs.Prelude.{◌||◌, find, nat_lt, nat_le, unwrap_or}
 use Rattle.std.specs.List.{AllByRecursion}
 use Rattle.std.proofs.lemmas.Bool.{false≢true, or_parts}
 use Rattle.std.proofs.lemmas.Bool.Decides.{nat_tests}
+use Rattle.win_num.specs.Clocks.{clock_limit}
 use Rattle.win_num.specs.declared.code.Code.TheVariants.{Full}
 use Rattle.win_num.specs.declared.send.Kind.{Kind}
 use Rattle.win_num.specs.declared.send.Kind.TheVariants.{Wait as WaitKind, Timeout as WithTimeout, Notify, Callback as WithCallback}
@@ -89,23 +90,23 @@ due_low : (past : Past) (s : ℕ) (o : Option SentMsg) → IsBounded past → se
 due_low past s None b e = tt
 due_low past s (Some x) b e = (found_timed (length past) s (sends past) x b.sends_low e).due
 
-call_low : (past : Past) (call : Call) → IsBounded past → AllByRecursion (λ m. m ≤ latest (length past)) (sleep_of call) → AllByRecursion (λ m. m ≤ latest (length past)) (times_of_call past call)
-call_low past (SleepUntil t) b h = h
-call_low past (Await s) b h = due_low past s (send past s) b refl
-call_low past _ b h = tt
+call_low : (past : Past) (t : ℕ) (call : Call) → IsBounded past → AllByRecursion (λ m. m ≤ latest (length past)) (sleep_of call) → AllByRecursion (λ m. m ≤ latest (length past)) (times_of_call past t call)
+call_low past t (SleepUntil time) b h = h
+call_low past t (Await s) b h = due_low past s (send past s) b refl
+call_low past t _ b h = tt
 
-entry_low : (past : Past) (o : Option Entry) → IsBounded past → AllByRecursion (λ m. m ≤ latest (length past)) (sleeps o) → AllByRecursion (λ m. m ≤ latest (length past)) (times_of past o)
-entry_low past None b h = tt
-entry_low past (Some e) b h = by (is_wait e.answer) h
+entry_low : (past : Past) (t : ℕ) (o : Option Entry) → IsBounded past → AllByRecursion (λ m. m ≤ latest (length past)) (sleeps o) → AllByRecursion (λ m. m ≤ latest (length past)) (times_of past t o)
+entry_low past t None b h = tt
+entry_low past t (Some e) b h = by (is_wait e.answer) h
   where
-    by : (w : Bool) → AllByRecursion (λ m. m ≤ latest (length past)) (cond w (sleep_of e.call) []) → AllByRecursion (λ m. m ≤ latest (length past)) (cond w (times_of_call past e.call) [])
-    by true k = call_low past e.call b k
+    by : (w : Bool) → AllByRecursion (λ m. m ≤ latest (length past)) (cond w (sleep_of e.call) []) → AllByRecursion (λ m. m ≤ latest (length past)) (cond w (times_of_call past t e.call) [])
+    by true k = call_low past t e.call b k
     by false k = tt
 
 -- the soonest time is no later than the clock may be
 soonest_low : (setup : Setup) (past : Past) (t : ℕ) → IsBounded past → soonest setup past ≡ Some t → t ≤ latest (length past)
 soonest_low setup past t b e =
-    least_low (latest (length past)) (wake_times setup past) t (each_low (latest (length past)) (λ u. times_of past (last_entry past u)) setup.threads (λ u. entry_low past (last_entry past u) b (b.sleeps_low u))) e
+    least_low (latest (length past)) (wake_times setup past) t (each_low (latest (length past)) (λ u. times_of past u (last_entry past u)) setup.threads (λ u. entry_low past u (last_entry past u) b (b.sleeps_low u))) e
 
 -- ---- the clock
 
@@ -235,11 +236,11 @@ bounded setup (e ∷ past) h =
     }
 
 -- the clock of a history that is no longer than allowed
-pub clock_small : (setup : Setup) (past : Past) → IsLawful setup past → length past ≤ 2097152 → clock past < 2 ^ 62
+pub clock_small : (setup : Setup) (past : Past) → IsLawful setup past → length past ≤ 2097152 → clock past < clock_limit
 clock_small setup past h short = omega (arith, (bounded setup past h).clock_low, short)
 
 -- the time of a send
-pub send_time : (setup : Setup) (past : Past) (s : ℕ) (x : SentMsg) → IsLawful setup past → length past ≤ 2097152 → send past s ≡ Some x → x.time < 2 ^ 63
+pub send_time : (setup : Setup) (past : Past) (s : ℕ) (x : SentMsg) → IsLawful setup past → length past ≤ 2097152 → send past s ≡ Some x → x.time < clock_limit
 send_time setup past s x h short found =
     let low = (found_timed (length past) s (sends past) x (bounded setup past h).sends_low found).made in
     omega (arith, low, short)
