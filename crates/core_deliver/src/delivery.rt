@@ -4,7 +4,7 @@ ghost use Rattle.std.specs.Prelude.{◌≡◌, ◌<◌, ◌≤◌, false};
 ghost use Rattle.user_model.specs.Past.{is_full};
 ghost use Rattle.win_num.specs.declared.names.TheConstants.{WM_QUIT};
 ghost use Rattle.user_model.specs.Filters.{is_no_filter_window};
-ghost use Rattle.user_model.specs.Next.{next, next_quit};
+ghost use Rattle.user_model.specs.Next.{next, next_posted, next_quit};
 ghost use Rattle.user_model.specs.Posts.{message};
 ghost use Rattle.user_model.specs.ReplyDelivery.{get_reply, peek_reply, post_reply, post_thread_reply, post_to};
 
@@ -35,13 +35,25 @@ fn next(state: &CoreState, who: u8, filter: Filter) -> Option<Answer>
     if let Some(answer) = state.next_ready(who) {
         return Some(answer);
     }
+    if let Some(answer) = next_posted(state, who, filter) {
+        return Some(answer);
+    }
+    next_quit(state, who)
+}
+
+/// The first posted message that passes.
+fn next_posted(state: &CoreState, who: u8, filter: Filter) -> Option<Answer>
+    requires some { 0 < who }
+    requires known { who ≤ state.now.setup.threads }
+    ensures { result ≡ next_posted state.now.past who filter }
+{
     match state.first_post(who, filter) {
         Some((number, msg)) => Some(Answer::Got {
             origin: Origin::Posted,
             number,
             msg,
         }),
-        None => next_quit(state, who),
+        None => None,
     }
 }
 

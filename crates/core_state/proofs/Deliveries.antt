@@ -30,7 +30,7 @@ use Rattle.user_model.proofs.ReplyLaws.{not_false}
 use Rattle.user_model.proofs.DeliveryReplies.{IsPost}
 use Rattle.user_model.proofs.PostOwners.{message_of, post_runs}
 use Rattle.core_state.specs.Trees.{as_made}
-use Rattle.thread_state.specs.Threads.{ThreadView, as_kept, queue_at, thread_at}
+use Rattle.thread_state.specs.Threads.{ThreadView, as_kept, queue_at, thread_at, told_post}
 use Rattle.core_state.specs.Changes.{Change, posts as posts_one, purges, change_by, changed, kin_of}
 use Rattle.thread_state.specs.Passing.{passes_window_in, passes_here, passes_in}
 use Rattle.core_state.specs.Deliveries.{thread_in, posting, FitsPost, kin_in, change_of_post, growth_in, carried_in, settling_in}
@@ -76,20 +76,20 @@ passes_window_in-is past ws wanted w e =
     ∙ ap (λ b. eqb wanted 0 || eqb wanted NO_WINDOW && eqb w 0 || is_live past wanted && (eqb w wanted || b)) (sym (below_made ws wanted w) ∙ ap (λ (us : List Window). is_below us wanted w) e)
 
 -- whether a filter lets a message pass
-pub passes_here-is : (past : Past) (ws : List KeptWindow) (f : Filter) (m : Msg) (n : ℕ) → map as_made ws ≡ live past → passes_here ws f m ≡ passes past f (n, m)
-passes_here-is past ws f m n e = ap (λ b. (passes_range f.min f.max m.number || eqb m.number WM_QUIT) && b) (passes_window_in-is past ws f.hwnd m.hwnd.0 e)
+pub passes_here-is : (past : Past) (ws : List KeptWindow) (f : Filter) (x : PostedMsg) → map as_made ws ≡ live past → passes_here ws f x.msg ≡ passes past f x
+passes_here-is past ws f x e = ap (λ b. (passes_range f.min f.max x.msg.number || eqb x.msg.number WM_QUIT) && b) (passes_window_in-is past ws f.hwnd x.msg.hwnd.0 e)
 
-find_kept_first : (test : Posted → Bool) (g : PostedMsg → Bool) → ((x : PostedMsg) → test (as_kept x) ≡ g x) → (xs : List PostedMsg) → option_map pair_of (find test (map as_kept xs)) ≡ find g xs
+find_kept_first : (test : Posted → Bool) (g : PostedMsg → Bool) → ((x : PostedMsg) → test (as_kept x) ≡ g x) → (xs : List PostedMsg) → option_map pair_of (find test (map as_kept xs)) ≡ option_map told_post (find g xs)
 find_kept_first test g e [] = refl
 find_kept_first test g e (x ∷ xs) = ap (λ b. option_map pair_of (cond b (Some (as_kept x)) (find test (map as_kept xs)))) (e x) ∙ pick (g x) (find_kept_first test g e xs)
   where
-    pick : (b : Bool) → option_map pair_of (find test (map as_kept xs)) ≡ find g xs → option_map pair_of (cond b (Some (as_kept x)) (find test (map as_kept xs))) ≡ cond b (Some x) (find g xs)
+    pick : (b : Bool) → option_map pair_of (find test (map as_kept xs)) ≡ option_map told_post (find g xs) → option_map pair_of (cond b (Some (as_kept x)) (find test (map as_kept xs))) ≡ option_map told_post (cond b (Some x) (find g xs))
     pick true rest = refl
     pick false rest = rest
 
 -- the first message of a queue that a filter lets pass
-pub first_kept : (past : Past) (ws : List KeptWindow) (t : ℕ) (f : Filter) → map as_made ws ≡ live past → option_map pair_of (find (passes_in ws f) (queue_at past t).posted) ≡ first_post past t f
-first_kept past ws t f e = find_kept_first (passes_in ws f) (passes past f) (λ x. passes_here-is past ws f x.1 x.0 e) (posted past t)
+pub first_kept : (past : Past) (ws : List KeptWindow) (t : ℕ) (f : Filter) → map as_made ws ≡ live past → option_map pair_of (find (passes_in ws f) (queue_at past t).posted) ≡ option_map told_post (first_post past t f)
+first_kept past ws t f e = find_kept_first (passes_in ws f) (passes past f) (λ x. passes_here-is past ws f x e) (posted past t)
 
 -- ---- what an entry changes
 

@@ -1,13 +1,16 @@
 -- A new window in the table.
-use Rattle.std.proofs.Common.{◌≡◌, ℕ, zero, suc, ◌+◌, ◌*◌, ◌^◌, ◌<◌, Bool, true, false, not, cond, eqb, List, [], ◌∷◌, ◌++◌, length, Some, None, refl, ap, ◌∙◌, sym, arith}
-use Rattle.std.specs.Prelude.{◌&&◌, ◌||◌, bit_and, ℤ}
+use Rattle.std.proofs.Common.{◌≡◌, ℕ, zero, suc, ◌+◌, ◌*◌, ◌^◌, ◌<◌, ◌≤◌, Bool, true, false, not, cond, eqb, List, [], ◌∷◌, ◌++◌, length, Some, None, refl, ap, ◌∙◌, sym, subst, arith}
+use Rattle.std.specs.Prelude.{◌&&◌, ◌||◌, bit_and, ℤ, map}
+use Rattle.std.specs.List.{AllByRecursion}
+use Rattle.std.proofs.lemmas.Bool.Decides.{nat_tests}
+use Rattle.win_tree.specs.declared.window.Window.{Window as KeptWindow}
 use Rattle.std.proofs.lemmas.Bool.{eqb-true, eq-eqb, ne_eqb, eqb-false, true≢false, leb-false, and_right}
 use Rattle.std.proofs.Math.Dec.{leb}
 use Rattle.std.specs.Int.{bit_at}
 use Rattle.std.proofs.lemmas.Nat.Bits.{and_pow, bit_at-lt}
 use Rattle.std.proofs.lemmas.List.{length-append, map-append}
 use Rattle.win_num.specs.Rects.{box_in}
-use Rattle.win_num.specs.PixelSets.{Box, box}
+use Rattle.win_num.specs.PixelSets.{box}
 use Rattle.win_num.specs.declared.names.TheConstants.{WS_CHILD}
 use Rattle.win_num.specs.declared.message.Hwnd.{Hwnd}
 use Rattle.win_num.specs.declared.message.Thread.{Thread}
@@ -31,18 +34,21 @@ use Rattle.user_model.proofs.ListLaws.{all_weaker, all_append}
 use Rattle.user_model.proofs.ReplyLaws.{by_call}
 use Rattle.user_model.proofs.WindowLaws.{windows_made-next, is_marked-same, was_given-same}
 use Rattle.user_model.proofs.WindowReplies.{IsNewWindow, new_window_told, doom_told, drop_told}
-use Rattle.user_model.proofs.LiveWindows.{new_window, live-new}
+use Rattle.user_model.proofs.LiveWindows.{new_window, live-new, sound}
 use Rattle.user_model.proofs.WindowFacts.{new_unmarked, new_ungiven, made_few}
-use Rattle.core_state.specs.Trees.{as_made, HasMarks, IsTreeAt}
+use Rattle.user_model.proofs.Forests.{IsBetween, all_between, all_both}
+use Rattle.user_model.proofs.WindowLooks.{looks-new, looks-same, sets_other}
+use Rattle.core_state.specs.Trees.{as_made, HasLooks, HasMarks, IsTreeAt}
+use Rattle.core_state.proofs.TreeLaws.{looks_same}
 use Rattle.core_state.specs.Effects.{IsRowOf}
 use Rattle.core_state.proofs.TreeFacts.{is_live_at, is_marked_at, is_ended_at, top_of_at, length_at}
 
 -- a window from its fields
-abbrev window_from : ℕ → ℕ → ℕ → ℕ → ℕ → ℕ → ℕ → ℕ → Box → Window
-window_from number thread class title parent owner style ex place = record { number = number; thread = thread; class = class; title = title; parent = parent; owner = owner; style = style; ex = ex; place = place }
+abbrev window_from : ℕ → ℕ → ℕ → ℕ → ℕ → ℕ → Window
+window_from number thread class title parent owner = record { number = number; thread = thread; class = class; title = title; parent = parent; owner = owner }
 
-same_fields : (n n' t t' c c' i i' p p' o o' s s' x x' : ℕ) (b b' : Box) → n ≡ n' → t ≡ t' → c ≡ c' → i ≡ i' → p ≡ p' → o ≡ o' → s ≡ s' → x ≡ x' → b ≡ b' → window_from n t c i p o s x b ≡ window_from n' t' c' i' p' o' s' x' b'
-same_fields n n' t t' c c' i i' p p' o o' s s' x x' b b' en et ec ei ep eo es ex eb = cc
+same_fields : (n n' t t' c c' i i' p p' o o' : ℕ) → n ≡ n' → t ≡ t' → c ≡ c' → i ≡ i' → p ≡ p' → o ≡ o' → window_from n t c i p o ≡ window_from n' t' c' i' p' o'
+same_fields n n' t t' c c' i i' p p' o o' en et ec ei ep eo = cc
 
 owner_kept : (past : Past) (t : Windows) (at : IsTreeAt past t) (parent : ℕ) (row : WindowRow) (child : Bool) → (child && eqb parent 0) ≡ false → row.parent.0 ≡ cond child parent 0 → row.owner.0 ≡ cond child 0 parent → (cond (eqb row.parent.0 0) (kept_kin.top_of t.live row.owner) nobody).0 ≡ cond child 0 (top_of (live past) parent)
 owner_kept past t at parent row true some p o =
@@ -54,11 +60,31 @@ owner_kept past t at parent row false some p o =
     ∙ (sym (top_of_at past t at row.owner) ∙ ap (top_of (live past)) o)
 
 -- the new window as the table keeps it
-new_as_made : (setup : Setup) (past : Past) (t : Windows) (who : Thread) (name title parent style ex : ℕ) (l top r b : ℤ) (w : Hwnd) (row : WindowRow) → IsTreeAt past t → IsRowOf who.0 name title parent style ex row → box_in row.place ≡ box l top r b → IsNewWindow setup past who.0 name parent style ex l top r b w → as_made (made (next_number t) (settled t.live row)) ≡ new_window who name title parent style ex l top r b w (live past)
-new_as_made setup past t who name title parent style ex l top r b w row at is place new =
+new_as_made : (setup : Setup) (past : Past) (t : Windows) (who : Thread) (name title parent style ex : ℕ) (l top r b : ℤ) (w : Hwnd) (row : WindowRow) → IsTreeAt past t → IsRowOf who.0 name title parent style ex row → IsNewWindow setup past who.0 name parent style ex l top r b w → as_made (made (next_number t) (settled t.live row)) ≡ new_window who name title parent style ex l top r b w (live past)
+new_as_made setup past t who name title parent style ex l top r b w row at is new =
     let number : suc t.last ≡ w.0 = (let e = at.last in let n = ap (λ (v : Hwnd). v.0) new.is_next in omega (arith, e, n)) in
-    same_fields (suc t.last) w.0 row.thread.0 who.0 row.class name row.title title row.parent.0 (cond (has_flag style WS_CHILD) parent 0) (cond (eqb row.parent.0 0) (kept_kin.top_of t.live row.owner) nobody).0 (cond (has_flag style WS_CHILD) 0 (top_of (live past) parent)) row.style style row.ex ex (box_in row.place) (box l top r b)
-    number is.thread is.class_name is.title_name is.parent (owner_kept past t at parent row (has_flag style WS_CHILD) new.some_parent is.parent is.owner) is.style_bits is.ex_bits place
+    same_fields (suc t.last) w.0 row.thread.0 who.0 row.class name row.title title row.parent.0 (cond (has_flag style WS_CHILD) parent 0) (cond (eqb row.parent.0 0) (kept_kin.top_of t.live row.owner) nobody).0 (cond (has_flag style WS_CHILD) 0 (top_of (live past) parent))
+    number is.thread is.class_name is.title_name is.parent (owner_kept past t at parent row (has_flag style WS_CHILD) new.some_parent is.parent is.owner)
+
+all_unmapped : (P : Window → Type 0) (ws : List KeptWindow) → AllByRecursion P (map as_made ws) → AllByRecursion (λ x. P (as_made x)) ws
+all_unmapped P [] h = tt
+all_unmapped P (x ∷ ws) h = (h.0, all_unmapped P ws h.1)
+
+-- the numbers of the table are no higher than the last that was given
+numbers_low : (setup : Setup) (past : Past) (t : Windows) → IsLawful setup past → IsTreeAt past t → AllByRecursion (λ x. x.number.0 ≤ t.last) t.live
+numbers_low setup past t lawful at =
+    let between = all_between 15 (15 + length (windows_made past)) (live past) (sound setup past lawful).rising in
+    let kept = all_unmapped (IsBetween 15 (15 + length (windows_made past))) t.live (subst (AllByRecursion (IsBetween 15 (15 + length (windows_made past)))) (sym at.windows) between) in
+    all_weaker (λ x. IsBetween 15 (15 + length (windows_made past)) (as_made x)) (λ x. x.number.0 ≤ t.last) (λ x b. let last = at.last in omega (arith, b.within, last)) t.live kept
+
+-- what was set of the other windows stays where a window is made
+old_looks : (past : Past) (t : Windows) (who : Thread) (name title parent style ex : ℕ) (l top r b : ℤ) (w : Hwnd) → AllByRecursion (λ x. x.number.0 ≤ t.last) t.live → suc t.last ≡ w.0 → AllByRecursion (HasLooks past) t.live → AllByRecursion (HasLooks (entry_of who (calls.NewWindow name title parent style ex l top r b) (answers.Window w) ∷ past)) t.live
+old_looks past t who name title parent style ex l top r b w low number looks =
+    let e = entry_of who (calls.NewWindow name title parent style ex l top r b) (answers.Window w) in
+    all_weaker (λ x. (x.number.0 ≤ t.last) × HasLooks past x) (HasLooks (e ∷ past)) (λ x both.
+        let other : eqb w.0 x.number.0 ≡ false = (let h = both.0 in grind (arith, nat_tests, h, number)) in
+        looks_same past (e ∷ past) x (looks-same e past x.number.0 (sets_other x.number.0 w name title parent style ex l top r b other)) both.1)
+    t.live (all_both (λ x. x.number.0 ≤ t.last) (HasLooks past) t.live low looks)
 
 -- a window is made
 pub tree_new : (setup : Setup) (past : Past) (t : Windows) (who : Thread) (name title parent style ex : ℕ) (l top r b : ℤ) (w : Hwnd) (row : WindowRow) → IsLawful setup past → IsTreeAt past t → reply setup past who.0 (calls.NewWindow name title parent style ex l top r b) ≡ answers.Window w → IsRowOf who.0 name title parent style ex row → box_in row.place ≡ box l top r b → IsTreeAt (entry_of who (calls.NewWindow name title parent style ex l top r b) (answers.Window w) ∷ past) (with_window t row)
@@ -67,12 +93,14 @@ tree_new setup past t who name title parent style ex l top r b w row lawful at r
     let new = new_window_told setup past who.0 name title parent style ex l top r b w right in
     let over : 15 + length (windows_made past) < suc t.last = (let h = at.last in omega (arith, h)) in
     let z = made (next_number t) (settled t.live row) in
+    let number : suc t.last ≡ w.0 = (let n = at.last in let i = ap (λ (v : Hwnd). v.0) new.is_next in omega (arith, n, i)) in
+    let looks = looks-new past who name title parent style ex l top r b w (suc t.last) (eq-eqb w.0 (suc t.last) (sym number)) in
     record {
       last = (let h = at.last in omega (arith, h, ap (λ (ns : List ℕ). length ns) (windows_made-next e past refl), length-append (windows_made past) (w.0 ∷ [])));
       windows =
           map-append as_made t.live (z ∷ [])
           ∙ (ap (λ (ws : List Window). ws ++ as_made z ∷ []) at.windows
-          ∙ (ap (λ (x : Window). live past ++ x ∷ []) (new_as_made setup past t who name title parent style ex l top r b w row at is place new)
+          ∙ (ap (λ (x : Window). live past ++ x ∷ []) (new_as_made setup past t who name title parent style ex l top r b w row at is new)
           ∙ sym (live-new past who name title parent style ex l top r b w)));
       marks = all_append (HasMarks (e ∷ past)) t.live (z ∷ [])
           (all_weaker (HasMarks past) (HasMarks (e ∷ past)) (λ x h. record {
@@ -87,6 +115,9 @@ tree_new setup past t who name title parent style ex l top r b w row lawful at r
             },
             tt,
           );
+      looks = all_append (HasLooks (e ∷ past)) t.live (z ∷ [])
+          (old_looks past t who name title parent style ex l top r b w (numbers_low setup past t lawful at) number at.looks)
+          (record { style = is.style_bits ∙ sym looks.style; ex = is.ex_bits ∙ sym looks.ex; place = place ∙ sym looks.place }, tt);
     }
 
 -- a live window that isn't marked, or 0, may be a parent

@@ -10,7 +10,7 @@ use Rattle.post_queue.specs.Queue.{Posted, post_of, without_number, without_wind
 use Rattle.user_model.specs.declared.entry.Setup.{Setup}
 use Rattle.user_model.specs.Past.{Past}
 use Rattle.user_model.specs.Windows.{Window, live, find_window, is_kin}
-use Rattle.user_model.specs.Posts.{PostedMsg, posted}
+use Rattle.user_model.specs.Posts.{PostedMsg, post_after, posted}
 use Rattle.user_model.specs.ReplyDelivery.{next_post_number}
 use Rattle.user_model.specs.Legal.{IsLawful}
 use Rattle.user_model.proofs.ListLaws.{filter_same, filter_every, filter_twice}
@@ -34,8 +34,8 @@ same_number a b = elim (eqb_tells a b) [
 ]
 
 -- taking out a number
-pub without_number-kept : (xs : List PostedMsg) (n : ℕ) → without_number (map as_kept xs) n ≡ map as_kept (filter (λ x. not (eqb n x.0)) xs)
-without_number-kept xs n = map_filter as_kept (λ p. not (eqb p.number n)) (λ x. not (eqb n x.0)) (λ x. ap not (same_number x.0 n)) xs
+pub without_number-kept : (xs : List PostedMsg) (n : ℕ) → without_number (map as_kept xs) n ≡ map as_kept (filter (λ x. not (eqb n x.number)) xs)
+without_number-kept xs n = map_filter as_kept (λ p. not (eqb p.number n)) (λ x. not (eqb n x.number)) (λ x. ap not (same_number x.number n)) xs
 
 none_of : (a b : Bool) → (not b && not a) ≡ not (a || b)
 none_of true true = refl
@@ -77,20 +77,20 @@ pub kin_numbers : (past : Past) (v w : ℕ) → list_any (λ u. eqb w u) (kin_of
 kin_numbers past v w = numbers_that (is_kin (live past) v) (live past) w
 
 -- taking out the windows that go with v, one after another
-pub without_kin : (past : Past) (v : ℕ) (xs : List PostedMsg) → without_windows (map as_kept xs) (kin_of past v) ≡ map as_kept (filter (λ x. not (goes_with past v x.1.hwnd.0)) xs)
+pub without_kin : (past : Past) (v : ℕ) (xs : List PostedMsg) → without_windows (map as_kept xs) (kin_of past v) ≡ map as_kept (filter (λ x. not (goes_with past v x.msg.hwnd.0)) xs)
 without_kin past v xs =
     without_windows-is (kin_of past v) (map as_kept xs)
-    ∙ map_filter as_kept (λ p. not (list_any (λ w. eqb p.msg.hwnd.0 w) (kin_of past v))) (λ x. not (goes_with past v x.1.hwnd.0)) (λ x. ap not (kin_numbers past v x.1.hwnd.0)) xs
+    ∙ map_filter as_kept (λ p. not (list_any (λ w. eqb p.msg.hwnd.0 w) (kin_of past v))) (λ x. not (goes_with past v x.msg.hwnd.0)) (λ x. ap not (kin_numbers past v x.msg.hwnd.0)) xs
 
 -- one message more
-pub kept_more : (xs : List PostedMsg) (k : ℕ) (m : Msg) → map as_kept (xs ++ (k, m) ∷ []) ≡ map as_kept xs ++ post_of k m ∷ []
-kept_more xs k m = map-append as_kept xs ((k, m) ∷ [])
+pub kept_more : (past : Past) (xs : List PostedMsg) (k : ℕ) (m : Msg) → map as_kept (xs ++ post_after past k m ∷ []) ≡ map as_kept xs ++ post_of k m ∷ []
+kept_more past xs k m = map-append as_kept xs (post_after past k m ∷ [])
 
 -- a queue is as long as its list
 pub queue_length : (past : Past) (t : ℕ) → length (queue_at past t).posted ≡ length (posted past t)
 queue_length past t = length-map (posted past t) as_kept
 
-all_mapped : (n : ℕ) (xs : List PostedMsg) → AllByRecursion (λ x. x.0 < n) xs → AllByRecursion (λ p. p.number < n) (map as_kept xs)
+all_mapped : (n : ℕ) (xs : List PostedMsg) → AllByRecursion (λ x. x.number < n) xs → AllByRecursion (λ p. p.number < n) (map as_kept xs)
 all_mapped n [] h = tt
 all_mapped n (x ∷ xs) h = (h.0, all_mapped n xs h.1)
 

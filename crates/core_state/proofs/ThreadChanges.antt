@@ -1,6 +1,6 @@
 -- What one more entry does to what is kept of a thread.
 use Rattle.std.proofs.Common.{◌≡◌, ℕ, Bool, true, false, not, cond, eqb, List, [], ◌∷◌, ◌++◌, length, Option, Some, None, refl, ap, ◌∙◌, sym, inl, inr, arith}
-use Rattle.std.specs.Prelude.{map, filter, ◌||◌, ◌&&◌, unwrap_or, is_some}
+use Rattle.std.specs.Prelude.{map, filter, ◌||◌, ◌&&◌, unwrap_or, is_some, option_map}
 use Rattle.std.proofs.lemmas.Bool.{eqb-true, false≢true}
 use Rattle.std.proofs.lemmas.List.{append-nil}
 use Rattle.win_num.specs.declared.message.Msg.{Msg}
@@ -16,7 +16,7 @@ use Rattle.user_model.specs.Past.{Past, is_refusal, unless_refused}
 use Rattle.user_model.specs.Places.{clock, cursor, has_ended, is_end, if_clock, time_told}
 use Rattle.user_model.specs.Windows.{thread_of}
 use Rattle.user_model.specs.Retrievals.{removes}
-use Rattle.user_model.specs.Posts.{PostedMsg, message, message_to, posts, posted, quit}
+use Rattle.user_model.specs.Posts.{PostedMsg, PostedQuit, message, post_after, quit_after, message_to, posts, posted, quit}
 use Rattle.user_model.specs.Idle.{reply, last_entry}
 use Rattle.user_model.specs.Legal.{IsLawful}
 use Rattle.user_model.proofs.ClockLaws.{clock-next, last_entry-next}
@@ -29,48 +29,48 @@ use Rattle.user_model.proofs.PostLaws.{GoWithin, goes_with, is_plain, posted-pla
 use Rattle.user_model.proofs.QuitLaws.{is_post_quit, is_got_quit, quit-plain, quit-posted, quit-taken, quit-other}
 use Rattle.user_model.proofs.WindowFacts.{kin_of_thread}
 use Rattle.user_model.proofs.WindowReplies.{drop_told}
-use Rattle.thread_state.specs.Threads.{ThreadView, as_kept, queue_with, thread_at, waiting_with, waiting_call}
+use Rattle.thread_state.specs.Threads.{ThreadView, as_kept, code_of, queue_with, thread_at, waiting_with, waiting_call}
 use Rattle.core_state.specs.Changes.{Change, posts as posts_one, takes, quits, none, change_by, change_of, kin_of, changed, noted, thread_after, count_kept, time_kept, time_told_to, queue_more, without_windows}
 use Rattle.core_state.proofs.QueueLists.{without_number-kept, without_kin, kept_more}
 
 -- ---- one thread from its parts
 
-view : List PostedMsg → Option ℕ → Bool → Option Call → ThreadView
-view xs q ended waiting = record { queue = queue_with xs; quit = q; ended = ended; waiting = waiting }
+view : List PostedMsg → Option PostedQuit → Bool → Option Call → ThreadView
+view xs q ended waiting = record { queue = queue_with xs; quit = option_map code_of q; ended = ended; waiting = waiting }
 
 -- the thread after the entry, but for what it waits with
 half : Past → ℕ → Entry → ThreadView
 half past t e = view (posted (e ∷ past) t) (quit (e ∷ past) t) (has_ended (e ∷ past) t) (waiting_call (last_entry past t))
 
-same_view : (xs ys : List PostedMsg) (q r : Option ℕ) (en fn : Bool) (w : Option Call) → ys ≡ xs → r ≡ q → fn ≡ en → view xs q en w ≡ view ys r fn w
-same_view xs ys q r en fn w e f g = ap (λ (x : List PostedMsg). view x q en w) (sym e) ∙ ap (λ (x : Option ℕ). view ys x en w) (sym f) ∙ ap (λ (x : Bool). view ys r x w) (sym g)
+same_view : (xs ys : List PostedMsg) (q r : Option PostedQuit) (en fn : Bool) (w : Option Call) → ys ≡ xs → r ≡ q → fn ≡ en → view xs q en w ≡ view ys r fn w
+same_view xs ys q r en fn w e f g = ap (λ (x : List PostedMsg). view x q en w) (sym e) ∙ ap (λ (x : Option PostedQuit). view ys x en w) (sym f) ∙ ap (λ (x : Bool). view ys r x w) (sym g)
 
 -- ---- each kind of change
 
-post_view : (b : Bool) (k : ℕ) (m : Msg) (xs : List PostedMsg) (q : Option ℕ) (en : Bool) (w : Option Call) → cond b (record { queue = queue_more (queue_with xs) k m; quit = q; ended = en; waiting = w }) (view xs q en w) ≡ view (xs ++ cond b ((k, m) ∷ []) []) q en w
+post_view : (past : Past) (b : Bool) (k : ℕ) (m : Msg) (xs : List PostedMsg) (q : Option PostedQuit) (en : Bool) (w : Option Call) → cond b (record { queue = queue_more (queue_with xs) k m; quit = option_map code_of q; ended = en; waiting = w }) (view xs q en w) ≡ view (xs ++ cond b (post_after past k m ∷ []) []) q en w
 unfolding view
-post_view true k m xs q en w = ap (λ (ps : List Posted). let v : ThreadView = record { queue = queue 10000 ps; quit = q; ended = en; waiting = w } in v) (sym (kept_more xs k m))
-post_view false k m xs q en w = ap (λ (ys : List PostedMsg). view ys q en w) (sym (append-nil xs))
+post_view past true k m xs q en w = ap (λ (ps : List Posted). let v : ThreadView = record { queue = queue 10000 ps; quit = option_map code_of q; ended = en; waiting = w } in v) (sym (kept_more past xs k m))
+post_view past false k m xs q en w = ap (λ (ys : List PostedMsg). view ys q en w) (sym (append-nil xs))
 
-take_view : (b : Bool) (n : ℕ) (xs : List PostedMsg) (q : Option ℕ) (en : Bool) (w : Option Call) → cond b (record { queue = queue 10000 (without_number (map as_kept xs) n); quit = q; ended = en; waiting = w }) (view xs q en w) ≡ view (cond b (filter (λ x. not (eqb n x.0)) xs) xs) q en w
+take_view : (b : Bool) (n : ℕ) (xs : List PostedMsg) (q : Option PostedQuit) (en : Bool) (w : Option Call) → cond b (record { queue = queue 10000 (without_number (map as_kept xs) n); quit = option_map code_of q; ended = en; waiting = w }) (view xs q en w) ≡ view (cond b (filter (λ x. not (eqb n x.number)) xs) xs) q en w
 unfolding view
-take_view true n xs q en w = ap (λ (ps : List Posted). let v : ThreadView = record { queue = queue 10000 ps; quit = q; ended = en; waiting = w } in v) (without_number-kept xs n)
+take_view true n xs q en w = ap (λ (ps : List Posted). let v : ThreadView = record { queue = queue 10000 ps; quit = option_map code_of q; ended = en; waiting = w } in v) (without_number-kept xs n)
 take_view false n xs q en w = refl
 
-quit_view : (b : Bool) (xs : List PostedMsg) (q r : Option ℕ) (en : Bool) (w : Option Call) → cond b (view xs r en w) (view xs q en w) ≡ view xs (cond b r q) en w
+quit_view : (b : Bool) (xs : List PostedMsg) (q r : Option PostedQuit) (en : Bool) (w : Option Call) → cond b (view xs r en w) (view xs q en w) ≡ view xs (cond b r q) en w
 quit_view true xs q r en w = refl
 quit_view false xs q r en w = refl
 
-purge_view : (past : Past) (b : Bool) (v : ℕ) (xs : List PostedMsg) (q : Option ℕ) (en : Bool) (w : Option Call) → cond b (record { queue = queue 10000 (without_windows (map as_kept xs) (kin_of past v)); quit = q; ended = en; waiting = w }) (view xs q en w) ≡ view (cond b (filter (λ x. not (goes_with past v x.1.hwnd.0)) xs) xs) q en w
+purge_view : (past : Past) (b : Bool) (v : ℕ) (xs : List PostedMsg) (q : Option PostedQuit) (en : Bool) (w : Option Call) → cond b (record { queue = queue 10000 (without_windows (map as_kept xs) (kin_of past v)); quit = option_map code_of q; ended = en; waiting = w }) (view xs q en w) ≡ view (cond b (filter (λ x. not (goes_with past v x.msg.hwnd.0)) xs) xs) q en w
 unfolding view
-purge_view past true v xs q en w = ap (λ (ps : List Posted). let v : ThreadView = record { queue = queue 10000 ps; quit = q; ended = en; waiting = w } in v) (without_kin past v xs)
+purge_view past true v xs q en w = ap (λ (ps : List Posted). let v : ThreadView = record { queue = queue 10000 ps; quit = option_map code_of q; ended = en; waiting = w } in v) (without_kin past v xs)
 purge_view past false v xs q en w = refl
 
-end_view : (b : Bool) (xs : List PostedMsg) (q : Option ℕ) (en : Bool) (w : Option Call) → cond b (view [] q true w) (view xs q en w) ≡ view (cond b [] xs) q (b || en) w
+end_view : (b : Bool) (xs : List PostedMsg) (q : Option PostedQuit) (en : Bool) (w : Option Call) → cond b (view [] q true w) (view xs q en w) ≡ view (cond b [] xs) q (b || en) w
 end_view true xs q en w = refl
 end_view false xs q en w = refl
 
-note_view : (b : Bool) (xs : List PostedMsg) (q : Option ℕ) (en : Bool) (e : Entry) (o : Option Entry) → cond b (view xs q en (waiting_with e)) (view xs q en (waiting_call o)) ≡ view xs q en (waiting_call (cond b (Some e) o))
+note_view : (b : Bool) (xs : List PostedMsg) (q : Option PostedQuit) (en : Bool) (e : Entry) (o : Option Entry) → cond b (view xs q en (waiting_with e)) (view xs q en (waiting_call o)) ≡ view xs q en (waiting_call (cond b (Some e) o))
 note_view true xs q en e o = refl
 note_view false xs q en e o = refl
 
@@ -97,7 +97,7 @@ unfolding half view
 changed_post setup past t k e is right =
     let p = post_told setup past e.who.0 e.call k (by_row setup past e.who.0 e.call (answers.Posted k) (sym right) refl).is_row in
     ap (λ (c : Change). changed t c (thread_at past t)) (change_posted setup past e.who.0 e.call k p)
-    ∙ post_view (eqb p.to t) k (message_of p) (posted past t) (quit past t) (has_ended past t) (waiting_call (last_entry past t))
+    ∙ post_view past (eqb p.to t) k (message_of p) (posted past t) (quit past t) (has_ended past t) (waiting_call (last_entry past t))
     ∙ same_view (posted past t ++ message_to t k p.to p.hwnd p.number p.wparam p.lparam past) (posted (e ∷ past) t) (quit past t) (quit (e ∷ past) t) (has_ended past t) (has_ended (e ∷ past) t) (waiting_call (last_entry past t)) (posted-post setup e past t k is p) (quit-other e past t (post_no_quit setup past e.who.0 e.call k p) (ap is_got_quit is)) (has_ended-same e past t (ap is_end is))
 
 retrieves_no_quit : (call : Call) → is_some (retrieves call) ≡ true → is_post_quit call ≡ false
@@ -114,7 +114,7 @@ changed_take setup past t n m e lawful is right =
     let taken = take_told setup past e.who.0 e.call n m (by_row setup past e.who.0 e.call (answers.Got origins.Posted n m) (sym right) refl).is_row in
     taken_view t e.who.0 n (removes e.call) (thread_at past t)
     ∙ take_view (removes e.call && eqb e.who.0 t) n (posted past t) (quit past t) (has_ended past t) (waiting_call (last_entry past t))
-    ∙ same_view (cond (removes e.call && eqb e.who.0 t) (filter (λ x. not (eqb n x.0)) (posted past t)) (posted past t)) (posted (e ∷ past) t) (quit past t) (quit (e ∷ past) t) (has_ended past t) (has_ended (e ∷ past) t) (waiting_call (last_entry past t)) (posted-got setup e past t n m lawful is taken) (quit-other e past t (retrieves_no_quit e.call (ap is_some taken.is_call)) (ap is_got_quit is)) (has_ended-same e past t (ap is_end is))
+    ∙ same_view (cond (removes e.call && eqb e.who.0 t) (filter (λ x. not (eqb n x.number)) (posted past t)) (posted past t)) (posted (e ∷ past) t) (quit past t) (quit (e ∷ past) t) (has_ended past t) (has_ended (e ∷ past) t) (waiting_call (last_entry past t)) (posted-got setup e past t n m lawful is taken) (quit-other e past t (retrieves_no_quit e.call (ap is_some taken.is_call)) (ap is_got_quit is)) (has_ended-same e past t (ap is_end is))
 
 quit_taken_view : (t who : ℕ) (b : Bool) (v : ThreadView) → changed t (cond b (quits who None) none) v ≡ cond (b && eqb who t) (record v { quit = None }) v
 quit_taken_view t who true v = refl
@@ -138,21 +138,21 @@ changed_end setup past t e lawful is right =
 go_within : (setup : Setup) (past : Past) (who v : ℕ) → IsLawful setup past → answers.Okay ≡ reply setup past who (Drop v) → GoWithin past v who
 go_within setup past who v lawful right w x e k = sym (kin_of_thread setup past v w x lawful e k) ∙ eqb-true (thread_of past v) who (drop_told setup past who v (sym right)).0.own
 
-dropped_own : (setup : Setup) (past : Past) (t v : ℕ) (e : Entry) → IsLawful setup past → e.call ≡ Drop v → e.answer ≡ answers.Okay → answers.Okay ≡ reply setup past e.who.0 (Drop v) → posted (e ∷ past) t ≡ cond (eqb e.who.0 t) (filter (λ x. not (goes_with past v x.1.hwnd.0)) (posted past t)) (posted past t)
+dropped_own : (setup : Setup) (past : Past) (t v : ℕ) (e : Entry) → IsLawful setup past → e.call ≡ Drop v → e.answer ≡ answers.Okay → answers.Okay ≡ reply setup past e.who.0 (Drop v) → posted (e ∷ past) t ≡ cond (eqb e.who.0 t) (filter (λ x. not (goes_with past v x.msg.hwnd.0)) (posted past t)) (posted past t)
 dropped_own setup past t v e lawful call is right = pick (eqb e.who.0 t) refl
   where
-    pick : (b : Bool) → eqb e.who.0 t ≡ b → posted (e ∷ past) t ≡ cond b (filter (λ x. not (goes_with past v x.1.hwnd.0)) (posted past t)) (posted past t)
+    pick : (b : Bool) → eqb e.who.0 t ≡ b → posted (e ∷ past) t ≡ cond b (filter (λ x. not (goes_with past v x.msg.hwnd.0)) (posted past t)) (posted past t)
     pick true same = posted-drop e past t v call is
     pick false differs = posted-drop-other setup e past t v lawful call is (go_within setup past e.who.0 v lawful right) differs
 
 changed_okay : (setup : Setup) (past : Past) (t : ℕ) (e : Entry) (call : Call) → IsLawful setup past → e.answer ≡ answers.Okay → e.call ≡ call → answers.Okay ≡ reply setup past e.who.0 call → changed t (change_by past e.who.0 answers.Okay call) (thread_at past t) ≡ half past t e
 unfolding half view
 changed_okay setup past t e (PostQuit code) lawful is call right =
-    quit_view (eqb e.who.0 t) (posted past t) (quit past t) (Some code) (has_ended past t) (waiting_call (last_entry past t))
-    ∙ same_view (posted past t) (posted (e ∷ past) t) (cond (eqb e.who.0 t) (Some code) (quit past t)) (quit (e ∷ past) t) (has_ended past t) (has_ended (e ∷ past) t) (waiting_call (last_entry past t)) (posted-okay e past t is (ap is_drop call)) (quit-posted e past t code (ap is_refusal is) call) (has_ended-same e past t (ap is_end is))
+    quit_view (eqb e.who.0 t) (posted past t) (quit past t) (Some (quit_after past code)) (has_ended past t) (waiting_call (last_entry past t))
+    ∙ same_view (posted past t) (posted (e ∷ past) t) (cond (eqb e.who.0 t) (Some (quit_after past code)) (quit past t)) (quit (e ∷ past) t) (has_ended past t) (has_ended (e ∷ past) t) (waiting_call (last_entry past t)) (posted-okay e past t is (ap is_drop call)) (quit-posted e past t code (ap is_refusal is) call) (has_ended-same e past t (ap is_end is))
 changed_okay setup past t e (Drop v) lawful is call right =
     purge_view past (eqb e.who.0 t) v (posted past t) (quit past t) (has_ended past t) (waiting_call (last_entry past t))
-    ∙ same_view (cond (eqb e.who.0 t) (filter (λ x. not (goes_with past v x.1.hwnd.0)) (posted past t)) (posted past t)) (posted (e ∷ past) t) (quit past t) (quit (e ∷ past) t) (has_ended past t) (has_ended (e ∷ past) t) (waiting_call (last_entry past t)) (dropped_own setup past t v e lawful call is right) (quit-other e past t (ap is_post_quit call) (ap is_got_quit is)) (has_ended-same e past t (ap is_end is))
+    ∙ same_view (cond (eqb e.who.0 t) (filter (λ x. not (goes_with past v x.msg.hwnd.0)) (posted past t)) (posted past t)) (posted (e ∷ past) t) (quit past t) (quit (e ∷ past) t) (has_ended past t) (has_ended (e ∷ past) t) (waiting_call (last_entry past t)) (dropped_own setup past t v e lawful call is right) (quit-other e past t (ap is_post_quit call) (ap is_got_quit is)) (has_ended-same e past t (ap is_end is))
 changed_okay setup past t e _ lawful is call right = changed_none setup past t e (posted-okay e past t is (ap is_drop call)) (quit-other e past t (ap is_post_quit call) (ap is_got_quit is)) (ap is_end is)
 
 plain_is_no_end : (a : Answer) → is_plain a ≡ true → is_end a ≡ false

@@ -30,7 +30,7 @@ use Rattle.core_state.proofs.Destructions.{as_step, destruction_made, destructio
 
 -- the table of no past
 pub tree_empty : IsTreeAt [] no_windows
-tree_empty = record { last = refl; windows = refl; marks = tt }
+tree_empty = record { last = refl; windows = refl; marks = tt; looks = tt }
 
 -- what is found passes
 pub found_passes : {X : Type 0} (p : X → Bool) (xs : List X) (x : X) → find p xs ≡ Some x → p x ≡ true

@@ -1,6 +1,7 @@
 -- The table of windows at a past with one entry more.
 use Rattle.std.proofs.Common.{◌≡◌, ℕ, ◌+◌, Bool, true, false, not, eqb, List, [], ◌∷◌, ◌++◌, map, length, refl, ap, ◌∙◌, sym, inl, inr}
 use Rattle.std.specs.Prelude.{◌||◌, filter}
+use Rattle.std.specs.List.{AllByRecursion}
 use Rattle.std.proofs.lemmas.Bool.{cases_Bool, eqb-true, eq-eqb, ne_eqb, eqb-false, true≢false, or_from}
 use Rattle.std.proofs.lemmas.List.{append-nil}
 use Rattle.win_num.specs.declared.message.Hwnd.{Hwnd}
@@ -29,7 +30,8 @@ use Rattle.user_model.proofs.Steps.{all_map}
 use Rattle.user_model.proofs.WindowLaws.{live-refused, live-next, live-same, windows_made-same, is_marked-next, is_marked-same, was_given-next, was_given-same}
 use Rattle.user_model.proofs.WindowReplies.{doom_okay, drop_okay}
 use Rattle.user_model.proofs.LiveWindows.{made_by-other}
-use Rattle.core_state.specs.Trees.{as_made, HasMarks, IsTreeAt}
+use Rattle.user_model.proofs.WindowLooks.{LooksStay, looks-same, looks-refused, sets_none}
+use Rattle.core_state.specs.Trees.{as_made, HasLooks, HasMarks, IsTreeAt}
 use Rattle.core_state.proofs.Bridges.{filter_made}
 use Rattle.core_state.proofs.TreeFacts.{is_kin_at}
 
@@ -44,12 +46,21 @@ eqb_swap m n = elim (cases_Bool (eqb n m)) [
 marks_same : (past : Past) (e : Entry) → ((w : ℕ) → is_marked (e ∷ past) w ≡ is_marked past w) → ((i : Step) → was_given (e ∷ past) i ≡ was_given past i) → (x : KeptWindow) → HasMarks past x → HasMarks (e ∷ past) x
 marks_same past e m g x h = record { marked = h.marked ∙ sym (m x.number.0); told = h.told ∙ sym (g (told x.number.0)); ended = h.ended ∙ sym (g (ended x.number.0)) }
 
+-- what was set of a window, where an entry leaves that
+pub looks_same : (past late : Past) (x : KeptWindow) → LooksStay past late x.number.0 → HasLooks past x → HasLooks late x
+looks_same past late x stay h = record { style = h.style ∙ sym stay.style; ex = h.ex ∙ sym stay.ex; place = h.place ∙ sym stay.place }
+
+-- the same of all windows of a table, where an entry gives no number
+all_looks : (past : Past) (e : Entry) (ws : List KeptWindow) → numbers_made e.answer e.call ≡ [] → AllByRecursion (HasLooks past) ws → AllByRecursion (HasLooks (e ∷ past)) ws
+all_looks past e ws none = all_weaker (HasLooks past) (HasLooks (e ∷ past)) (λ x. looks_same past (e ∷ past) x (looks-same e past x.number.0 (sets_none x.number.0 e.answer e.call none))) ws
+
 -- an entry that makes, drops, dooms and gives nothing leaves the table
 pub tree_same : (past : Past) (e : Entry) (t : Windows) → IsTreeAt past t → made_by e.who.0 e.answer e.call (live past) ≡ [] → numbers_made e.answer e.call ≡ [] → ((x : Window) → drops e (live past) x ≡ false) → ((w : ℕ) → dooms e.call past w ≡ false) → ((i : Step) → gives e.answer i ≡ false) → IsTreeAt (e ∷ past) t
 tree_same past e t at none no_number keeps no_doom no_step = record {
   last = at.last ∙ ap (λ (ns : List ℕ). 15 + length ns) (sym (windows_made-same e past no_number));
   windows = at.windows ∙ sym (live-same e past none keeps);
   marks = all_weaker (HasMarks past) (HasMarks (e ∷ past)) (marks_same past e (λ w. is_marked-same e past w (no_doom w)) (λ i. was_given-same e past i (no_step i))) t.live at.marks;
+  looks = all_looks past e t.live no_number at.looks;
 }
 
 -- a refused entry leaves the table
@@ -60,6 +71,7 @@ tree_refused past e t at h = record {
   marks = all_weaker (HasMarks past) (HasMarks (e ∷ past)) (marks_same past e
       (λ w. first_way (is_refused e) (is_marked past w) (elim (is_marked past w) as (λ c. Bool) [ true ↦ true | false ↦ dooms e.call past w ]) h)
       (λ i. first_way (is_refused e) (was_given past i) (elim (was_given past i) as (λ c. Bool) [ true ↦ true | false ↦ gives e.answer i ]) h)) t.live at.marks;
+  looks = all_weaker (HasLooks past) (HasLooks (e ∷ past)) (λ x. looks_same past (e ∷ past) x (looks-refused e past x.number.0 h)) t.live at.looks;
 }
 
 -- whether an answered call may change the table
@@ -119,18 +131,19 @@ same_made f h [] = refl
 same_made f h (x ∷ ws) = ap (λ (y : Window). y ∷ map as_made (map f ws)) (h x) ∙ ap (λ (ys : List Window). as_made x ∷ ys) (same_made f h ws)
 
 -- an entry that changes marks alone, of each window as the table does
-remarked : (past : Past) (e : Entry) (t : Windows) (f : KeptWindow → KeptWindow) → IsTreeAt past t → numbers_made e.answer e.call ≡ [] → live (e ∷ past) ≡ live past → ((x : KeptWindow) → as_made (f x) ≡ as_made x) → ((x : KeptWindow) → HasMarks past x → HasMarks (e ∷ past) (f x)) → IsTreeAt (e ∷ past) (record t { live = map f t.live })
-remarked past e t f at none same made mark = record {
+remarked : (past : Past) (e : Entry) (t : Windows) (f : KeptWindow → KeptWindow) → IsTreeAt past t → numbers_made e.answer e.call ≡ [] → live (e ∷ past) ≡ live past → ((x : KeptWindow) → as_made (f x) ≡ as_made x) → ((x : KeptWindow) → HasLooks (e ∷ past) x → HasLooks (e ∷ past) (f x)) → ((x : KeptWindow) → HasMarks past x → HasMarks (e ∷ past) (f x)) → IsTreeAt (e ∷ past) (record t { live = map f t.live })
+remarked past e t f at none same made look mark = record {
   last = at.last ∙ ap (λ (ns : List ℕ). 15 + length ns) (sym (windows_made-same e past none));
   windows = same_made f made t.live ∙ (at.windows ∙ sym same);
   marks = all_map (HasMarks (e ∷ past)) (HasMarks past) f mark t.live at.marks;
+  looks = all_map (HasLooks (e ∷ past)) (HasLooks (e ∷ past)) f look t.live (all_looks past e t.live none at.looks);
 }
 
 -- a window with its kin is marked
 pub tree_doom : (past : Past) (t : Windows) (who : Thread) (v : ℕ) → IsTreeAt past t → IsTreeAt (entry_of who (calls.Doom v) answers.Okay ∷ past) (record t { live = doomed t.live v })
 tree_doom past t who v at =
     let e = entry_of who (calls.Doom v) answers.Okay in
-    remarked past e t (doomed_if t.live v) at refl (live-same e past refl (λ x. refl)) (λ x. refl)
+    remarked past e t (doomed_if t.live v) at refl (live-same e past refl (λ x. refl)) (λ x. refl) (λ x h. record { style = h.style; ex = h.ex; place = h.place })
     (λ x h. record {
       marked = ap (λ b. b || kept_kin.is_kin t.live v x.number.0) h.marked ∙ (ap (λ b. is_marked past x.number.0 || b) (sym (is_kin_at past t at v x.number.0)) ∙ sym (is_marked-next e past x.number.0 refl));
       told = h.told ∙ sym (was_given-same e past (told x.number.0) refl);
@@ -141,7 +154,7 @@ tree_doom past t who v at =
 pub tree_tell : (past : Past) (t : Windows) (who : Thread) (w : ℕ) (v : Hwnd) → IsTreeAt past t → IsTreeAt (entry_of who (calls.Unmake w) (answers.Tell v) ∷ past) (record t { live = given (unmade_as.Tell v) t.live })
 tree_tell past t who w v at =
     let e = entry_of who (calls.Unmake w) (answers.Tell v) in
-    remarked past e t (told_if v.0) at refl (live-same e past refl (λ x. refl)) (λ x. refl)
+    remarked past e t (told_if v.0) at refl (live-same e past refl (λ x. refl)) (λ x. refl) (λ x h. record { style = h.style; ex = h.ex; place = h.place })
     (λ x h. record {
       marked = h.marked ∙ sym (is_marked-same e past x.number.0 refl);
       told = ap (λ b. b || eqb x.number.0 v.0) h.told ∙ (ap (λ b. was_given past (told x.number.0) || b) (eqb_swap x.number.0 v.0) ∙ sym (was_given-next e past (told x.number.0) refl));
@@ -152,7 +165,7 @@ tree_tell past t who w v at =
 pub tree_last : (past : Past) (t : Windows) (who : Thread) (w : ℕ) (v : Hwnd) → IsTreeAt past t → IsTreeAt (entry_of who (calls.Unmake w) (answers.Last v) ∷ past) (record t { live = given (unmade_as.Last v) t.live })
 tree_last past t who w v at =
     let e = entry_of who (calls.Unmake w) (answers.Last v) in
-    remarked past e t (ended_if v.0) at refl (live-same e past refl (λ x. refl)) (λ x. refl)
+    remarked past e t (ended_if v.0) at refl (live-same e past refl (λ x. refl)) (λ x. refl) (λ x h. record { style = h.style; ex = h.ex; place = h.place })
     (λ x h. record {
       marked = h.marked ∙ sym (is_marked-same e past x.number.0 refl);
       told = h.told ∙ sym (was_given-same e past (told x.number.0) refl);
@@ -170,6 +183,7 @@ taken_out past e t q at right none no_number agree no_doom no_step = record {
       ∙ (ap (λ ws. filter (λ x. not (drops e (live past) x)) (live past) ++ ws) (sym none)
       ∙ sym (live-next e past right))));
   marks = all_filter (HasMarks (e ∷ past)) q t.live (all_weaker (HasMarks past) (HasMarks (e ∷ past)) (marks_same past e (λ w. is_marked-same e past w (no_doom w)) (λ i. was_given-same e past i (no_step i))) t.live at.marks);
+  looks = all_filter (HasLooks (e ∷ past)) q t.live (all_looks past e t.live no_number at.looks);
 }
 
 or_none : (b : Bool) → (b || false) ≡ b

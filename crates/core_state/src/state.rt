@@ -5,7 +5,7 @@ ghost use Rattle.win_num.specs.Clocks.{clock_limit};
 ghost use Rattle.user_model.specs.Legal.{IsLegal};
 ghost use Rattle.user_model.specs.Past.{is_full};
 ghost use Rattle.user_model.specs.Places.{clock, cursor, has_ended};
-ghost use Rattle.user_model.specs.Posts.{posted, first_post, quit};
+ghost use Rattle.user_model.specs.Posts.{first_post, posted, quit};
 ghost use Rattle.user_model.specs.ReplyDelivery.{next_post_number};
 ghost use Rattle.user_model.specs.ReplyWindows.{next_window, next_top_reply};
 ghost use Rattle.user_model.specs.Setups.{IsSetup};
@@ -22,7 +22,7 @@ ghost use Rattle.user_model.specs.Windows.{live, window, is_live, thread_of, up,
 ghost use Rattle.user_model.specs.Destruction.{is_marked, was_given, ended};
 ghost use Rattle.user_model.specs.Classes.{class, classes, registered_count, is_used, message_names, message_number, proc_of};
 ghost use Rattle.user_model.specs.Idle.{reply, is_idle, ends_stuck, last_entry, one_of, times_of};
-ghost use Rattle.thread_state.specs.Threads.{fresh_thread, waiting_call};
+ghost use Rattle.thread_state.specs.Threads.{code_of, fresh_thread, told_post, waiting_call};
 ghost use Rattle.core_state.specs.Steps.{destruction_answer, told_of, up_of};
 
 use crate::change::{grow, settle};
@@ -191,7 +191,7 @@ impl CoreState {
     pub fn first_post(&self, thread: u8, filter: Filter) -> Option<(u32, Msg)>
         requires some { 0 < thread }
         requires known { thread ≤ self.now.setup.threads }
-        ensures { result ≡ first_post self.now.past thread filter }
+        ensures { result ≡ option_map told_post (first_post self.now.past thread filter) }
     {
         self.threads[usize::from(thread - 1)].first(&self.tree, filter)
     }
@@ -200,7 +200,7 @@ impl CoreState {
     pub fn quit(&self, thread: u8) -> Option<u64>
         requires some { 0 < thread }
         requires known { thread ≤ self.now.setup.threads }
-        ensures { result ≡ quit self.now.past thread }
+        ensures { result ≡ option_map code_of (quit self.now.past thread) }
     {
         self.threads[usize::from(thread - 1)].quit()
     }

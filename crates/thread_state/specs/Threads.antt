@@ -1,16 +1,21 @@
 -- What is kept of one thread, and what the past says of it.
-use Rattle.std.specs.Prelude.{ℕ, Bool, false, if◌then◌else◌, List, [], map, Option, Some, None}
+use Rattle.std.specs.Prelude.{ℕ, Bool, false, if◌then◌else◌, List, [], map, Option, Some, None, option_map}
+use Rattle.win_num.specs.declared.message.Msg.{Msg}
 use Rattle.post_queue.specs.Queue.{Posted, Queue, queue, post_of}
 use Rattle.user_model.specs.declared.call.Call.{Call}
 use Rattle.user_model.specs.declared.entry.Entry.{Entry}
 use Rattle.user_model.specs.Past.{Past}
 use Rattle.user_model.specs.Places.{has_ended}
-use Rattle.user_model.specs.Posts.{PostedMsg, posted, quit}
+use Rattle.user_model.specs.Posts.{PostedMsg, PostedQuit, posted, quit}
 use Rattle.user_model.specs.Idle.{is_wait, last_entry}
 
 -- a posted message as a queue holds it
 abbrev pub as_kept : PostedMsg → Posted
-as_kept x = post_of x.0 x.1
+as_kept x = post_of x.number x.msg
+
+-- a posted message as it is told: its number and the message
+abbrev pub told_post : PostedMsg → ℕ × Msg
+told_post x = (x.number, x.msg)
 
 -- a queue of at most 10,000 messages
 abbrev pub queue_with : List PostedMsg → Queue
@@ -36,9 +41,13 @@ abbrev pub waiting_call : Option Entry → Option Call
 waiting_call None = None
 waiting_call (Some e) = waiting_with e
 
+-- the code of a quit
+abbrev pub code_of : PostedQuit → ℕ
+code_of q = q.code
+
 -- what the past says of a thread
 abbrev pub thread_at : Past → ℕ → ThreadView
-thread_at past t = record { queue = queue_at past t; quit = quit past t; ended = has_ended past t; waiting = waiting_call (last_entry past t) }
+thread_at past t = record { queue = queue_at past t; quit = option_map code_of (quit past t); ended = has_ended past t; waiting = waiting_call (last_entry past t) }
 
 -- a thread before the first entry
 abbrev pub fresh_thread : ThreadView

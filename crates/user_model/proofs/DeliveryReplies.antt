@@ -25,7 +25,7 @@ use Rattle.user_model.specs.Threads.{is_running}
 use Rattle.user_model.specs.Windows.{Window, window, is_live, thread_of}
 use Rattle.user_model.specs.Destruction.{Step, told, ended}
 use Rattle.user_model.specs.Filters.{filter_of, is_no_filter_window}
-use Rattle.user_model.specs.Posts.{PostedMsg, message, posted, queue_of, first_post, quit}
+use Rattle.user_model.specs.Posts.{PostedMsg, PostedQuit, message, posted, queue_of, first_post, quit}
 use Rattle.user_model.specs.Stacks.{top, has_room}
 use Rattle.user_model.specs.Sends.{SentMsg, Outcome, send, answer, unfinished}
 use Rattle.user_model.specs.Ready.{ReadyMsg, to_enter, to_call_back, ready_head}
@@ -63,19 +63,22 @@ pub record IsTaken (past : Past) (who : ℕ) (call : Call) (n : ℕ) (m : Msg) :
   pub pass : Filter
   pub is_call : retrieves call ≡ Some pass
   pub is_unready : next_ready past who ≡ None
-  pub is_first : first_post past who pass ≡ Some (n, m)
+  pub of : PostedMsg
+  pub is_first : first_post past who pass ≡ Some of
+  pub is_number : of.number ≡ n
+  pub is_message : of.msg ≡ m
 
 -- quit was retrieved: nothing is ready, no post is left, and quit stands with its code
 pub record IsQuit (past : Past) (who : ℕ) (call : Call) (n : ℕ) (m : Msg) : Type 0 where
   pub pass : Filter
   pub is_call : retrieves call ≡ Some pass
   pub is_unready : next_ready past who ≡ None
-  pub code : ℕ
+  pub of : PostedQuit
   pub is_none : first_post past who pass ≡ None
   pub is_last : posted past who ≡ []
-  pub stands : quit past who ≡ Some code
+  pub stands : quit past who ≡ Some of
   pub is_zero : n ≡ 0
-  pub is_message : m ≡ message 0 WM_QUIT code 0 (clock past) (cursor past)
+  pub is_message : m ≡ message 0 WM_QUIT of.code 0 (clock past) (cursor past)
 
 -- a retrieval with the filter finds no next message
 abbrev pub NoneComes : Setup → Past → ℕ → Call → Type 0
@@ -222,13 +225,13 @@ module _ (setup : Setup) (past : Past) (who : ℕ) (call : Call) (f : Filter) (i
   same_filter : (g : Filter) → retrieves call ≡ Some g → f ≡ g
   same_filter g h = let e : Some f ≡ Some g = sym is ∙ h in cc
 
-  quit_retrieved : next_ready past who ≡ None → first_post past who f ≡ None → (b : Bool) (q : Option ℕ) → is_empty (posted past who) ≡ b → quit past who ≡ q → Told setup past who call (unwrap_or (cond b (option_map (got_quit past) q) None) d)
-  quit_retrieved h k true (Some code) empty stands = record { tells = record { pass = f; is_call = is; is_unready = h; code = code; is_none = k; is_last = empty_is (posted past who) empty; stands = stands; is_zero = refl; is_message = refl } }
+  quit_retrieved : next_ready past who ≡ None → first_post past who f ≡ None → (b : Bool) (q : Option PostedQuit) → is_empty (posted past who) ≡ b → quit past who ≡ q → Told setup past who call (unwrap_or (cond b (option_map (got_quit past) q) None) d)
+  quit_retrieved h k true (Some x) empty stands = record { tells = record { pass = f; is_call = is; is_unready = h; of = x; is_none = k; is_last = empty_is (posted past who) empty; stands = stands; is_zero = refl; is_message = refl } }
   quit_retrieved h k true None empty stands = nothing (λ g same. subst (λ x. next setup past who x ≡ None) (same_filter g same) (none_after setup past who f h (ap (option_map got_posted) k) (ap (λ b. cond b (option_map (got_quit past) (quit past who)) None) empty ∙ ap (option_map (got_quit past)) stands)))
   quit_retrieved h k false q empty stands = nothing (λ g same. subst (λ x. next setup past who x ≡ None) (same_filter g same) (none_after setup past who f h (ap (option_map got_posted) k) (ap (λ b. cond b (option_map (got_quit past) (quit past who)) None) empty)))
 
   post_retrieved : next_ready past who ≡ None → (o : Option PostedMsg) → first_post past who f ≡ o → Told setup past who call (unwrap_or (or_else (option_map got_posted o) (next_quit past who)) d)
-  post_retrieved h (Some x) k = record { tells = record { pass = f; is_call = is; is_unready = h; is_first = k } }
+  post_retrieved h (Some x) k = record { tells = record { pass = f; is_call = is; is_unready = h; of = x; is_first = k; is_number = refl; is_message = refl } }
   post_retrieved h None k = quit_retrieved h k (is_empty (posted past who)) (quit past who) refl refl
 
   later_retrieved : (o : Option Answer) → next_ready past who ≡ o → Told setup past who call (unwrap_or (or_else o (or_else (next_posted past who f) (next_quit past who))) d)

@@ -32,4 +32,5 @@ pub mod TimeLaws
 pub mod WakeLaws
 pub mod WindowFacts
 pub mod WindowLaws
+pub mod WindowLooks
 pub mod WindowReplies

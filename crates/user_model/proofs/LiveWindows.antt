@@ -31,7 +31,7 @@ use Rattle.user_model.proofs.Forests.{IsRising, IsBetween, IsUnder, thread_in, t
 
 -- the window that a call makes
 abbrev pub new_window : Thread → ℕ → ℕ → ℕ → ℕ → ℕ → ℤ → ℤ → ℤ → ℤ → Hwnd → List Window → Window
-new_window who name title parent style ex l t r b w ws = record { number = w.0; thread = who.0; class = name; title = title; parent = cond (has_flag style WS_CHILD) parent 0; owner = cond (has_flag style WS_CHILD) 0 (top_of ws parent); style = style; ex = ex; place = box l t r b }
+new_window who name title parent style ex l t r b w ws = record { number = w.0; thread = who.0; class = name; title = title; parent = cond (has_flag style WS_CHILD) parent 0; owner = cond (has_flag style WS_CHILD) 0 (top_of ws parent) }
 
 -- an entry makes no window
 pub record MakesNone (past : Past) (e : Entry) : Type 0 where

@@ -16,7 +16,7 @@ use Rattle.user_model.specs.Places.{clock, cursor, is_end, ends_thread}
 use Rattle.user_model.specs.Threads.{is_running}
 use Rattle.user_model.specs.Windows.{Window, live, window, drops, drops_kin, drops_window}
 use Rattle.user_model.specs.Retrievals.{takes_post}
-use Rattle.user_model.specs.Posts.{PostedMsg, message, posts, posts_by, posts_to, message_to, queue_of, ends_post, posted}
+use Rattle.user_model.specs.Posts.{PostedMsg, message, post_after, posts, posts_by, posts_to, message_to, queue_of, ends_post, posted}
 use Rattle.user_model.specs.ReplyDelivery.{next_post_number}
 use Rattle.user_model.specs.Idle.{reply}
 use Rattle.user_model.specs.Legal.{IsLawful}
@@ -74,8 +74,8 @@ recipient_one setup who n call past k old p = elim p.is_call [
 
 -- a post to t that was made
 pub record IsOf (past : Past) (t : ℕ) (x : PostedMsg) : Type 0 where
-  pub old : x.0 ≤ length (posts past)
-  pub owned : recipient past x.0 ≡ t
+  pub old : x.number ≤ length (posts past)
+  pub owned : recipient past x.number ≡ t
 
 kept_recipient : (setup : Setup) (past : Past) (who : ℕ) (a : Answer) (call : Call) (k : ℕ) → a ≡ reply setup past who call → k ≤ length (posts past) → recipient_by who a call past k (recipient past k) ≡ recipient past k
 kept_recipient setup past who (answers.Posted n) call k e old =
@@ -88,19 +88,19 @@ kept_recipient setup past who a call k e old = recipient_none who a call past k 
 IsOf-more : (setup : Setup) (e : Entry) (past : Past) (t : ℕ) → e.answer ≡ reply setup past e.who.0 e.call → (x : PostedMsg) → IsOf past t x → IsOf (e ∷ past) t x
 IsOf-more setup e past t right x is = record {
   old = omega (arith, is.old, count-next e past, count_grows e.answer (length (posts past)));
-  owned = kept_recipient setup past e.who.0 e.answer e.call x.0 right is.old ∙ is.owned;
+  owned = kept_recipient setup past e.who.0 e.answer e.call x.number right is.old ∙ is.owned;
 }
 
 -- a new post is its thread's
 abbrev pub IsNew : Past → ℕ → ℕ → Answer → Call → PostedMsg → Type 0
-IsNew past t who a call x = (x.0 ≡ next_post_number past) × (x.0 ≤ count_after a (length (posts past))) × (recipient_by who a call past x.0 (recipient past x.0) ≡ t)
+IsNew past t who a call x = (x.number ≡ next_post_number past) × (x.number ≤ count_after a (length (posts past))) × (recipient_by who a call past x.number (recipient past x.number) ≡ t)
 
 pub all_new : (setup : Setup) (past : Past) (who t : ℕ) (a : Answer) (call : Call) → a ≡ reply setup past who call → AllByRecursion (IsNew past t who a call) (posts_by t who a call past)
 all_new setup past who t (answers.Posted k) call e =
     let made = number_told setup past who call k e in
     let itself : eqb k k ≡ true = grind (arith, nat_tests) in
     subst (AllByRecursion (IsNew past t who (answers.Posted k) call)) (sym (posts_one setup t who call past k made))
-    (all_one (IsNew past t who (answers.Posted k) call) (eqb made.to t) (k, message_of made)
+    (all_one (IsNew past t who (answers.Posted k) call) (eqb made.to t) (post_after past k (message_of made))
     (λ same. (made.is_next, omega (arith, made.is_next), recipient_one setup who k call past k (recipient past k) made ∙ ap (λ b. cond b made.to (recipient past k)) itself ∙ eqb-true made.to t same)))
 all_new setup past who t a call e = tt
 
@@ -189,31 +189,31 @@ post_runs setup past who call k p lawful running = elim p.is_call [
 pub post_is_no_drop : (setup : Setup) (past : Past) (who : ℕ) (call : Call) (k : ℕ) → IsPost setup past who call k → is_drop call ≡ false
 post_is_no_drop setup past who call k p = elim p.is_call [ inl x ↦ ap is_drop x.0 | inr x ↦ ap is_drop x.0 ]
 
-new_held : (setup : Setup) (e : Entry) (past : Past) (t : ℕ) (a : Answer) → e.answer ≡ a → a ≡ reply setup past e.who.0 e.call → AllByRecursion (λ x. IsHeld (e ∷ past) t x.1.hwnd.0) (posts_by t e.who.0 a e.call past)
+new_held : (setup : Setup) (e : Entry) (past : Past) (t : ℕ) (a : Answer) → e.answer ≡ a → a ≡ reply setup past e.who.0 e.call → AllByRecursion (λ x. IsHeld (e ∷ past) t x.msg.hwnd.0) (posts_by t e.who.0 a e.call past)
 new_held setup e past t (answers.Posted k) is right =
     let made = number_told setup past e.who.0 e.call k right in
     let stays : IsHeld (e ∷ past) made.to made.hwnd = held_more e past made.to made.hwnd (drops_none e past made.hwnd (post_is_no_drop setup past e.who.0 e.call k made) (ap is_end is)) (post_held setup past e.who.0 e.call k made) in
-    subst (AllByRecursion (λ (x : PostedMsg). IsHeld (e ∷ past) t x.1.hwnd.0)) (sym (posts_one setup t e.who.0 e.call past k made))
-    (all_one (λ (x : PostedMsg). IsHeld (e ∷ past) t x.1.hwnd.0) (eqb made.to t) (k, message_of made) (λ same. subst (λ u. IsHeld (e ∷ past) u made.hwnd) (eqb-true made.to t same) stays))
+    subst (AllByRecursion (λ (x : PostedMsg). IsHeld (e ∷ past) t x.msg.hwnd.0)) (sym (posts_one setup t e.who.0 e.call past k made))
+    (all_one (λ (x : PostedMsg). IsHeld (e ∷ past) t x.msg.hwnd.0) (eqb made.to t) (post_after past k (message_of made)) (λ same. subst (λ u. IsHeld (e ∷ past) u made.hwnd) (eqb-true made.to t same) stays))
 new_held setup e past t _ is right = tt
 
-kept_held : (e : Entry) (past : Past) (t : ℕ) (x : PostedMsg) → not (ends_post t e past x) ≡ true → IsHeld past t x.1.hwnd.0 → IsHeld (e ∷ past) t x.1.hwnd.0
+kept_held : (e : Entry) (past : Past) (t : ℕ) (x : PostedMsg) → not (ends_post t e past x) ≡ true → IsHeld past t x.msg.hwnd.0 → IsHeld (e ∷ past) t x.msg.hwnd.0
 kept_held e past t x kept held =
-    let parts = or_neither (takes_post e x.0 || drops_window e past x.1.hwnd.0) (ends_thread e t) (not_true (ends_post t e past x) kept) in
-    held_more e past t x.1.hwnd.0 (or_neither (takes_post e x.0) (drops_window e past x.1.hwnd.0) parts.0).1 held
+    let parts = or_neither (takes_post e x.number || drops_window e past x.msg.hwnd.0) (ends_thread e t) (not_true (ends_post t e past x) kept) in
+    held_more e past t x.msg.hwnd.0 (or_neither (takes_post e x.number) (drops_window e past x.msg.hwnd.0) parts.0).1 held
 
 refused_held : (e : Entry) (past : Past) (t w : ℕ) → is_refused e ≡ true → IsHeld past t w → IsHeld (e ∷ past) t w
 refused_held e past t w h (inl is_none) = inl is_none
 refused_held e past t w h (inr of) = inr (record { made = of.made; is_live = ap (λ ws. find (λ y. eqb y.number w) ws) (first_way (is_refused e) (live past) _ h) ∙ of.is_live; is_of = of.is_of })
 
 -- the window of a posted message is none, or a live window of its very thread
-pub all_held : (setup : Setup) (past : Past) (t : ℕ) → IsLawful setup past → AllByRecursion (λ x. IsHeld past t x.1.hwnd.0) (posted past t)
+pub all_held : (setup : Setup) (past : Past) (t : ℕ) → IsLawful setup past → AllByRecursion (λ x. IsHeld past t x.msg.hwnd.0) (posted past t)
 all_held setup [] t lawful = tt
 all_held setup (e ∷ past) t lawful = step (is_refused e) refl (all_held setup past t lawful.0)
   where
-    step : (b : Bool) → is_refused e ≡ b → AllByRecursion (λ x. IsHeld past t x.1.hwnd.0) (posted past t) → AllByRecursion (λ x. IsHeld (e ∷ past) t x.1.hwnd.0) (elim b as (λ c. List PostedMsg) [ true ↦ posted past t | false ↦ filter (λ x. not (ends_post t e past x)) (posted past t) ++ posts_to t e past ])
-    step true h before = all_weaker (λ x. IsHeld past t x.1.hwnd.0) (λ x. IsHeld (e ∷ past) t x.1.hwnd.0) (λ x held. refused_held e past t x.1.hwnd.0 h held) (posted past t) before
+    step : (b : Bool) → is_refused e ≡ b → AllByRecursion (λ x. IsHeld past t x.msg.hwnd.0) (posted past t) → AllByRecursion (λ x. IsHeld (e ∷ past) t x.msg.hwnd.0) (elim b as (λ c. List PostedMsg) [ true ↦ posted past t | false ↦ filter (λ x. not (ends_post t e past x)) (posted past t) ++ posts_to t e past ])
+    step true h before = all_weaker (λ x. IsHeld past t x.msg.hwnd.0) (λ x. IsHeld (e ∷ past) t x.msg.hwnd.0) (λ x held. refused_held e past t x.msg.hwnd.0 h held) (posted past t) before
     step false h before =
-        all_append (λ x. IsHeld (e ∷ past) t x.1.hwnd.0) (filter (λ x. not (ends_post t e past x)) (posted past t)) (posts_to t e past)
-        (all_kept (λ x. IsHeld past t x.1.hwnd.0) (λ x. IsHeld (e ∷ past) t x.1.hwnd.0) (λ x. not (ends_post t e past x)) (kept_held e past t) (posted past t) before)
+        all_append (λ x. IsHeld (e ∷ past) t x.msg.hwnd.0) (filter (λ x. not (ends_post t e past x)) (posted past t)) (posts_to t e past)
+        (all_kept (λ x. IsHeld past t x.msg.hwnd.0) (λ x. IsHeld (e ∷ past) t x.msg.hwnd.0) (λ x. not (ends_post t e past x)) (kept_held e past t) (posted past t) before)
         (new_held setup e past t e.answer refl lawful.1)

@@ -11,7 +11,7 @@ use Rattle.user_model.specs.declared.entry.Origin.TheVariants as origins
 use Rattle.user_model.specs.declared.entry.Entry.{Entry}
 use Rattle.user_model.specs.Past.{Past, is_refused, is_refusal, unless_refused, last_of}
 use Rattle.user_model.specs.Retrievals.{removes, removed_quit, takes_quit}
-use Rattle.user_model.specs.Posts.{quit, quits, if_by}
+use Rattle.user_model.specs.Posts.{PostedQuit, quit, quit_after, quits, if_by}
 use Rattle.user_model.proofs.ClockLaws.{last_of-next, unwrap_or-or_else}
 use Rattle.user_model.specs.declared.entry.Setup.{Setup}
 use Rattle.user_model.specs.Idle.{reply}
@@ -20,52 +20,52 @@ use Rattle.user_model.proofs.ReplyLaws.{by_call}
 use Rattle.user_model.proofs.PostLaws.{is_plain}
 
 -- t's quit is what t's entry says, or what it was
-pub quit-next : (e : Entry) (past : Past) (t : ℕ) → quit (e ∷ past) t ≡ unwrap_or (unless_refused e (if_by t e.who.0 (quits e e.call))) (quit past t)
-quit-next e past t = ap (λ o. unwrap_or o None) (last_of-next (λ (e : Entry) (before : Past). if_by t e.who.0 (quits e e.call)) e past) ∙ unwrap_or-or_else (unless_refused e (if_by t e.who.0 (quits e e.call))) (last_of (λ (e : Entry) (before : Past). if_by t e.who.0 (quits e e.call)) past) None
+pub quit-next : (e : Entry) (past : Past) (t : ℕ) → quit (e ∷ past) t ≡ unwrap_or (unless_refused e (if_by t e.who.0 (quits e past e.call))) (quit past t)
+quit-next e past t = ap (λ o. unwrap_or o None) (last_of-next (λ (e : Entry) (before : Past). if_by t e.who.0 (quits e before e.call)) e past) ∙ unwrap_or-or_else (unless_refused e (if_by t e.who.0 (quits e past e.call))) (last_of (λ (e : Entry) (before : Past). if_by t e.who.0 (quits e before e.call)) past) None
 
 -- a refused entry leaves quit
 pub quit-refused : (e : Entry) (past : Past) (t : ℕ) → is_refused e ≡ true → quit (e ∷ past) t ≡ quit past t
-quit-refused e past t h = quit-next e past t ∙ ap (λ b. unwrap_or (elim b as (λ c. Option (Option ℕ)) [ true ↦ None | false ↦ if_by t e.who.0 (quits e e.call) ]) (quit past t)) h
+quit-refused e past t h = quit-next e past t ∙ ap (λ b. unwrap_or (elim b as (λ c. Option (Option PostedQuit)) [ true ↦ None | false ↦ if_by t e.who.0 (quits e past e.call) ]) (quit past t)) h
 
-said : (b : Bool) (new old : Option ℕ) → unwrap_or (cond b (Some new) None) old ≡ cond b new old
+said : (b : Bool) (new old : Option PostedQuit) → unwrap_or (cond b (Some new) None) old ≡ cond b new old
 said true new old = refl
 said false new old = refl
 
 -- an entry that says something of quit says it of its own thread
-pub quit-of : (e : Entry) (past : Past) (t : ℕ) (new : Option ℕ) → is_refused e ≡ false → quits e e.call ≡ Some new → quit (e ∷ past) t ≡ cond (eqb e.who.0 t) new (quit past t)
+pub quit-of : (e : Entry) (past : Past) (t : ℕ) (new : Option PostedQuit) → is_refused e ≡ false → quits e past e.call ≡ Some new → quit (e ∷ past) t ≡ cond (eqb e.who.0 t) new (quit past t)
 quit-of e past t new h says =
     quit-next e past t
-    ∙ ap (λ b. unwrap_or (elim b as (λ c. Option (Option ℕ)) [ true ↦ None | false ↦ if_by t e.who.0 (quits e e.call) ]) (quit past t)) h
+    ∙ ap (λ b. unwrap_or (elim b as (λ c. Option (Option PostedQuit)) [ true ↦ None | false ↦ if_by t e.who.0 (quits e past e.call) ]) (quit past t)) h
     ∙ ap (λ o. unwrap_or (if_by t e.who.0 o) (quit past t)) says
     ∙ said (eqb e.who.0 t) new (quit past t)
 
-none_said : (refused : Bool) (old : Option ℕ) → unwrap_or (elim refused as (λ c. Option (Option ℕ)) [ true ↦ None | false ↦ None ]) old ≡ old
+none_said : (refused : Bool) (old : Option PostedQuit) → unwrap_or (elim refused as (λ c. Option (Option PostedQuit)) [ true ↦ None | false ↦ None ]) old ≡ old
 none_said true old = refl
 none_said false old = refl
 
 -- an entry that says nothing of quit leaves it
-pub quit-unsaid : (e : Entry) (past : Past) (t : ℕ) → quits e e.call ≡ None → quit (e ∷ past) t ≡ quit past t
+pub quit-unsaid : (e : Entry) (past : Past) (t : ℕ) → quits e past e.call ≡ None → quit (e ∷ past) t ≡ quit past t
 quit-unsaid e past t says =
     quit-next e past t
     ∙ ap (λ o. unwrap_or (unless_refused e (if_by t e.who.0 o)) (quit past t)) says
     ∙ none_said (is_refused e) (quit past t)
 
 -- a posting of quit
-pub quit-posted : (e : Entry) (past : Past) (t code : ℕ) → is_refused e ≡ false → e.call ≡ PostQuit code → quit (e ∷ past) t ≡ cond (eqb e.who.0 t) (Some code) (quit past t)
-quit-posted e past t code h call = quit-of e past t (Some code) h (ap (quits e) call)
+pub quit-posted : (e : Entry) (past : Past) (t code : ℕ) → is_refused e ≡ false → e.call ≡ PostQuit code → quit (e ∷ past) t ≡ cond (eqb e.who.0 t) (Some (quit_after past code)) (quit past t)
+quit-posted e past t code h call = quit-of e past t (Some (quit_after past code)) h (ap (quits e past) call)
 
 -- whether the call posts quit
 abbrev pub is_post_quit : Call → Bool
 is_post_quit (PostQuit code) = true
 is_post_quit _ = false
 
-says_taken : (e : Entry) (call : Call) → is_post_quit call ≡ false → quits e call ≡ cond (takes_quit e) (Some None) None
-says_taken e (PostQuit code) h = absurd (false≢true (sym h))
-says_taken e _ h = refl
+says_taken : (e : Entry) (past : Past) (call : Call) → is_post_quit call ≡ false → quits e past call ≡ cond (takes_quit e) (Some None) None
+says_taken e past (PostQuit code) h = absurd (false≢true (sym h))
+says_taken e past _ h = refl
 
 -- a call that neither posts quit nor removes it leaves it
 pub quit-same : (e : Entry) (past : Past) (t : ℕ) → is_post_quit e.call ≡ false → takes_quit e ≡ false → quit (e ∷ past) t ≡ quit past t
-quit-same e past t call kept = quit-unsaid e past t (says_taken e e.call call ∙ ap (λ b. cond b (Some None) None) kept)
+quit-same e past t call kept = quit-unsaid e past t (says_taken e past e.call call ∙ ap (λ b. cond b (Some None) None) kept)
 
 retrieves_no_quit : (call : Call) → is_some (retrieves call) ≡ true → is_post_quit call ≡ false
 retrieves_no_quit (PostQuit code) h = absurd (false≢true h)
@@ -76,7 +76,7 @@ pub quit-taken : (e : Entry) (past : Past) (t n : ℕ) (m : Msg) → e.answer �
 quit-taken e past t n m is call = step (removes e.call) refl
   where
     step : (b : Bool) → removes e.call ≡ b → quit (e ∷ past) t ≡ cond (b && eqb e.who.0 t) None (quit past t)
-    step true h = quit-of e past t None (ap is_refusal is) (says_taken e e.call (retrieves_no_quit e.call call) ∙ ap (λ b. cond b (Some None) None) (ap (λ a. removed_quit a e.call) is ∙ h))
+    step true h = quit-of e past t None (ap is_refusal is) (says_taken e past e.call (retrieves_no_quit e.call call) ∙ ap (λ b. cond b (Some None) None) (ap (λ a. removed_quit a e.call) is ∙ h))
     step false h = quit-same e past t (retrieves_no_quit e.call call) (ap (λ a. removed_quit a e.call) is ∙ h)
 
 -- whether the answer hands out quit

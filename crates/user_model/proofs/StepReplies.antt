@@ -23,7 +23,7 @@ use Rattle.user_model.specs.Classes.{class, classes, is_used, message_names, mes
 use Rattle.user_model.specs.Filters.{filter_of, is_no_filter_window}
 use Rattle.user_model.specs.Windows.{Window, live, is_live, thread_of, has_flag, window, up}
 use Rattle.user_model.specs.Destruction.{ended, is_marked, was_given}
-use Rattle.user_model.specs.Posts.{PostedMsg, first_post, posted, quit, queue_of}
+use Rattle.user_model.specs.Posts.{PostedMsg, PostedQuit, first_post, posted, quit, queue_of}
 use Rattle.user_model.specs.Places.{clock}
 use Rattle.user_model.specs.Stacks.{top, has_room}
 use Rattle.user_model.specs.Sends.{SentMsg, Outcome, send, answer, unfinished}
@@ -64,7 +64,7 @@ ready_no_step past true (Some (to_call_back x proc_no extra place)) a h = let sa
 ready_no_step past true None a h = absurd cc
 ready_no_step past false o a h = absurd cc
 
-later_no_step : (past : Past) (o : Option PostedMsg) (b : Bool) (q : Option ℕ) (a : Answer) → or_else (option_map got_posted o) (cond b (option_map (got_quit past) q) None) ≡ Some a → is_step a ≡ false
+later_no_step : (past : Past) (o : Option PostedMsg) (b : Bool) (q : Option PostedQuit) (a : Answer) → or_else (option_map got_posted o) (cond b (option_map (got_quit past) q) None) ≡ Some a → is_step a ≡ false
 later_no_step past (Some x) b q a h = let same : got_posted x ≡ a = cc in ap is_step (sym same)
 later_no_step past None true (Some code) a h = let same : got_quit past code ≡ a = cc in ap is_step (sym same)
 later_no_step past None true None a h = absurd cc

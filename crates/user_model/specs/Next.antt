@@ -12,7 +12,7 @@ use Rattle.user_model.specs.Classes.{proc_of}
 use Rattle.user_model.specs.Stacks.{has_room}
 use Rattle.user_model.specs.Sends.{Outcome, answer}
 use Rattle.user_model.specs.Ready.{ReadyMsg, to_enter, to_call_back, ready_head}
-use Rattle.user_model.specs.Posts.{PostedMsg, message, posted, first_post, quit}
+use Rattle.user_model.specs.Posts.{PostedMsg, PostedQuit, message, posted, first_post, quit}
 
 -- the result of a send, or 0
 abbrev pub result_of : Option Outcome → ℕ
@@ -30,15 +30,15 @@ next_ready past t = if has_room past t then option_map (run_for past) (ready_hea
 
 -- a posted message as a retrieval hands it out
 abbrev pub got_posted : PostedMsg → Answer
-got_posted x = Got Posted x.0 x.1
+got_posted x = Got Posted x.number x.msg
 
 -- the first posted message that passes
 abbrev pub next_posted : Past → ℕ → Filter → Option Answer
 next_posted past t f = option_map got_posted (first_post past t f)
 
 -- quit as a retrieval hands it out, with the clock and the cursor of the retrieval
-abbrev pub got_quit : Past → ℕ → Answer
-got_quit past code = Got Quit 0 (message 0 WM_QUIT code 0 (clock past) (cursor past))
+abbrev pub got_quit : Past → PostedQuit → Answer
+got_quit past q = Got Quit 0 (message 0 WM_QUIT q.code 0 (clock past) (cursor past))
 
 -- whether a list has nothing
 abbrev pub is_empty : {A : Type 0} → List A → Bool

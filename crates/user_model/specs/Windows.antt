@@ -1,5 +1,5 @@
 -- Windows: which are live, with their fields, and who stands above whom.
-use Rattle.std.specs.Prelude.{if◌then◌else◌, ℕ, zero, suc, ◌+◌, ◌==◌, nat_lt, Bool, true, false, not, ◌&&◌, ◌||◌, ℤ, List, [], ◌∷◌, ◌++◌, length, filter, find, Option, Some, None, unwrap_or, option_map, bit_and, is_some}
+use Rattle.std.specs.Prelude.{if◌then◌else◌, ℕ, zero, suc, ◌+◌, ◌==◌, nat_lt, Bool, true, false, not, ◌&&◌, ◌||◌, ℤ, pos, List, [], ◌∷◌, ◌++◌, length, filter, find, Option, Some, None, unwrap_or, option_map, bit_and, is_some}
 use Rattle.std.specs.List.{list_any}
 use Rattle.win_num.specs.PixelSets.{Box, box}
 use Rattle.win_num.specs.declared.names.TheConstants.{WS_CHILD}
@@ -8,14 +8,14 @@ use Rattle.user_model.specs.declared.call.Call.TheVariants.{NewWindow, Drop}
 use Rattle.user_model.specs.declared.entry.Entry.{Entry}
 use Rattle.user_model.specs.declared.entry.Answer.{Answer}
 use Rattle.user_model.specs.declared.entry.Answer.TheVariants.{Window as WindowMade}
-use Rattle.user_model.specs.Past.{Past, is_refused, each_of}
+use Rattle.user_model.specs.Past.{Past, is_refused, each_of, last_of}
 use Rattle.user_model.specs.Places.{ends_thread}
 
 -- whether the flags have the bits
 abbrev pub has_flag : ℕ → ℕ → Bool
 has_flag flags bits = bit_and flags bits == bits
 
--- a window as it was made
+-- a window as it was made, as far as that stays
 pub record Window : Type 0 where
   pub number : ℕ
   pub thread : ℕ
@@ -23,9 +23,6 @@ pub record Window : Type 0 where
   pub title : ℕ
   pub parent : ℕ
   pub owner : ℕ
-  pub style : ℕ
-  pub ex : ℕ
-  pub place : Box
 
 -- the window of a number among these
 abbrev pub find_window : List Window → ℕ → Option Window
@@ -72,7 +69,7 @@ top_of ws w = top_within w ws w
 
 -- the window that a call makes, among the windows that are live; an owner that is a child is replaced by its top-level ancestor
 abbrev pub made_by : ℕ → Answer → Call → List Window → List Window
-made_by who (WindowMade w) (NewWindow class title parent style ex l t r b) ws = let child = has_flag style WS_CHILD in record { number = w.0; thread = who; class = class; title = title; parent = (if child then parent else 0); owner = (if child then 0 else top_of ws parent); style = style; ex = ex; place = box l t r b } ∷ []
+made_by who (WindowMade w) (NewWindow class title parent style ex l t r b) ws = let child = has_flag style WS_CHILD in record { number = w.0; thread = who; class = class; title = title; parent = (if child then parent else 0); owner = (if child then 0 else top_of ws parent) } ∷ []
 made_by who _ _ ws = []
 
 -- whether a call drops the window, with its kin
@@ -118,6 +115,38 @@ numbers_made a _ = []
 -- the numbers of all windows that were ever made, in order
 abbrev pub windows_made : Past → List ℕ
 windows_made past = each_of (λ e before. numbers_made e.answer e.call) past
+
+-- what is set, where the answer is that w was made
+abbrev pub if_made : {A : Type 0} → ℕ → Answer → A → Option A
+if_made w (WindowMade v) a = if v.0 == w then Some a else None
+if_made w _ a = None
+
+-- the style that an entry sets for w: a new window's
+abbrev pub style_set : ℕ → Answer → Call → Option ℕ
+style_set w a (NewWindow class title parent style ex l t r b) = if_made w a style
+style_set w a _ = None
+
+-- the style of w that was set last, or 0
+abbrev pub style_of : Past → ℕ → ℕ
+style_of past w = unwrap_or (last_of (λ e before. style_set w e.answer e.call) past) 0
+
+-- the extended style that an entry sets for w: a new window's
+abbrev pub ex_set : ℕ → Answer → Call → Option ℕ
+ex_set w a (NewWindow class title parent style ex l t r b) = if_made w a ex
+ex_set w a _ = None
+
+-- the extended style of w that was set last, or 0
+abbrev pub ex_of : Past → ℕ → ℕ
+ex_of past w = unwrap_or (last_of (λ e before. ex_set w e.answer e.call) past) 0
+
+-- the place that an entry sets for w: a new window's
+abbrev pub place_set : ℕ → Answer → Call → Option Box
+place_set w a (NewWindow class title parent style ex l t r b) = if_made w a (box l t r b)
+place_set w a _ = None
+
+-- the place of w that was set last, from its parent's or the screen's left top corner, or nothing there
+abbrev pub place_of : Past → ℕ → Box
+place_of past w = unwrap_or (last_of (λ e before. place_set w e.answer e.call) past) (box (pos 0) (pos 0) (pos 0) (pos 0))
 
 -- the top-level live window of least number above w
 abbrev pub next_top : Past → ℕ → Option Window

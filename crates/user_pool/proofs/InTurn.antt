@@ -26,7 +26,7 @@ use Rattle.user_model.specs.Classes.{proc_of, class as class_named, classes, reg
 use Rattle.user_model.specs.Destruction.{Step, told, ended, next_step, is_marked, was_given}
 use Rattle.user_model.specs.Filters.{filter_of, is_no_filter_window}
 use Rattle.user_model.specs.Next.{run_for, next, next_ready, next_posted, next_quit, got_posted, got_quit, is_empty}
-use Rattle.user_model.specs.Posts.{PostedMsg, first_post, posted, quit, queue_of}
+use Rattle.user_model.specs.Posts.{PostedMsg, PostedQuit, first_post, posted, quit, queue_of}
 use Rattle.user_model.specs.Ready.{ReadyMsg, to_enter, to_call_back, ready_head}
 use Rattle.user_model.specs.Refusals.{refuse, if_live, if_own, access_denied, invalid_parameter, invalid_window_handle, stack_overflow, not_enough_quota, invalid_thread_id, class_already_exists, class_does_not_exist, class_has_windows, cannot_find_class, child_without_parent, is_no_message, is_no_rect}
 use Rattle.user_model.specs.ReplyClock.{woken}
@@ -91,7 +91,7 @@ fine_posted : (o : Option PostedMsg) → FineIn (option_map got_posted o)
 fine_posted None = tt
 fine_posted (Some x) = record { so = refl }
 
-fine_quit : (past : Past) (b : Bool) (o : Option ℕ) → FineIn (if b then option_map (got_quit past) o else None)
+fine_quit : (past : Past) (b : Bool) (o : Option PostedQuit) → FineIn (if b then option_map (got_quit past) o else None)
 fine_quit past false o = tt
 fine_quit past true None = tt
 fine_quit past true (Some code) = record { so = refl }

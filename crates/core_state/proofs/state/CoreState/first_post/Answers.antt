@@ -4,7 +4,7 @@ use Rattle.post_queue.specs.Queue.{pair_of}
 use Rattle.user_model.specs.Past.{Past}
 use Rattle.user_model.specs.Posts.{first_post}
 use Rattle.thread_state.specs.Passing.{passes_in}
-use Rattle.thread_state.specs.Threads.{ThreadView, thread_at}
+use Rattle.thread_state.specs.Threads.{ThreadView, thread_at, told_post}
 use Rattle.core_state.specs.States.{Seen}
 use Rattle.core_state.proofs.Deliveries.{first_kept}
 use Rattle.core_state.proofs.state.CoreState.first_post.Goals as goal
@@ -21,4 +21,4 @@ returns c =
     c.first.ensures
     ∙ ap (λ (v : ThreadView). option_map pair_of (find (passes_in s.tree.live c.args.filter) v.queue.posted)) kept
     ∙ first_kept past s.tree.live t c.args.filter c.self.invariant.tree.windows
-    ∙ ap (λ (v : Seen). first_post v.past t c.args.filter) c.self.view_is
+    ∙ ap (λ (v : Seen). option_map told_post (first_post v.past t c.args.filter)) c.self.view_is
