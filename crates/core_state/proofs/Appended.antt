@@ -22,14 +22,15 @@ use Rattle.user_model.proofs.DeliveryReplies.{post_told}
 use Rattle.user_model.proofs.ReplyLaws.{by_row}
 use Rattle.core_state.specs.Changes.{Change, changed, noted, count_kept, time_kept}
 use Rattle.core_state.specs.Deliveries.{growth_in, settling_in}
-use Rattle.core_state.specs.Effects.{IsGrownBy, grown_classes, settled_classes, settled_tree}
-use Rattle.core_state.specs.Needs.{FitsCarrying, FitsGrowth, FitsNaming, FitsSettling, FitsUnmaking, IsOne}
+use Rattle.window_state.specs.Effects.{IsGrownBy, grown_classes, settled_classes, settled_tree}
+use Rattle.window_state.specs.Needs.{FitsNaming, FitsUnmaking}
+use Rattle.core_state.specs.Needs.{FitsCarrying, FitsGrowth, FitsSettling, IsOne}
 use Rattle.thread_state.specs.Threads.{ThreadView, thread_at}
 use Rattle.send_state.specs.Parts.{SendParts}
 use Rattle.send_state.specs.Standing.{PartsStand}
 use Rattle.send_state.specs.Stories.{EachStory, noted_answer, with_begun}
 use Rattle.send_state.specs.Tallies.{FitsTally, first_cause, named_send, tallied}
-use Rattle.send_state.specs.declared.story.SendStory.{SendStory}
+use Rattle.user_model.specs.declared.story.SendStory.{SendStory}
 use Rattle.send_state.specs.declared.tally.Tally.{Tally}
 use Rattle.core_state.specs.Sendings.{FitsGrownSends, FitsSettledSends, grown_sends, losses_by, noted_losses, settled_sends}
 use Rattle.core_state.proofs.SendCounts.{counts_after, grown_losses, losses_few, same_losses, tally_fits}
@@ -38,12 +39,12 @@ use Rattle.core_state.proofs.SendNeeds.{grown_fits, settled_fits}
 use Rattle.core_state.proofs.SendSteps.{sends_after}
 use Rattle.core_state.proofs.StoryChanges.{losses_noted, stories_after}
 use Rattle.core_state.specs.States.{EachBy, Parts, Stands, parts}
-use Rattle.core_state.proofs.ClassSteps.{classes_after, fits_naming, fits_unregister}
+use Rattle.window_state.proofs.ClassSteps.{classes_after, fits_naming, fits_unregister}
 use Rattle.core_state.proofs.Deliveries.{both_changes, fits_post, fits_posting, running_is_one}
-use Rattle.core_state.proofs.NewWindows.{doom_not_refused, drop_not_refused}
+use Rattle.window_state.proofs.NewWindows.{doom_not_refused, drop_not_refused}
 use Rattle.core_state.proofs.ThreadChanges.{thread-next, count_kept-next, time_kept-next}
-use Rattle.core_state.proofs.TreeNeeds.{fits_making, fits_unmaking}
-use Rattle.core_state.proofs.TreeSteps.{tree_after}
+use Rattle.window_state.proofs.TreeNeeds.{fits_making, fits_unmaking}
+use Rattle.window_state.proofs.TreeSteps.{tree_after}
 
 -- ---- what a change needs
 

@@ -14,10 +14,11 @@ use Rattle.user_model.specs.Legal.{IsLawful}
 use Rattle.user_model.proofs.DeliveryReplies.{end_told}
 use Rattle.user_model.proofs.PostLaws.{drops_window-drop}
 use Rattle.user_model.proofs.ReplyLaws.{by_row}
-use Rattle.core_state.specs.Deliveries.{goes_with, thread_in}
+use Rattle.window_state.specs.Trees.{thread_in}
+use Rattle.core_state.specs.Deliveries.{goes_with}
 use Rattle.core_state.specs.Sendings.{is_of}
-use Rattle.core_state.specs.Trees.{as_made}
-use Rattle.core_state.proofs.Bridges.{kin_made}
+use Rattle.window_state.specs.Trees.{as_made}
+use Rattle.window_state.proofs.Bridges.{kin_made}
 use Rattle.core_state.proofs.Deliveries.{is_live-is, thread_in-is}
 use Rattle.core_state.proofs.QueueLists.{same_number}
 

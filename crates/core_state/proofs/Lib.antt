@@ -1,16 +1,9 @@
 pub mod Appended
-pub mod Bridges
-pub mod ClassLaws
-pub mod ClassSteps
 pub mod Deliveries
-pub mod Destructions
 pub mod FreshSends
 pub mod GoingWindows
 pub mod KinLists
-pub mod Lookups
-pub mod NewWindows
 pub mod Outcomes
-pub mod Procs
 pub mod QueueLists
 pub mod SendCounts
 pub mod StoryChanges
@@ -26,8 +19,3 @@ pub mod SendNumbers
 pub mod Threads
 pub mod Unfinished
 pub mod Waits
-pub mod TreeAnswers
-pub mod TreeFacts
-pub mod TreeLaws
-pub mod TreeNeeds
-pub mod TreeSteps

@@ -35,9 +35,9 @@ use Rattle.send_state.proofs.Told.{runs}
 use Rattle.send_state.proofs.ToldDropped.{losing-dropped}
 use Rattle.send_state.proofs.ToldEnded.{losing-ended}
 use Rattle.core_state.specs.Deliveries.{goes_with}
-use Rattle.core_state.specs.Effects.{IsGrownBy}
+use Rattle.window_state.specs.Effects.{IsGrownBy}
 use Rattle.core_state.specs.Sendings.{grown_sends, is_of, losses_by}
-use Rattle.core_state.specs.Trees.{as_made}
+use Rattle.window_state.specs.Trees.{as_made}
 use Rattle.core_state.proofs.GoingWindows.{dropped_goes, ended_goes, ending_call}
 use Rattle.core_state.proofs.SendNeeds.{done_fits}
 use Rattle.core_state.proofs.SendNumbers.{sends_bound}

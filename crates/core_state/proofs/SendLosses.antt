@@ -16,7 +16,7 @@ use Rattle.send_state.proofs.ToldDropped.{losing-dropped, told-dropped}
 use Rattle.send_state.proofs.ToldEnded.{losing-ended, told-ended}
 use Rattle.core_state.specs.Deliveries.{goes_with}
 use Rattle.core_state.specs.Sendings.{FitsLosing, is_of}
-use Rattle.core_state.specs.Trees.{as_made}
+use Rattle.window_state.specs.Trees.{as_made}
 use Rattle.core_state.proofs.GoingWindows.{dropped_goes, ended_goes}
 use Rattle.core_state.proofs.SendNumbers.{early}
 

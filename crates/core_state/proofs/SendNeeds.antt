@@ -50,7 +50,7 @@ use Rattle.send_state.proofs.ToldBegun.{made}
 use Rattle.send_state.proofs.ToldReplied.{unlisted}
 use Rattle.send_state.proofs.Values.{known-stands, top-stands}
 use Rattle.core_state.specs.Sendings.{FitsCallback, FitsDispatch, FitsDropped, FitsGrownSends, FitsLeave, FitsLeaving, FitsOption, FitsReplied, FitsReplying, FitsRow, FitsSending, FitsServing, FitsSettledSends, FitsWait, grown_sends}
-use Rattle.core_state.specs.Trees.{as_made}
+use Rattle.window_state.specs.Trees.{as_made}
 use Rattle.core_state.proofs.Deliveries.{is_live-is}
 use Rattle.core_state.proofs.SendLosses.{dropped_fits, ended_fits}
 use Rattle.core_state.proofs.SendNumbers.{early, sends_bound}

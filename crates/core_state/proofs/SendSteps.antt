@@ -40,7 +40,7 @@ use Rattle.send_state.proofs.ToldReplied.{told-replied}
 use Rattle.core_state.specs.Deliveries.{goes_with}
 use Rattle.core_state.specs.Frames.{IsOnTop}
 use Rattle.core_state.specs.Sendings.{begun_with, called_back, grown_sends, is_answered_in, is_of, left_by_call, replied_by_call, replied_if, sending, settled_sends, waited}
-use Rattle.core_state.specs.Trees.{as_made}
+use Rattle.window_state.specs.Trees.{as_made}
 use Rattle.core_state.proofs.Deliveries.{thread_in-is}
 use Rattle.core_state.proofs.Tops.{top_answer, top_kept}
 use Rattle.core_state.proofs.Unfinished.{known_count, known_few}

@@ -18,13 +18,13 @@ use Rattle.send_state.specs.Parts.{SendParts}
 use Rattle.send_state.specs.Standing.{PartsStand}
 use Rattle.send_state.specs.Stories.{EachStory, StoriesStand, noted_answer, with_begun}
 use Rattle.send_state.specs.Tallies.{named_send}
-use Rattle.send_state.specs.declared.story.SendStory.{SendStory}
+use Rattle.user_model.specs.declared.story.SendStory.{SendStory}
 use Rattle.send_state.proofs.Still.{is_drop, loses-none}
 use Rattle.send_state.proofs.Stories.{stories-kept, stories-lost, stories-refused}
 use Rattle.core_state.specs.Deliveries.{goes_with}
-use Rattle.core_state.specs.Effects.{IsGrownBy}
+use Rattle.window_state.specs.Effects.{IsGrownBy}
 use Rattle.core_state.specs.Sendings.{grown_sends, is_of, noted_losses}
-use Rattle.core_state.specs.Trees.{as_made}
+use Rattle.window_state.specs.Trees.{as_made}
 use Rattle.core_state.proofs.GoingWindows.{ending_call}
 use Rattle.core_state.proofs.SendCounts.{dropped, dropping, ending, owned, undropped}
 

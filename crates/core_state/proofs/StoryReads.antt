@@ -8,8 +8,9 @@ use Rattle.user_model.specs.Past.{Past}
 use Rattle.user_model.specs.Sends.{sends}
 use Rattle.user_model.specs.Legal.{IsLawful}
 use Rattle.user_model.proofs.SendStories.{number_law}
-use Rattle.send_state.specs.Stories.{StoriesStand, no_story, send_story, story_of}
-use Rattle.send_state.specs.declared.story.SendStory.{SendStory}
+use Rattle.user_model.specs.Stories.{no_story, send_story, story_of}
+use Rattle.send_state.specs.Stories.{StoriesStand}
+use Rattle.user_model.specs.declared.story.SendStory.{SendStory}
 
 module _ (setup : Setup) (past : Past) (stories : List SendStory) (lawful : IsLawful setup past) (stands : StoriesStand past stories) (s : ℕ) where
   -- there is no send 0

@@ -12,11 +12,8 @@ use Rattle.user_model.specs.declared.entry.Answer.TheVariants.{Okay, Ended, Post
 use Rattle.user_model.specs.declared.entry.Origin.{Origin}
 use Rattle.user_model.specs.declared.entry.Origin.TheVariants.{Posted as FromPosted, Quit as FromQuit}
 use Rattle.user_model.specs.Posts.{message}
+use Rattle.window_state.specs.Trees.{thread_in}
 use Rattle.core_state.specs.Changes.{Change, posts, takes, quits, purges, ends, none, taken_if}
-
--- the thread of a window of these, or 0
-abbrev pub thread_in : List Window → ℕ → ℕ
-thread_in ws w = unwrap_or (option_map (λ x. x.row.thread.0) (window_of ws w)) 0
 
 -- the thread that a call posts to, and the message, which carries the time and the cursor
 abbrev pub posting : List Window → ℕ → Point → ℕ → Call → Option (ℕ × Msg)

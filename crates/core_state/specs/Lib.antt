@@ -1,10 +1,6 @@
 pub mod Changes
-pub mod ClassTables
 pub mod Deliveries
-pub mod Effects
 pub mod Frames
 pub mod Needs
 pub mod Sendings
 pub mod States
-pub mod Steps
-pub mod Trees

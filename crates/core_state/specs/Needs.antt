@@ -14,32 +14,13 @@ use Rattle.user_model.specs.declared.call.Call.TheVariants.{Register, Message, U
 use Rattle.user_model.specs.declared.entry.Answer.{Answer}
 use Rattle.user_model.specs.declared.entry.Answer.TheVariants.{Okay, Ended, Value, Window, Posted as PostMade, Tell, Last, Got}
 use Rattle.core_state.specs.Deliveries.{posting, FitsPost}
-use Rattle.core_state.specs.Effects.{IsRowOf}
+use Rattle.window_state.specs.Needs.{FitsMaking, FitsNaming, FitsUnmaking}
 use Rattle.thread_state.specs.Threads.{ThreadView}
 
 -- it is the number of a thread
 pub record IsOne (threads : List ThreadView) (t : ℕ) : Type 0 where
   pub some : 0 < t
   pub known : t ≤ length threads
-
--- no refusal
-abbrev pub IsAnswered : {A : Type 0} → Result A Fault → Type 0
-IsAnswered (Ok a) = Unit {0}
-IsAnswered (Err Memory) = Unit {0}
-IsAnswered (Err (Refused code)) = ⊥
-
--- what a call registers can be registered
-abbrev pub FitsNaming : ClassTable → Call → Type 0
-FitsNaming t (Register name proc_no colour) = (register_refusal t name ≡ None) × (colour ≤ 15)
-FitsNaming t (Message name) = message_refusal t name ≡ None
-FitsNaming t _ = Unit {0}
-
--- the window that a call makes can be made
-abbrev pub FitsMaking : ℕ → Call → Windows → Type 0
-FitsMaking who (NewWindow class title parent style ex l t r b) tree =
-    (is_bad_rect l t r b ≡ false) × IsTrue ((parent == 0) || is_live tree.live parent) × (style < 4294967296) × (ex < 4294967296)
-    × ((row : WindowRow) → IsRowOf who class title parent style ex row → refusal tree row ≡ None)
-FitsMaking who _ tree = Unit {0}
 
 -- a post goes to a thread that has room for it, under a number above all that it has
 pub record HasRoom (threads : List ThreadView) (t k : ℕ) : Type 0 where
@@ -65,11 +46,6 @@ FitsCarrying classes tree threads who (Unregister name) = unregister_refusal cla
 FitsCarrying classes tree threads who (Doom w) = doom_refusal tree.live w ≡ None
 FitsCarrying classes tree threads who (Drop w) = IsOne threads who × (drop_refusal tree.live w ≡ None)
 FitsCarrying classes tree threads who _ = Unit {0}
-
--- the window of a destruction is live
-abbrev pub FitsUnmaking : Windows → Call → Type 0
-FitsUnmaking tree (Unmake w) = is_live tree.live w ≡ true
-FitsUnmaking tree _ = Unit {0}
 
 -- what an answer that takes no memory needs
 abbrev pub FitsSettling : ClassTable → Windows → List ThreadView → ℕ → Answer → Call → Type 0

@@ -10,12 +10,13 @@ use Rattle.send_frames.specs.declared.row.SendRow.{SendRow}
 use Rattle.send_frames.specs.Book.{IsThread, refusal_at_begin, stack_of}
 use Rattle.send_state.specs.Parts.{SendParts, CanBegin, CanLeaveFrom, CanLose, CanReplyIn, CanServe, begun, dispatched, ended, finished, head_of, left, lost, lost_count, rank, replied, served, timed_out, top_of}
 use Rattle.send_state.specs.Stories.{noted_loss}
-use Rattle.send_state.specs.declared.story.SendStory.{SendStory}
+use Rattle.user_model.specs.declared.story.SendStory.{SendStory}
 use Rattle.user_model.specs.declared.call.Call.{Call}
 use Rattle.user_model.specs.declared.call.Call.TheVariants.{Send, SendTimeout, SendNotify, SendCallback, Await, Leave, Reply, Drop}
 use Rattle.user_model.specs.declared.entry.Answer.{Answer}
 use Rattle.user_model.specs.declared.entry.Answer.TheVariants.{Okay, Ended, Value, Inside, Begun, Enter, Callback, Called, Left, Done}
-use Rattle.core_state.specs.Deliveries.{goes_with, thread_in}
+use Rattle.window_state.specs.Trees.{thread_in}
+use Rattle.core_state.specs.Deliveries.{goes_with}
 
 -- ---- a send is made
 

@@ -11,11 +11,11 @@ use Rattle.send_state.specs.Parts.{SendParts}
 use Rattle.send_state.specs.Standing.{PartsStand}
 use Rattle.send_state.specs.Stories.{StoriesStand}
 use Rattle.send_state.specs.Tallies.{tally_at}
-use Rattle.send_state.specs.declared.story.SendStory.{SendStory}
+use Rattle.user_model.specs.declared.story.SendStory.{SendStory}
 use Rattle.send_state.specs.declared.tally.Tally.{Tally}
-use Rattle.core_state.specs.ClassTables.{classes_at}
+use Rattle.window_state.specs.ClassTables.{classes_at}
 use Rattle.thread_state.specs.Threads.{ThreadView, thread_at}
-use Rattle.core_state.specs.Trees.{IsTreeAt}
+use Rattle.window_state.specs.Trees.{IsTreeAt}
 
 -- its setup and its past
 pub record Seen : Type 0 where

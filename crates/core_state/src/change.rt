@@ -4,15 +4,14 @@
 ghost use Rattle.std.specs.Prelude.{◌≡◌, OnOk, OnErr};
 ghost use Rattle.core_state.specs.Changes.{changed};
 ghost use Rattle.core_state.specs.Deliveries.{carried_in, growth_in, settling_in};
-ghost use Rattle.core_state.specs.Effects.{IsGrownBy, carried_classes, carried_tree, grown_classes, settled_classes, settled_tree};
+ghost use Rattle.window_state.specs.Effects.{IsGrownBy, carried_classes, carried_tree, grown_classes, settled_classes, settled_tree};
 ghost use Rattle.core_state.specs.Needs.{FitsCarrying, FitsGrowth, FitsSettling};
 ghost use Rattle.core_state.specs.Sendings.{FitsGrownSends, grown_sends};
 ghost use Rattle.core_state.specs.States.{EachBy};
 
-use crate::delivery::{Stamp, posting, window_or_none};
+use crate::delivery::{Stamp, posting};
 use crate::queues::{end, post, purge_kin, set_quit, take};
 use crate::sendings::begin;
-use crate::tables::{doom, drop_window, make, name, unmake, unregister};
 use send_state::SendState;
 use std::alloc::AllocError;
 use thread_state::ThreadState;
@@ -20,6 +19,7 @@ use user_model::{Answer, Call, Entry};
 use win_class::Classes;
 use win_num::Thread;
 use win_tree::Tree;
+use window_state::{doom, drop_window, make, name, unmake, unregister, window_or_none};
 
 /// Adds a post, a class, a message's name, a window or a send, as the answer says. After want of memory
 /// nothing has changed.

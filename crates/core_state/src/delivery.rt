@@ -1,13 +1,14 @@
-//! Live windows and their threads, and which message a call posts.
+//! Which message a call posts.
 
 ghost use Rattle.std.specs.Prelude.{◌≡◌, ◌≤◌, ◌==◌, ◌||◌, IsTrue};
-ghost use Rattle.win_tree.specs.Windows.{is_live};
 ghost use Rattle.user_model.specs.Posts.{message};
-ghost use Rattle.core_state.specs.Deliveries.{FitsPost, posting, thread_in};
+ghost use Rattle.window_state.specs.Trees.{thread_in};
+ghost use Rattle.core_state.specs.Deliveries.{FitsPost, posting};
 
 use user_model::{Call, Entry};
 use win_num::{Hwnd, Msg, Point};
 use win_tree::Tree;
+use window_state::{thread_of, window_or_none};
 
 /// Where, when and with what cursor an entry comes.
 #[derive(Clone, Copy)]
@@ -18,27 +19,6 @@ pub struct Stamp {
     pub time: u64,
     /// The cursor before it, in pixels of the screen.
     pub cursor: Point,
-}
-
-/// The live window of a number, or for 0 no window.
-pub fn window_or_none(tree: &Tree, w: u64) -> Hwnd
-    requires { IsTrue ((w == 0) || is_live tree.now.live w) }
-    ensures { result.0 ≡ w }
-{
-    match tree.find(w) {
-        Some(window) => window,
-        None => Hwnd(0),
-    }
-}
-
-/// The thread of a live window, or 0.
-pub fn thread_of(tree: &Tree, w: Hwnd) -> u8
-    ensures { result ≡ thread_in tree.now.live w.0 }
-{
-    match tree.row(w) {
-        Some(row) => row.thread.0,
-        None => 0,
-    }
 }
 
 /// The thread that an entry posts to, and the message.

@@ -10,10 +10,10 @@ mod delivery;
 mod queues;
 mod sendings;
 mod state;
-mod tables;
 
-pub use send_state::{SendRow, SendStory};
+pub use send_state::SendRow;
 pub use state::CoreState;
+pub use user_model::SendStory;
 
 #[cfg(test)]
 mod tests;

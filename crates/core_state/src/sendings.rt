@@ -6,15 +6,17 @@ ghost use Rattle.win_tree.specs.Windows.{is_live};
 ghost use Rattle.send_frames.specs.Book.{IsThread};
 ghost use Rattle.send_state.specs.Parts.{lost_count};
 ghost use Rattle.send_state.specs.Stories.{EachStory, noted_loss};
-ghost use Rattle.core_state.specs.Deliveries.{goes_with, thread_in};
+ghost use Rattle.window_state.specs.Trees.{thread_in};
+ghost use Rattle.core_state.specs.Deliveries.{goes_with};
 ghost use Rattle.core_state.specs.Sendings.{FitsCallback, FitsDropped, FitsLeave, FitsLosing, FitsOption, FitsReply, FitsSending, FitsSettledSends, FitsWait, begun_with, called_back, dropped_count, dropped_losses, dropped_sends, ended_sends, is_of, left_by_call, losses_by, noted_losses, replied_by_call, row_to, sending, settled_sends, waited};
 
-use crate::delivery::{Stamp, thread_of, window_or_none};
-use send_state::{SendRow, SendState, SendStory};
+use crate::delivery::Stamp;
+use send_state::{SendRow, SendState};
 use std::alloc::AllocError;
-use user_model::{Answer, Call, Entry};
+use user_model::{Answer, Call, Entry, SendStory};
 use win_num::{Fault, Hwnd, Kind, SendId, Thread};
 use win_tree::Tree;
+use window_state::{thread_of, window_or_none};
 
 /// What a send hands over: its window's number, the message's number and its parameters.
 #[derive(Clone, Copy)]

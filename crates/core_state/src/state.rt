@@ -16,29 +16,30 @@ ghost use Rattle.user_model.specs.Next.{next_ready};
 ghost use Rattle.user_model.specs.Counts.{send_count};
 ghost use Rattle.user_model.specs.ReplySends.{blocks, deadline, next_send_number};
 ghost use Rattle.send_state.specs.Standing.{as_told, row_of};
-ghost use Rattle.send_state.specs.Stories.{send_story};
+ghost use Rattle.user_model.specs.Stories.{send_story};
 ghost use Rattle.core_state.specs.Frames.{IsOnTop, wait_end};
 ghost use Rattle.user_model.specs.Windows.{live, window, is_live, thread_of, up, next_top};
 ghost use Rattle.user_model.specs.Destruction.{is_marked, was_given, ended};
 ghost use Rattle.user_model.specs.Classes.{class, classes, registered_count, is_used, message_names, message_number, proc_of};
 ghost use Rattle.user_model.specs.Idle.{reply, is_idle, ends_stuck, last_entry, one_of, times_of};
 ghost use Rattle.thread_state.specs.Threads.{code_of, fresh_thread, told_post, waiting_call};
-ghost use Rattle.core_state.specs.Steps.{destruction_answer, told_of, up_of};
+ghost use Rattle.window_state.specs.Steps.{destruction_answer};
 
 use crate::change::{grow, settle};
-use crate::delivery::{Stamp, thread_of};
+use crate::delivery::Stamp;
 use crate::queues::{count_after, note_entry, time_after};
 use crate::sendings::settle_sends;
 use send_state::{
-    SendRow, SendState, SendStory, Tally, add_story, first_cause, named_send, note_answer,
+    SendRow, SendState, Tally, add_story, first_cause, named_send, note_answer,
 };
 use std::alloc::{AllocError, Global};
 use std::marker::Model;
 use thread_state::ThreadState;
-use user_model::{Answer, Call, Entry, HISTORY_LIMIT, SendCount, Setup};
+use user_model::{Answer, Call, Entry, HISTORY_LIMIT, SendCount, SendStory, Setup};
 use win_class::Classes;
 use win_num::{Cause, Filter, Frame, Hwnd, Msg, Point, SendId, Thread};
-use win_tree::{Tree, Unmade, WindowRow};
+use win_tree::Tree;
+use window_state::{step_told, thread_of, up};
 
 /// How many frames a stack may hold.
 const STACK_LIMIT: u8 = 64;
@@ -508,8 +509,8 @@ impl CoreState {
         ensures err { OnErr result (self.new ≡ self.old) }
     {
         let cursor = self.cursor();
-        let first = first_cause(&self.sends, entry);
         let named = named_send(&self.sends, entry);
+        let first = first_cause(&self.sends, named);
         self.history.reserve(1)?;
         self.stories.reserve(1)?;
         let place = self.history.len() as u32;
@@ -548,26 +549,4 @@ fn fresh_threads(alloc: Global, count: u8) -> Result<Vec<ThreadState>, AllocErro
         threads.push(ThreadState::new(alloc))?;
     }
     Ok(threads)
-}
-
-/// The parent, else the owner, or 0.
-fn up(row: &WindowRow) -> Hwnd
-    ensures { result ≡ up_of row.now }
-{
-    if row.parent == Hwnd(0) {
-        row.owner
-    } else {
-        row.parent
-    }
-}
-
-/// A step of a destruction as an answer.
-fn step_told(step: Unmade) -> Answer
-    ensures { result ≡ told_of step }
-{
-    match step {
-        Unmade::Tell(w) => Answer::Tell(w),
-        Unmade::Last(w) => Answer::Last(w),
-        Unmade::Gone | Unmade::NotDoomed => Answer::Gone,
-    }
 }

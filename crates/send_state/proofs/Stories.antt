@@ -28,9 +28,10 @@ use Rattle.user_model.proofs.SendLaws.{answer-next, answer-refused, is_sent, mak
 use Rattle.user_model.proofs.SendStanding.{Standing}
 use Rattle.send_state.specs.Parts.{SendParts, is_losable, top_of}
 use Rattle.send_state.specs.Standing.{PartsStand, as_told, known_of, row_of}
-use Rattle.send_state.specs.Stories.{EachStory, StoriesStand, entered_at, with_begun, no_story, noted_answer, noted_entering, noted_loss, noted_naming, story_of, told, with_answer}
+use Rattle.user_model.specs.Stories.{entered_at, no_story, story_of}
+use Rattle.send_state.specs.Stories.{EachStory, StoriesStand, with_begun, noted_answer, noted_entering, noted_loss, noted_naming, told, with_answer}
 use Rattle.send_state.specs.Tallies.{left_send, named_send, replied_to}
-use Rattle.send_state.specs.declared.story.SendStory.{SendStory}
+use Rattle.user_model.specs.declared.story.SendStory.{SendStory}
 use Rattle.send_state.specs.declared.story.Event.TheVariants.{Entered, Lost}
 use Rattle.send_state.proofs.LostSends.{IsLosing}
 use Rattle.send_state.proofs.Tallies.{IsNew, is_new, loses_none, no_name, unanswered_yet, unentered_yet}

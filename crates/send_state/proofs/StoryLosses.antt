@@ -6,7 +6,7 @@ use Rattle.std.proofs.lemmas.Bool.Decides.{nat_tests}
 use Rattle.send_frames.specs.Book.{IsNextAbove}
 use Rattle.send_state.specs.Parts.{SendParts, is_losable}
 use Rattle.send_state.specs.Stories.{EachStory, noted, noted_loss, told}
-use Rattle.send_state.specs.declared.story.SendStory.{SendStory}
+use Rattle.user_model.specs.declared.story.SendStory.{SendStory}
 use Rattle.send_state.specs.declared.story.Event.TheVariants.{Lost}
 
 abbrev pub Noting : Type 0

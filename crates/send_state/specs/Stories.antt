@@ -1,5 +1,5 @@
--- What became of each send, and what one entry adds to that.
-use Rattle.std.specs.Prelude.{if◌then◌else◌, ◌≡◌, ℕ, ◌+◌, ◌<◌, ◌==◌, Bool, List, [], ◌∷◌, ◌++◌, length, slice_index_or, Option, Some, None, is_none, is_some, option_map}
+-- What one entry adds to what became of each send.
+use Rattle.std.specs.Prelude.{if◌then◌else◌, ◌≡◌, ℕ, ◌+◌, ◌<◌, ◌==◌, Bool, List, [], ◌∷◌, ◌++◌, length, slice_index_or, Option, Some, None, is_none, is_some}
 use Rattle.std.specs.Option.{option_or}
 use Rattle.std.specs.FinMap as map
 use Rattle.win_num.specs.declared.send.SendId.{SendId}
@@ -7,29 +7,13 @@ use Rattle.win_num.specs.declared.send.Cause.{Cause}
 use Rattle.win_num.specs.declared.send.Cause.TheVariants.{Loss}
 use Rattle.user_model.specs.declared.entry.Answer.{Answer}
 use Rattle.user_model.specs.declared.entry.Answer.TheVariants.{Inside, Begun}
-use Rattle.user_model.specs.Past.{Past, first}
-use Rattle.user_model.specs.Sends.{answer, enters, send, sends}
-use Rattle.user_model.specs.SendStories.{entries}
+use Rattle.user_model.specs.Past.{Past}
+use Rattle.user_model.specs.Sends.{enters, sends}
 use Rattle.send_state.specs.Parts.{SendParts, is_losable}
-use Rattle.send_state.specs.declared.story.SendStory.{SendStory}
+use Rattle.user_model.specs.declared.story.SendStory.{SendStory}
+use Rattle.user_model.specs.Stories.{no_story, story_of}
 use Rattle.send_state.specs.declared.story.Event.{Event}
 use Rattle.send_state.specs.declared.story.Event.TheVariants.{Entered, Answered, Lost}
-
--- the place at which the send was entered
-abbrev pub entered_at : Past → ℕ → Option ℕ
-entered_at past s = first (entries past s)
-
--- what became of the send of a number
-abbrev pub story_of : Past → ℕ → SendStory
-story_of past s = record { entered_at = entered_at past s; answered_at = option_map (λ o. o.place) (answer past s); cause = option_map (λ o. o.cause) (answer past s) }
-
--- nothing has happened
-abbrev pub no_story : SendStory
-no_story = record { entered_at = None; answered_at = None; cause = None }
-
--- what became of the send of a number; nothing, where there is none
-abbrev pub send_story : Past → ℕ → SendStory
-send_story past s = if is_some (send past s) then story_of past s else no_story
 
 -- ---- what happens to one
 

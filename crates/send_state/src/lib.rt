@@ -13,7 +13,7 @@ mod tests;
 
 pub use send_frames::SendRow;
 pub use state::SendState;
-pub use story::{SendStory, add_story, note_answer};
+pub use story::{add_story, note_answer};
 pub use tally::{Tally, first_cause, named_send};
-pub use user_model::Answer;
+pub use user_model::{Answer, SendStory};
 pub use win_num::{Cause, Code, Fault, Frame, Hwnd, Kind, SendId, Thread};

@@ -9,12 +9,12 @@ ghost use Rattle.send_variants.specs.Lists.{with_list, IsThread as IsListed};
 ghost use Rattle.send_state.specs.Parts.{CanAnswer, CanBegin, CanJoin, CanLeaveFrom, CanLose, ended, freed_to, is_from, is_losable, lost, CanReplyIn, CanServe, answered, begun, blocks_as, callback_in, deadline_of, dispatched, enter_as, finished, head_of, left, lists_joined, lost_count, next_answer, next_window, no_parts, rank, replied, runs_callback, served, timed_out, top_of};
 ghost use Rattle.send_state.specs.Stories.{EachStory, noted_loss};
 
-use crate::story::{Event, SendStory, note};
+use crate::story::{Event, note};
 use send_frames::{SendRow, Sends};
 use send_variants::{Ready, ReadyLists};
 use std::alloc::{AllocError, Global};
 use std::marker::Model;
-use user_model::Answer;
+use user_model::{Answer, SendStory};
 use win_num::{Cause, Fault, Frame, Hwnd, Kind, SendId, Thread, names};
 
 /// How many frames a stack may hold.

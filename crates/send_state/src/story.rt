@@ -1,22 +1,10 @@
 //! What became of each send.
 
 ghost use Rattle.std.specs.Prelude.{◌≡◌, ◌+◌, ◌≤◌, vec_capacity, vec_len};
-ghost use Rattle.send_state.specs.Stories.{EachStory, no_story, noted, noted_answer, told, with_begun};
+ghost use Rattle.send_state.specs.Stories.{EachStory, noted, noted_answer, told, with_begun};
 
-use user_model::Answer;
+use user_model::{Answer, SendStory};
 use win_num::{Cause, SendId};
-
-/// Where a send was entered, and where and by which cause it got its first answer. Places are those of the
-/// history's entries, from 0 on.
-#[derive(Clone, Copy, Debug, PartialEq, Eq)]
-pub struct SendStory {
-    /// The place of the entry that entered it.
-    pub entered_at: Option<u32>,
-    /// The place of the entry that gave its first answer.
-    pub answered_at: Option<u32>,
-    /// The cause of that answer.
-    pub cause: Option<Cause>,
-}
 
 /// What happens to a send.
 #[derive(Clone, Copy)]
@@ -29,45 +17,32 @@ pub(crate) enum Event {
     Lost,
 }
 
-impl SendStory {
-    /// A send that was begun, to which nothing has happened.
-    pub fn new() -> SendStory
-        ensures { result ≡ no_story }
-    {
-        SendStory {
-            entered_at: None,
-            answered_at: None,
-            cause: None,
-        }
+/// A story with what happened at a place. What happened first stands.
+fn told(story: SendStory, event: Event, place: u32) -> SendStory
+    ensures { result ≡ told event place story }
+{
+    match event {
+        Event::Entered => SendStory {
+            entered_at: story.entered_at.or(Some(place)),
+            ..story
+        },
+        Event::Answered(cause) => answered(story, cause, place),
+        Event::Lost if story.entered_at.is_none() => answered(story, Cause::Loss, place),
+        Event::Lost => story,
     }
+}
 
-    /// The story with what happened at a place. What happened first stands.
-    fn told(self, event: Event, place: u32) -> SendStory
-        ensures { result ≡ told event place self }
-    {
-        match event {
-            Event::Entered => SendStory {
-                entered_at: self.entered_at.or(Some(place)),
-                ..self
-            },
-            Event::Answered(cause) => self.answered(cause, place),
-            Event::Lost if self.entered_at.is_none() => self.answered(Cause::Loss, place),
-            Event::Lost => self,
-        }
+/// A story with an answer, where there was none.
+fn answered(story: SendStory, cause: Cause, place: u32) -> SendStory
+    ensures { result ≡ told (Event.Answered cause) place story }
+{
+    if story.answered_at.is_some() {
+        return story;
     }
-
-    /// The story with an answer, where there was none.
-    fn answered(self, cause: Cause, place: u32) -> SendStory
-        ensures { result ≡ told (Event.Answered cause) place self }
-    {
-        if self.answered_at.is_some() {
-            return self;
-        }
-        SendStory {
-            answered_at: Some(place),
-            cause: Some(cause),
-            ..self
-        }
+    SendStory {
+        answered_at: Some(place),
+        cause: Some(cause),
+        ..story
     }
 }
 
@@ -79,7 +54,7 @@ pub(crate) fn note(stories: &mut [SendStory], send: SendId, event: Event, place:
     if number == 0 || number > stories.len() {
         return;
     }
-    stories[number - 1] = stories[number - 1].told(event, place);
+    stories[number - 1] = told(stories[number - 1], event, place);
 }
 
 /// Adds a story to those of sends from 1 on where an answer begins a send. There has to be room for it.

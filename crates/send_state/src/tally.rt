@@ -1,7 +1,7 @@
 //! How many sends came to what.
 
 ghost use Rattle.std.specs.Prelude.{◌≡◌};
-ghost use Rattle.send_state.specs.Tallies.{FitsNaming, FitsTally, enters_one, first_cause, is_by, named_send, one_if, tallied};
+ghost use Rattle.send_state.specs.Tallies.{FitsNaming, FitsTally, enters_one, first_of, is_by, named_send, one_if, tallied};
 
 use crate::state::SendState;
 use user_model::{Answer, Call, Entry};
@@ -75,13 +75,13 @@ fn count_by(first: Option<Cause>, cause: Cause) -> u32
     }
 }
 
-/// The cause by which an entry gives a send its first answer: its procedure is left, it is replied to, or
-/// its time is over (`None` where it had an answer). To be asked before the entry's change.
-pub fn first_cause(sends: &SendState, entry: Entry) -> Option<Cause>
-    requires { FitsNaming sends.now entry.who.0 entry.answer entry.call }
-    ensures { result ≡ first_cause sends.now entry.who.0 entry.answer entry.call }
+/// The cause by which a send that an entry names gets its first answer: its procedure is left, it is
+/// replied to, or its time is over (`None` where it had an answer, or the entry names none). To be asked
+/// before the entry's change.
+pub fn first_cause(sends: &SendState, named: Option<(SendId, Cause)>) -> Option<Cause>
+    ensures { result ≡ first_of sends.now named }
 {
-    let (send, cause) = named_send(sends, entry)?;
+    let (send, cause) = named?;
     if sends.row(send).is_some() && sends.answered(send).is_none() {
         Some(cause)
     } else {

@@ -10,7 +10,7 @@ mod codes;
 mod user;
 mod windows;
 
-pub use core_state::SendStory;
+pub use user_model::SendStory;
 pub use user::User;
 
 #[cfg(test)]

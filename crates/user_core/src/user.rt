@@ -1,17 +1,17 @@
 //! The machine.
 
 ghost use Rattle.std.specs.Prelude.{◌≡◌, [], IfOk, reverse};
-ghost use Rattle.send_state.specs.Stories.{send_story};
+ghost use Rattle.user_model.specs.Stories.{send_story};
 ghost use Rattle.user_model.specs.Idle.{have_all_ended};
 ghost use Rattle.user_model.specs.Legal.{IsLegal};
 ghost use Rattle.user_model.specs.Setups.{IsSetup};
 
 use crate::answer::{answer, have_all_ended, is_barred, is_clock_barred};
 use core_deliver::{deliver, is_delivery, is_retrieval, retrieve};
-use core_state::{CoreState, SendStory};
+use core_state::CoreState;
 use std::alloc::{AllocError, Global};
 use std::marker::Model;
-use user_model::{Answer, Call, Entry, Machine, SendCount, Setup};
+use user_model::{Answer, Call, Entry, Machine, SendCount, SendStory, Setup};
 use win_num::{SendId, Thread};
 
 /// The message machine for the threads of one script. Each of its answers is the reply of the

@@ -5,7 +5,7 @@ use Rattle.std.specs.List.{AllByRecursion}
 use Rattle.user_model.specs.Past.{Past, first}
 use Rattle.user_model.specs.Sends.{Outcome, answer, send}
 use Rattle.user_model.specs.SendStories.{IsSendStory, entries}
-use Rattle.send_state.specs.Stories.{no_story, send_story, story_of}
+use Rattle.user_model.specs.Stories.{no_story, send_story, story_of}
 
 abbrev value : Option ℕ → ℕ
 value None = 0

@@ -1,7 +1,7 @@
 //! What the laws speak of, told of a given machine.
 
 ghost use Rattle.std.specs.Prelude.{◌≡◌, ◌<◌, ℕ, Some, None, IfSome, if◌then◌else◌};
-ghost use Rattle.send_state.specs.Stories.{send_story};
+ghost use Rattle.user_model.specs.Stories.{send_story};
 ghost use Rattle.user_model.specs.Counts.{send_count};
 ghost use Rattle.user_model.specs.Idle.{have_all_ended};
 ghost use Rattle.user_model.specs.SendStories.{IsSendStory, IsSettled};

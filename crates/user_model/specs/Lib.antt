@@ -21,6 +21,7 @@ pub mod SendStories
 pub mod Sends
 pub mod Setups
 pub mod Stacks
+pub mod Stories
 pub mod Tellers
 pub mod Threads
 pub mod Windows

@@ -8,11 +8,13 @@
 mod call;
 mod entry;
 mod machine;
+mod story;
 mod teller;
 
 pub use call::Call;
 pub use entry::{Answer, Entry, Origin, SendCount, Setup};
 pub use machine::Machine;
+pub use story::SendStory;
 pub use teller::{Alone, Teller, Told, alone_tells_all};
 
 /// How many entries a history has at most.

@@ -3,7 +3,7 @@ use Rattle.std.proofs.lemmas.List.{reverse-reverse}
 use Rattle.user_model.specs.declared.entry.Entry.{Entry}
 use Rattle.user_model.specs.Legal.{IsLawful}
 use Rattle.user_model.proofs.SendStories as laws
-use Rattle.send_state.specs.declared.story.SendStory.{SendStory}
+use Rattle.user_model.specs.declared.story.SendStory.{SendStory}
 use Rattle.user_laws.proofs.Stories as stories
 use Rattle.user_laws.proofs.machines.send_law.Goals as goal
 

@@ -6,8 +6,8 @@ use Rattle.user_model.specs.Idle.{reply}
 use Rattle.user_model.proofs.ClockLaws.{past_more}
 use Rattle.core_state.specs.States.{Parts, Seen, Stands, parts}
 use Rattle.send_state.specs.Stories.{EachStory, noted_answer, with_begun}
-use Rattle.send_state.specs.declared.story.SendStory.{SendStory}
-use Rattle.send_state.specs.Tallies.{first_cause, named_send}
+use Rattle.user_model.specs.declared.story.SendStory.{SendStory}
+use Rattle.send_state.specs.Tallies.{first_cause, first_of, named_send}
 use Rattle.core_state.proofs.Appended.{growth_fits, sends_grow, sends_settle, settling_fits, stands_step, tally_step}
 use Rattle.core_state.proofs.SendCounts.{naming_fits}
 use Rattle.core_state.proofs.StoryReads.{written}
@@ -68,7 +68,7 @@ invariant_of-self-2 c =
     let here : c.len-place.result ≡ place_after past = long ∙ sym (length-reverse s.history.items) in
     let grown = c.in_ok-grow.ensures in
     let settled = c.settle.ensures in
-    let first : c.first_cause-first.result ≡ first_cause s.sends e.who.0 e.answer e.call = c.first_cause-first.ensures in
+    let first : c.first_cause-first.result ≡ first_cause s.sends e.who.0 e.answer e.call = c.first_cause-first.ensures ∙ ap (first_of s.sends) c.named_send-named.ensures in
     let before : c.deref_mut.result.now ≡ c.add_story.new.stories.items = c.deref_mut.ensures.value in
     let counted : c.add_story.new.stories.len ≡ length c.add_story.new.stories.items = search rules in
     let losses = c.settle_sends-lost.ensures.stories in
@@ -84,15 +84,6 @@ invariant_of-self-2 c =
     ∙ written c.note_answer.new.stories c.settle_sends-lost.new.stories c.add_story.new.stories.len (counted ∙ sym shared) noted.same_length in
     subst (λ (l : List SendStory). Stands s.setup (reverse c.push.new.self.items) (parts c.settle.new.tree c.settle.new.classes c.note_entry.new.threads.items c.count_after-self-inside.result c.time_after-self-inside.result c.settle_sends-lost.new.sends c.with-self-inside.result l)) (sym whole)
     (subst (λ (h : Past). Stands s.setup h (parts c.settle.new.tree c.settle.new.classes c.note_entry.new.threads.items c.count_after-self-inside.result c.time_after-self-inside.result c.settle_sends-lost.new.sends c.with-self-inside.result c.note_answer.new.stories)) newest (search (rules, now)))
-
-pub first_cause-first-requires : goal.first_cause-first-requires
-first_cause-first-requires c =
-    let e = c.args.entry in
-    let s = c.self.inside in
-    let past : Past = reverse s.history.items in
-    let room : is_full past ≡ false = subst (λ (v : Seen). is_full v.past ≡ false) (sym c.self.view_is) c.requires.room in
-    let right : e.answer ≡ reply s.setup past e.who.0 e.call = subst (λ (v : Seen). e.answer ≡ reply v.setup v.past e.who.0 e.call) (sym c.self.view_is) c.requires.answer in
-    naming_fits s.setup past e s.sends s.tree.live c.self.invariant.lawful room c.self.invariant.sends c.self.invariant.tree.windows right
 
 pub with-self-inside-requires : goal.with-self-inside-requires
 with-self-inside-requires c =

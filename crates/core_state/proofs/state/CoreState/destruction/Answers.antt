@@ -6,10 +6,10 @@ use Rattle.win_tree.specs.Destruction.{unmade}
 use Rattle.user_model.specs.Windows.{is_live}
 use Rattle.user_model.specs.Destruction.{is_marked}
 use Rattle.core_state.specs.States.{Seen}
-use Rattle.core_state.specs.Steps.{destruction_answer, told_of}
-use Rattle.core_state.proofs.Lookups.{none_found}
-use Rattle.core_state.proofs.TreeAnswers.{destruction_at}
-use Rattle.core_state.proofs.TreeFacts.{is_live_at}
+use Rattle.window_state.specs.Steps.{destruction_answer, told_of}
+use Rattle.window_state.proofs.Lookups.{none_found}
+use Rattle.window_state.proofs.TreeAnswers.{destruction_at}
+use Rattle.window_state.proofs.TreeFacts.{is_live_at}
 use Rattle.core_state.proofs.state.CoreState.destruction.Goals as goal
 
 pub returns-in-Some : goal.returns-in-Some

@@ -4,7 +4,7 @@ use Rattle.std.specs.Prelude.{is_some}
 use Rattle.win_class.specs.ClassTable.{ClassTable, class_in}
 use Rattle.user_model.specs.Classes.{class}
 use Rattle.core_state.specs.States.{Seen}
-use Rattle.core_state.proofs.ClassLaws.{has_class_at}
+use Rattle.window_state.proofs.ClassLaws.{has_class_at}
 use Rattle.core_state.proofs.state.CoreState.has_class.Goals as goal
 
 pub returns : goal.returns

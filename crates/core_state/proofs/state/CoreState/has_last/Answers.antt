@@ -5,8 +5,8 @@ use Rattle.win_tree.specs.Windows as kept
 use Rattle.user_model.specs.Windows.{is_live}
 use Rattle.user_model.specs.Destruction.{ended, was_given}
 use Rattle.core_state.specs.States.{Seen}
-use Rattle.core_state.proofs.Lookups.{none_ended}
-use Rattle.core_state.proofs.TreeFacts.{is_ended_at}
+use Rattle.window_state.proofs.Lookups.{none_ended}
+use Rattle.window_state.proofs.TreeFacts.{is_ended_at}
 use Rattle.core_state.proofs.state.CoreState.has_last.Goals as goal
 
 pub returns-in-Some : goal.returns-in-Some

@@ -4,8 +4,8 @@ use Rattle.std.specs.Prelude.{is_some}
 use Rattle.win_tree.specs.Windows.{window_of}
 use Rattle.user_model.specs.Windows.{is_live}
 use Rattle.core_state.specs.States.{Seen}
-use Rattle.core_state.proofs.Lookups.{number_found}
-use Rattle.core_state.proofs.TreeFacts.{is_live_at}
+use Rattle.window_state.proofs.Lookups.{number_found}
+use Rattle.window_state.proofs.TreeFacts.{is_live_at}
 use Rattle.core_state.proofs.state.CoreState.is_live.Goals as goal
 
 pub returns : goal.returns

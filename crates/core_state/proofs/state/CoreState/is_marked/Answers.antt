@@ -5,8 +5,8 @@ use Rattle.win_tree.specs.Windows as kept
 use Rattle.user_model.specs.Windows.{is_live}
 use Rattle.user_model.specs.Destruction.{is_marked}
 use Rattle.core_state.specs.States.{Seen}
-use Rattle.core_state.proofs.Lookups.{none_marked}
-use Rattle.core_state.proofs.TreeFacts.{is_marked_at}
+use Rattle.window_state.proofs.Lookups.{none_marked}
+use Rattle.window_state.proofs.TreeFacts.{is_marked_at}
 use Rattle.core_state.proofs.state.CoreState.is_marked.Goals as goal
 
 pub returns-in-Some : goal.returns-in-Some

@@ -2,7 +2,7 @@ use Rattle.std.proofs.Common.{reverse, ap, sym, ◌∙◌}
 use Rattle.user_model.specs.Past.{Past}
 use Rattle.user_model.specs.Classes.{is_used}
 use Rattle.core_state.specs.States.{Seen}
-use Rattle.core_state.proofs.TreeFacts.{is_used_at}
+use Rattle.window_state.proofs.TreeFacts.{is_used_at}
 use Rattle.core_state.proofs.state.CoreState.is_used.Goals as goal
 
 pub returns : goal.returns

@@ -5,8 +5,8 @@ use Rattle.user_model.specs.declared.entry.Answer.TheVariants as answers
 use Rattle.user_model.specs.declared.entry.Answer.{Answer}
 use Rattle.user_model.specs.ReplyWindows.{next_top_reply}
 use Rattle.core_state.specs.States.{Seen}
-use Rattle.core_state.proofs.TreeAnswers.{next_top_great}
-use Rattle.core_state.proofs.TreeFacts.{next_top_at}
+use Rattle.window_state.proofs.TreeAnswers.{next_top_great}
+use Rattle.window_state.proofs.TreeFacts.{next_top_at}
 use Rattle.core_state.proofs.state.CoreState.next_top.Goals as goal
 
 pub returns-then-w-from : goal.returns-then-w-from

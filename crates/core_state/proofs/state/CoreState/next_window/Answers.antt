@@ -1,6 +1,6 @@
 use Rattle.std.proofs.Common.{reverse, arith}
 use Rattle.user_model.specs.Past.{Past}
-use Rattle.core_state.proofs.TreeAnswers.{last_small}
+use Rattle.window_state.proofs.TreeAnswers.{last_small}
 use Rattle.core_state.proofs.state.CoreState.next_window.Goals as goal
 
 pub overflow_add-result : goal.overflow_add-result

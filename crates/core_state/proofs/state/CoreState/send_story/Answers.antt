@@ -1,6 +1,6 @@
 use Rattle.std.proofs.Common.{rules, ◌≡◌, ◌<◌, ◌≤◌, ◌-◌, get_or, reverse, length, ap, ◌∙◌}
 use Rattle.user_model.specs.Past.{Past}
-use Rattle.send_state.specs.Stories.{no_story, send_story}
+use Rattle.user_model.specs.Stories.{no_story, send_story}
 use Rattle.core_state.specs.States.{Seen}
 use Rattle.core_state.proofs.StoryReads.{no_story-above, no_story-zero, story-at}
 use Rattle.core_state.proofs.state.CoreState.send_story.Goals as goal

@@ -6,10 +6,10 @@ use Rattle.user_model.specs.Legal.{IsLawful}
 use Rattle.user_model.specs.Threads.{is_running}
 use Rattle.user_model.specs.Windows.{Window, is_live, thread_of}
 use Rattle.user_model.proofs.WindowFacts.{live_running, live_window}
-use Rattle.core_state.specs.Deliveries.{thread_in}
+use Rattle.window_state.specs.Trees.{thread_in}
 use Rattle.core_state.specs.States.{Seen}
 use Rattle.core_state.proofs.Deliveries.{thread_in-is}
-use Rattle.core_state.proofs.Lookups.{none_threaded}
+use Rattle.window_state.proofs.Lookups.{none_threaded}
 use Rattle.core_state.proofs.state.CoreState.thread_of.Goals as goal
 
 -- the thread of a live window runs

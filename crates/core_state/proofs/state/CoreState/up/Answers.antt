@@ -6,9 +6,9 @@ use Rattle.win_tree.specs.Windows.{window_of}
 use Rattle.user_model.specs.Past.{Past}
 use Rattle.user_model.specs.Windows.{up, window}
 use Rattle.core_state.specs.States.{Seen}
-use Rattle.core_state.specs.Steps.{up_of}
-use Rattle.core_state.proofs.Lookups.{none_found, row_up}
-use Rattle.core_state.proofs.TreeAnswers.{up_at}
+use Rattle.window_state.specs.Steps.{up_of}
+use Rattle.window_state.proofs.Lookups.{none_found, row_up}
+use Rattle.window_state.proofs.TreeAnswers.{up_at}
 use Rattle.core_state.proofs.state.CoreState.up.Goals as goal
 
 pub returns-in_err-window : goal.returns-in_err-window

@@ -4,7 +4,7 @@ use Rattle.user_model.specs.Past.{Past}
 use Rattle.user_model.specs.Classes.{proc_of}
 use Rattle.win_class.specs.declared.classes.Class.{Class}
 use Rattle.core_state.specs.States.{Seen}
-use Rattle.core_state.proofs.Procs.{no_proc, row_proc}
+use Rattle.window_state.proofs.Procs.{no_proc, row_proc}
 use Rattle.core_state.proofs.state.CoreState.window_proc.Goals as goal
 
 pub returns-in_default : goal.returns-in_default

@@ -1,0 +1,13 @@
+pub mod Bridges
+pub mod ClassLaws
+pub mod ClassSteps
+pub mod Destructions
+pub mod Lookups
+pub mod NewWindows
+pub mod Outcomes
+pub mod Procs
+pub mod TreeAnswers
+pub mod TreeFacts
+pub mod TreeLaws
+pub mod TreeNeeds
+pub mod TreeSteps

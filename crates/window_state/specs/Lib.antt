@@ -1,0 +1,5 @@
+pub mod ClassTables
+pub mod Effects
+pub mod Needs
+pub mod Steps
+pub mod Trees

@@ -1,0 +1,15 @@
+//! What is kept of windows and classes: what an entry does to the table of windows and to the table of
+//! classes and registered messages, and what is looked up in them.
+//!
+//! The definitions say which tables a past has made, and the laws that what an entry does to the tables is
+//! what it does to the past.
+#![tactic(auto)]
+
+mod finding;
+mod tables;
+
+pub use finding::{step_told, thread_of, up, window_or_none};
+pub use tables::{doom, drop_window, make, name, unmake, unregister};
+
+#[cfg(test)]
+mod tests;
