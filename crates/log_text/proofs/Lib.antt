@@ -1,2 +1,3 @@
-pub mod Passed
+pub mod EntryTexts
 pub mod NoName
+pub mod Passed

@@ -37,17 +37,7 @@ pub part_so_far : (a b : Option (List ℕ)) (x y p q : List ℕ) → Passes a b 
 part_so_far a b x y p q h =
     subst (AppendsPart a b) (sym (append_assoc h.gone y q) ∙ ap (λ (l : List ℕ). l ++ q) h.is ∙ append_assoc x p q) (part_start a b h.gone (y ++ q) h.written)
 
--- a piece that failed on the way
-pub part_of_pieces_passed : {X : Type 0} (a b c : Option (List ℕ)) (x y : List ℕ) (f : X → List ℕ) (xs : List X) (i : ℕ) (d : X) → i < length xs → Passes a b x y (flat_map f (take i xs)) → AppendsPart b c (y ++ f (get_or xs i d)) → AppendsPart a c (x ++ flat_map f xs)
-part_of_pieces_passed a b c x y f xs i d lt h k =
-    let up_to : AppendsPart a c (x ++ flat_map f (take (i + 1) xs)) = subst (λ (l : List ℕ). AppendsPart a c (x ++ l)) (pieces_more f xs i d lt) (part_then a b c x y (flat_map f (take i xs)) (f (get_or xs i d)) h k) in
-    subst (AppendsPart a c) (append_assoc x (flat_map f (take (i + 1) xs)) (flat_map f (drop (i + 1) xs)) ∙ ap (λ (l : List ℕ). x ++ l) (pieces_cut f xs (i + 1))) (part_longer a c (x ++ flat_map f (take (i + 1) xs)) (flat_map f (drop (i + 1) xs)) up_to)
-
 -- what is left was written too
 pub written_then : (a b c : Option (List ℕ)) (x y p q : List ℕ) → Passes a b x y p → Appends b c (y ++ q) → Appends a c (x ++ (p ++ q))
 written_then a b c x y p q h k =
     subst (Appends a c) (sym (append_assoc h.gone y q) ∙ ap (λ (l : List ℕ). l ++ q) h.is ∙ append_assoc x p q) (Appends-trans a b c h.gone (y ++ q) h.written k)
-
--- one more piece of a list was passed on
-pub pieces_passed : {X : Type 0} (a b c : Option (List ℕ)) (x y z : List ℕ) (f : X → List ℕ) (xs : List X) (i : ℕ) (d : X) → i < length xs → Passes a b x y (flat_map f (take i xs)) → Passes b c y z (f (get_or xs i d)) → Passes a c x z (flat_map f (take (i + 1) xs))
-pieces_passed a b c x y z f xs i d lt h k = subst (λ (l : List ℕ). Passes a c x z l) (pieces_more f xs i d lt) (both a b c x y z (flat_map f (take i xs)) (f (get_or xs i d)) h k)

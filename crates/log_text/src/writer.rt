@@ -3,13 +3,12 @@
 //! The lines are made in one text, which goes into the sink where it has grown large, and is used
 //! again.
 
-ghost use Rattle.std.specs.Prelude.{◌≡◌, ◌≤◌, ◌++◌, [], length, OnOk, OnErr, IsErrOf};
-ghost use Rattle.std.specs.List.{flat_map};
+ghost use Rattle.std.specs.Prelude.{◌≡◌, ◌≤◌, ◌++◌, [], length, reverse, OnOk, OnErr, IsErrOf};
 ghost use Rattle.std.specs.Io.KnownBytes.{Appends};
 ghost use Rattle.user_io.specs.Outside.{Rose, AppendsPart};
 ghost use Rattle.log_text.specs.declared.writer.WriteFault.TheVariants.{Memory as OutOfMemory, Write as WriteFails};
 ghost use Rattle.log_text.specs.Ends.{setup_of, end_of};
-ghost use Rattle.log_text.specs.Entries.{entry_text};
+ghost use Rattle.log_text.specs.Entries.{entry_line, entries_text};
 ghost use Rattle.log_text.specs.Logs.{log};
 ghost use Rattle.log_text.specs.Passing.{Passes};
 
@@ -73,8 +72,8 @@ fn write_entry<K: Sink>(
     words: &Words,
     entry: Entry,
 ) -> Result<(), WriteFault>
-    ensures ok { OnOk result (Passes (K.holds sink.old) (K.holds sink.new) text.old.items text.new.items (entry_text words.now.script.now entry)) }
-    ensures err { OnErr result (AppendsPart (K.holds sink.old) (K.holds sink.new) (text.old.items ++ entry_text words.now.script.now entry)) }
+    ensures ok { OnOk result (Passes (K.holds sink.old) (K.holds sink.new) text.old.items text.new.items (entry_line words.now.script.now entry)) }
+    ensures err { OnErr result (AppendsPart (K.holds sink.old) (K.holds sink.new) (text.old.items ++ entry_line words.now.script.now entry)) }
     ensures faults { K.faults sink.old ≤ K.faults sink.new }
     ensures failed { IsErrOf result WriteFault.Write → Rose (K.faults sink.old) (K.faults sink.new) }
 {
@@ -82,15 +81,15 @@ fn write_entry<K: Sink>(
     pass_on(sink, text)
 }
 
-/// Adds the lines of the entries, and passes the text on where it has grown large.
+/// Adds the texts of the entries, from the oldest on, and passes the text on where it has grown large.
 fn write_entries<K: Sink>(
     sink: &mut K,
     text: &mut Vec<u8>,
     words: &Words,
     history: &[Entry],
 ) -> Result<(), WriteFault>
-    ensures ok { OnOk result (Passes (K.holds sink.old) (K.holds sink.new) text.old.items text.new.items (flat_map (entry_text words.now.script.now) history.now)) }
-    ensures err { OnErr result (AppendsPart (K.holds sink.old) (K.holds sink.new) (text.old.items ++ flat_map (entry_text words.now.script.now) history.now)) }
+    ensures ok { OnOk result (Passes (K.holds sink.old) (K.holds sink.new) text.old.items text.new.items (entries_text words.now.script.now (reverse history.now))) }
+    ensures err { OnErr result (AppendsPart (K.holds sink.old) (K.holds sink.new) (text.old.items ++ entries_text words.now.script.now (reverse history.now))) }
     ensures faults { K.faults sink.old ≤ K.faults sink.new }
     ensures failed { IsErrOf result WriteFault.Write → Rose (K.faults sink.old) (K.faults sink.new) }
 {

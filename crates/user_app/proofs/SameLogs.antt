@@ -1,24 +1,26 @@
 -- Two trees that say the same have the same logs.
 use Rattle.std.proofs.Common.{◌≡◌, ℕ, zero, suc, not, List, [], ◌∷◌, ◌++◌, length, Option, Some, None, refl, sym, ap, ◌∙◌}
-use Rattle.std.specs.Prelude.{◌==◌, ◌&&◌, if◌then◌else◌, is_none, reverse, codes, decimal, slice_get, unwrap_or}
+use Rattle.std.specs.Prelude.{◌==◌, ◌&&◌, if◌then◌else◌, is_none, codes, decimal, slice_get, unwrap_or}
 use Rattle.std.specs.List.{flat_map}
 use Rattle.user_model.specs.declared.call.Call.{Call}
-use Rattle.user_model.specs.declared.call.Call.TheVariants as calls
 use Rattle.user_model.specs.declared.entry.Answer.{Answer}
-use Rattle.user_model.specs.declared.entry.Answer.TheVariants as answers
 use Rattle.user_model.specs.declared.entry.Entry.{Entry}
 use Rattle.user_model.specs.declared.entry.Setup.{Setup}
 use Rattle.user_model.specs.Past.{Past}
 use Rattle.user_model.specs.Places.{has_ended}
 use Rattle.user_model.specs.Threads.{lowest, from_each}
 use Rattle.user_model.specs.Idle.{is_idle, is_quiet, have_all_ended, ends_stuck, is_barred}
+use Rattle.call_table.specs.declared.value.Value.{Value}
+use Rattle.call_table.specs.declared.value.Value.TheVariants as values
+use Rattle.call_table.specs.Calls.{call_row, call_name, call_parts}
+use Rattle.call_table.specs.Answers.{answer_row, answer_name, answer_parts}
 use Rattle.user_io.specs.Text.{operand}
 use Rattle.script_tree.specs.Tree.{ProcedureTree, Tree}
 use Rattle.script_text.specs.Lines.{names_of}
 use Rattle.log_text.specs.declared.end.End.{End}
 use Rattle.log_text.specs.declared.end.End.TheVariants.{Done, Stuck, Spent, Cut}
 use Rattle.log_text.specs.Ends.{setup_of, used, end_of}
-use Rattle.log_text.specs.Entries.{name_text, message_text, posting_text, procedure_name, procedure_text, call_text, answer_text, entry_text}
+use Rattle.log_text.specs.Entries.{procedure_name, procedure_text, value_text, call_text, answer_text, entry_text, entries_text}
 use Rattle.log_text.specs.Endings.{end_line, last_call, waits_line, spent_line, extra, sends_line, ending}
 use Rattle.log_text.specs.Logs.{log}
 use Rattle.user_app.proofs.SameRuns.{SameRules}
@@ -40,23 +42,17 @@ bare_name (p ∷ ps) (suc k) = bare_name ps k
 by_name : (s : Tree) (k : ℕ) → procedure_text s k ≡ procedure_text (named s.names (names_of s.procedures)) k
 by_name s k = ap (λ (o : Option (List ℕ)). 32 ∷ unwrap_or o (decimal k)) (bare_name s.procedures k)
 
--- the text of a call takes only the names
-call_by_names : (s : Tree) (call : Call) → call_text s call ≡ call_text (named s.names (names_of s.procedures)) call
-call_by_names s (calls.SendCallback w m p q procedure extra) = ap (λ (x : List ℕ). codes "send_callback" ++ (posting_text w m p q ++ (x ++ operand extra))) (by_name s procedure)
-call_by_names s (calls.Register class procedure colour) = ap (λ (x : List ℕ). codes "register" ++ (name_text s class ++ (x ++ operand colour))) (by_name s procedure)
-call_by_names s calls.EndThread = refl
-call_by_names s call = refl
+-- the text of a value takes only the names
+value_by_names : (s : Tree) (v : Value) → value_text s v ≡ value_text (named s.names (names_of s.procedures)) v
+value_by_names s (values.Procedure procedure) = by_name s procedure
+value_by_names s (values.Number n) = refl
+value_by_names s v = refl
 
--- and so does that of an answer
-answer_by_names : (s : Tree) (a : Answer) → answer_text s a ≡ answer_text (named s.names (names_of s.procedures)) a
-answer_by_names s (answers.Called procedure) = ap (λ (x : List ℕ). codes "called" ++ x) (by_name s procedure)
-answer_by_names s (answers.Inside n procedure) = ap (λ (x : List ℕ). codes "inside" ++ (operand n.0 ++ x)) (by_name s procedure)
-answer_by_names s (answers.Enter n procedure w m p q) =
-    ap (λ (x : List ℕ). codes "enter" ++ ((operand n.0 ++ (x ++ (operand w.0 ++ message_text m))) ++ (operand p ++ operand q))) (by_name s procedure)
-answer_by_names s (answers.Callback n procedure w m extra v) =
-    ap (λ (x : List ℕ). codes "callback" ++ ((operand n.0 ++ (x ++ (operand w.0 ++ message_text m))) ++ (operand extra ++ operand v))) (by_name s procedure)
-answer_by_names s answers.Okay = refl
-answer_by_names s a = refl
+values_by_names : (s : Tree) (vs : List Value) → flat_map (value_text s) vs ≡ flat_map (value_text (named s.names (names_of s.procedures))) vs
+values_by_names s [] = refl
+values_by_names s (v ∷ vs) =
+    ap (λ (x : List ℕ). x ++ flat_map (value_text s) vs) (value_by_names s v)
+    ∙ ap (λ (x : List ℕ). value_text (named s.names (names_of s.procedures)) v ++ x) (values_by_names s vs)
 
 -- an end by what it takes of a tree
 abbrev ends_so : Setup → ℕ → ℕ → Past → End
@@ -68,21 +64,24 @@ module _ (s t : Tree) (h : SameRules s t) where
   same_names : named s.names (names_of s.procedures) ≡ named t.names (names_of t.procedures)
   same_names = ap (λ (x : List (List ℕ)). named x (names_of s.procedures)) h.names ∙ ap (named t.names) h.procedure_names
 
+  same_values : (vs : List Value) → flat_map (value_text s) vs ≡ flat_map (value_text t) vs
+  same_values vs = values_by_names s vs ∙ ap (λ (x : Tree). flat_map (value_text x) vs) same_names ∙ sym (values_by_names t vs)
+
   same_call_text : (call : Call) → call_text s call ≡ call_text t call
-  same_call_text call = call_by_names s call ∙ ap (λ (x : Tree). call_text x call) same_names ∙ sym (call_by_names t call)
+  same_call_text call = ap (λ (x : List ℕ). (call_row (call_name call)).word ++ x) (same_values (call_parts call))
 
   same_answer_text : (a : Answer) → answer_text s a ≡ answer_text t a
-  same_answer_text a = answer_by_names s a ∙ ap (λ (x : Tree). answer_text x a) same_names ∙ sym (answer_by_names t a)
+  same_answer_text a = ap (λ (x : List ℕ). (answer_row (answer_name a)).word ++ x) (same_values (answer_parts a))
 
-  same_entry : (e : Entry) → entry_text s e ≡ entry_text t e
-  same_entry e =
+  same_entry : (past : Past) (e : Entry) → entry_text s past e ≡ entry_text t past e
+  same_entry past e =
       ap (λ (x : List ℕ). decimal e.who.0 ++ (codes " " ++ (x ++ (codes " = " ++ (answer_text s e.answer ++ codes "\n"))))) (same_call_text e.call)
       ∙ ap (λ (x : List ℕ). decimal e.who.0 ++ (codes " " ++ (call_text t e.call ++ (codes " = " ++ (x ++ codes "\n"))))) (same_answer_text e.answer)
 
-  same_entries : (es : List Entry) → flat_map (entry_text s) es ≡ flat_map (entry_text t) es
+  same_entries : (past : Past) → entries_text s past ≡ entries_text t past
   same_entries [] = refl
-  same_entries (e ∷ es) =
-      ap (λ (x : List ℕ). x ++ flat_map (entry_text s) es) (same_entry e) ∙ ap (λ (x : List ℕ). entry_text t e ++ x) (same_entries es)
+  same_entries (e ∷ past) =
+      ap (λ (x : List ℕ). x ++ entry_text s past e) (same_entries past) ∙ ap (λ (x : List ℕ). entries_text t past ++ x) (same_entry past e)
 
   -- how a past ends
   pub same_end : (past : Past) → end_of s past ≡ end_of t past
@@ -115,6 +114,6 @@ module _ (s t : Tree) (h : SameRules s t) where
   pub same_log : (past : Past) → log s past ≡ log t past
   unfolding log
   same_log past =
-      ap (λ (x : List ℕ). codes "log 1\n" ++ (x ++ ending s past (end_of s past))) (same_entries (reverse past))
-      ∙ ap (λ (x : List ℕ). codes "log 1\n" ++ (flat_map (entry_text t) (reverse past) ++ x)) (same_ending past (end_of s past))
-      ∙ ap (λ (e : End). codes "log 1\n" ++ (flat_map (entry_text t) (reverse past) ++ ending t past e)) (same_end past)
+      ap (λ (x : List ℕ). codes "log 1\n" ++ (x ++ ending s past (end_of s past))) (same_entries past)
+      ∙ ap (λ (x : List ℕ). codes "log 1\n" ++ (entries_text t past ++ x)) (same_ending past (end_of s past))
+      ∙ ap (λ (e : End). codes "log 1\n" ++ (entries_text t past ++ ending t past e)) (same_end past)

@@ -1,0 +1,4 @@
+pub mod AnswerLaws
+pub mod CallLaws
+pub mod Finding
+pub mod ValueEquality

@@ -1,0 +1,5 @@
+pub mod Answers
+pub mod Calls
+pub mod Forms
+pub mod Values
+pub mod Words
