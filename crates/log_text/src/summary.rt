@@ -70,7 +70,7 @@ fn put_summary(
 
 /// Writes the summary of a run that is over and was made from a number. Where the sink fails (`Write`,
 /// only where its count of faults has risen) and where memory is wanting (`Memory`), a front of the
-/// summary was written.
+/// summary was written. It is written whole only where the sink never failed.
 pub fn write_summary<M: Machine, K: Sink>(
     alloc: Global,
     made: u32,
@@ -81,6 +81,7 @@ pub fn write_summary<M: Machine, K: Sink>(
     ensures ok { OnOk result (Appends (K.holds sink.old) (K.holds sink.new) (summary made (M.past machine.now) end)) }
     ensures err { OnErr result (AppendsPart (K.holds sink.old) (K.holds sink.new) (summary made (M.past machine.now) end)) }
     ensures faults { K.faults sink.old ≤ K.faults sink.new }
+    ensures unfailed { OnOk result (K.faults sink.new ≡ K.faults sink.old) }
     ensures failed { IsErrOf result WriteFault.Write → Rose (K.faults sink.old) (K.faults sink.new) }
 {
     let mut text = Vec::new(alloc);

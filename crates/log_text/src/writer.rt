@@ -55,6 +55,7 @@ fn pass_on<K: Sink>(sink: &mut K, text: &mut Vec<u8>) -> Result<(), WriteFault>
     ensures ok { OnOk result (Passes (K.holds sink.old) (K.holds sink.new) text.old.items text.new.items []) }
     ensures err { OnErr result (AppendsPart (K.holds sink.old) (K.holds sink.new) text.old.items) }
     ensures faults { K.faults sink.old ≤ K.faults sink.new }
+    ensures unfailed { OnOk result (K.faults sink.new ≡ K.faults sink.old) }
     ensures failed { IsErrOf result WriteFault.Write → Rose (K.faults sink.old) (K.faults sink.new) }
 {
     if text.len() < PIECE {
@@ -75,6 +76,7 @@ fn write_entry<K: Sink>(
     ensures ok { OnOk result (Passes (K.holds sink.old) (K.holds sink.new) text.old.items text.new.items (entry_line words.now.script.now entry)) }
     ensures err { OnErr result (AppendsPart (K.holds sink.old) (K.holds sink.new) (text.old.items ++ entry_line words.now.script.now entry)) }
     ensures faults { K.faults sink.old ≤ K.faults sink.new }
+    ensures unfailed { OnOk result (K.faults sink.new ≡ K.faults sink.old) }
     ensures failed { IsErrOf result WriteFault.Write → Rose (K.faults sink.old) (K.faults sink.new) }
 {
     put_entry(text, words, entry)?;
@@ -91,6 +93,7 @@ fn write_entries<K: Sink>(
     ensures ok { OnOk result (Passes (K.holds sink.old) (K.holds sink.new) text.old.items text.new.items (entries_text words.now.script.now (reverse history.now))) }
     ensures err { OnErr result (AppendsPart (K.holds sink.old) (K.holds sink.new) (text.old.items ++ entries_text words.now.script.now (reverse history.now))) }
     ensures faults { K.faults sink.old ≤ K.faults sink.new }
+    ensures unfailed { OnOk result (K.faults sink.new ≡ K.faults sink.old) }
     ensures failed { IsErrOf result WriteFault.Write → Rose (K.faults sink.old) (K.faults sink.new) }
 {
     for entry in history {
@@ -100,7 +103,8 @@ fn write_entries<K: Sink>(
 }
 
 /// Writes the log of a run that is over. Where the sink fails (`Write`, only where its count of faults
-/// has risen) and where memory is wanting (`Memory`), a front of the log was written.
+/// has risen) and where memory is wanting (`Memory`), a front of the log was written. It is written whole only where the
+/// sink never failed.
 pub fn write_log<M: Machine, K: Sink>(
     alloc: Global,
     script: &Script,
@@ -114,6 +118,7 @@ pub fn write_log<M: Machine, K: Sink>(
     ensures ok { OnOk result (Appends (K.holds sink.old) (K.holds sink.new) (log script.now (M.past machine.now))) }
     ensures err { OnErr result (AppendsPart (K.holds sink.old) (K.holds sink.new) (log script.now (M.past machine.now))) }
     ensures faults { K.faults sink.old ≤ K.faults sink.new }
+    ensures unfailed { OnOk result (K.faults sink.new ≡ K.faults sink.old) }
     ensures failed { IsErrOf result WriteFault.Write → Rose (K.faults sink.old) (K.faults sink.new) }
 {
     let words = Words::new(script);

@@ -2,6 +2,8 @@
 use Rattle.std.specs.Prelude.{◌≡◌, ℕ, ◌⊎◌, List, length, Option, codes}
 use Rattle.std.specs.Io.KnownBytes.{Appends, Consumes, Keeps, IsAtEnd}
 use Rattle.user_model.specs.Past.{Past}
+use Rattle.user_model.specs.Counts.{send_count}
+use Rattle.user_model.specs.SendStories.{IsSendStory, IsSettled}
 use Rattle.user_io.specs.Outside.{Rose, AppendsPart}
 use Rattle.script_tree.specs.Tree.{Tree}
 use Rattle.script_text.specs.Limits.{IsScript}
@@ -17,12 +19,14 @@ use Rattle.user_app.specs.Made.{IsMade}
 use Rattle.user_app.specs.declared.status.Status.{Status}
 use Rattle.user_app.specs.declared.status.Status.TheVariants as statuses
 
--- the log of the script's one run was written, and this is its end
+-- the log of the script's one run was written, and this is its end; each send was entered at most once and before its one answer, and where all threads have ended each has its answer
 pub record Logged (s : Tree) (holds holds' : Option (List ℕ)) (end : End) : Type 0 where
   pub history : Past
   pub listed : IsListed s history
   pub ended : end_of s history ≡ end
   pub written : Appends holds holds' (log s history)
+  pub stories : (send : ℕ) → IsSendStory history send
+  pub settled : end ≡ ends.Done → IsSettled history (send_count history)
 
 -- a front of that log was written
 pub record LoggedPart (s : Tree) (holds holds' : Option (List ℕ)) : Type 0 where
@@ -78,6 +82,14 @@ pub record ReadNoScript (left left' : Option (List ℕ)) : Type 0 where
   pub text : List ℕ
   pub input : Consumes left left' text
   pub refused : (IsAtEnd left' × IsNoScript text) ⊎ (length text ≡ 1048577)
+
+-- all that was to be written was written
+abbrev pub IsWhole : Status → Type 0
+IsWhole statuses.Done = Unit {0}
+IsWhole statuses.Stuck = Unit {0}
+IsWhole statuses.Spent = Unit {0}
+IsWhole statuses.Script = Unit {0}
+IsWhole _ = ⊥
 
 -- the line of a refusal
 abbrev pub refusal_text : List ℕ

@@ -7,7 +7,7 @@ ghost use Rattle.user_io.specs.Outside.{Rose, AppendsPart};
 ghost use Rattle.script_text.specs.Limits.{IsScript};
 ghost use Rattle.log_text.specs.Ends.{setup_of};
 ghost use Rattle.user_app.specs.Requests.{AskNothing, IsMake, run_words};
-ghost use Rattle.user_app.specs.Outcomes.{Ran, RunEnds, MakeEnds, ReadNoScript, Refuses, refusal_text};
+ghost use Rattle.user_app.specs.Outcomes.{Ran, RunEnds, MakeEnds, ReadNoScript, Refuses, IsWhole, refusal_text};
 
 use crate::made::made_script;
 use crate::request::{Request, read_words};
@@ -19,7 +19,7 @@ use std::alloc::{AllocError, Global};
 use user_core::User;
 use user_io::{ReadEnd, Sink, Source, read_all, write_all};
 use user_model::Setup;
-use user_pool::run_listed;
+use user_pool::{run_listed, runs_answer_their_sends};
 
 /// Does what the words ask for. At the one word `run` it reads a script from the source to its end, runs
 /// it, and writes the log of its run into the sink. At `make` and a number from 1 to 60000, in decimal
@@ -52,6 +52,9 @@ pub fn user_plain<S: Source, K: Sink>(
     ensures read_fault { result ≡ Status.ReadFault → (map string_bytes words.now ≡ run_words) × Rose (S.faults source.old) (S.faults source.new) × (sink.new ≡ sink.old) }
     ensures write_fault { result ≡ Status.WriteFault → Rose (K.faults sink.old) (K.faults sink.new) }
 
+    // All is written only where neither the source nor the sink has failed in this call.
+    ensures whole { IsWhole result → (S.faults source.new ≡ S.faults source.old) × (K.faults sink.new ≡ K.faults sink.old) }
+
     // After a failed write, and after want of memory, a front of the text was written.
     ensures write_part { map string_bytes words.now ≡ run_words → result ≡ Status.WriteFault → Ran (S.left source.old) (S.left source.new) (K.holds sink.old) (K.holds sink.new) (K.faults sink.old) (K.faults sink.new) Status.WriteFault ⊎ (ReadNoScript (S.left source.old) (S.left source.new) × AppendsPart (K.holds sink.old) (K.holds sink.new) refusal_text) }
     ensures memory_part { map string_bytes words.now ≡ run_words → result ≡ Status.Memory → Keeps (K.holds sink.old) (K.holds sink.new) ⊎ Ran (S.left source.old) (S.left source.new) (K.holds sink.old) (K.holds sink.new) (K.faults sink.old) (K.faults sink.new) Status.Memory }
@@ -75,6 +78,7 @@ fn run_input<S: Source, K: Sink>(alloc: Global, source: &mut S, sink: &mut K) ->
     ensures refused { result ≡ Status.Script → ReadNoScript (S.left source.old) (S.left source.new) × Appends (K.holds sink.old) (K.holds sink.new) refusal_text }
     ensures read_fault { result ≡ Status.ReadFault → Rose (S.faults source.old) (S.faults source.new) × (sink.new ≡ sink.old) }
     ensures write_fault { result ≡ Status.WriteFault → Rose (K.faults sink.old) (K.faults sink.new) }
+    ensures whole { IsWhole result → (S.faults source.new ≡ S.faults source.old) × (K.faults sink.new ≡ K.faults sink.old) }
     ensures write_part { result ≡ Status.WriteFault → Ran (S.left source.old) (S.left source.new) (K.holds sink.old) (K.holds sink.new) (K.faults sink.old) (K.faults sink.new) Status.WriteFault ⊎ (ReadNoScript (S.left source.old) (S.left source.new) × AppendsPart (K.holds sink.old) (K.holds sink.new) refusal_text) }
     ensures memory_part { result ≡ Status.Memory → Keeps (K.holds sink.old) (K.holds sink.new) ⊎ Ran (S.left source.old) (S.left source.new) (K.holds sink.old) (K.holds sink.new) (K.faults sink.old) (K.faults sink.new) Status.Memory }
 {
@@ -93,7 +97,8 @@ fn run_input<S: Source, K: Sink>(alloc: Global, source: &mut S, sink: &mut K) ->
 
 /// Says that the input is no script.
 fn refuse<K: Sink>(sink: &mut K) -> Status
-    ensures { Refuses (K.holds sink.old) (K.holds sink.new) (K.faults sink.old) (K.faults sink.new) result }
+    ensures written { Refuses (K.holds sink.old) (K.holds sink.new) (K.faults sink.old) (K.faults sink.new) result }
+    ensures whole { IsWhole result → K.faults sink.new ≡ K.faults sink.old }
 {
     match write_all(sink, b"refused 0 later\n") {
         Ok(()) => Status::Script,
@@ -113,7 +118,8 @@ fn machine(alloc: Global, script: &Script) -> Result<User, AllocError>
 /// Runs a script, and writes its log.
 fn run<K: Sink>(alloc: Global, script: &Script, sink: &mut K) -> Status
     requires { IsScript script.now }
-    ensures { RunEnds script.now (K.holds sink.old) (K.holds sink.new) (K.faults sink.old) (K.faults sink.new) result }
+    ensures written { RunEnds script.now (K.holds sink.old) (K.holds sink.new) (K.faults sink.old) (K.faults sink.new) result }
+    ensures whole { IsWhole result → K.faults sink.new ≡ K.faults sink.old }
 {
     let Ok(user) = machine(alloc, script) else {
         return Status::Memory;
@@ -121,6 +127,7 @@ fn run<K: Sink>(alloc: Global, script: &Script, sink: &mut K) -> Status
     let Ok((user, end)) = run_listed(alloc, script, user) else {
         return Status::Memory;
     };
+    runs_answer_their_sends();
     match write_log(alloc, script, &user, end, sink) {
         Ok(()) => end_status(end),
         Err(WriteFault::Write) => Status::WriteFault,
@@ -132,7 +139,8 @@ fn run<K: Sink>(alloc: Global, script: &Script, sink: &mut K) -> Status
 fn run_made<K: Sink>(alloc: Global, number: u32, sink: &mut K) -> Status
     requires some { 0 < number }
     requires few { number ≤ 60000 }
-    ensures { MakeEnds number (K.holds sink.old) (K.holds sink.new) (K.faults sink.old) (K.faults sink.new) result }
+    ensures written { MakeEnds number (K.holds sink.old) (K.holds sink.new) (K.faults sink.old) (K.faults sink.new) result }
+    ensures whole { IsWhole result → K.faults sink.new ≡ K.faults sink.old }
 {
     let Ok(script) = made_script(alloc, number) else {
         return Status::Memory;

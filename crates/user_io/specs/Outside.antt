@@ -37,6 +37,17 @@ abbrev pub IsPut : Option (List ℕ) → Option (List ℕ) → ℕ → ℕ → L
 IsPut holds holds' faults faults' buf (puts.Put n) = Appended holds holds' buf n
 IsPut holds holds' faults faults' buf puts.Failed = Keeps holds holds' × Rose faults faults'
 
+-- a read leaves the count of faults unless it failed
+abbrev pub CountsRead : ℕ → ℕ → TookType → Type 0
+CountsRead faults faults' (tooks.Took n) = faults' ≡ faults
+CountsRead faults faults' tooks.End = faults' ≡ faults
+CountsRead faults faults' tooks.Failed = faults ≤ faults'
+
+-- a write leaves the count of faults unless it failed
+abbrev pub CountsWrite : ℕ → ℕ → PutType → Type 0
+CountsWrite faults faults' (puts.Put n) = faults' ≡ faults
+CountsWrite faults faults' puts.Failed = faults ≤ faults'
+
 -- the count of faults after a read, where nothing but `Failed` is counted
 abbrev pub faults_after_read : ℕ → TookType → ℕ
 faults_after_read count (tooks.Took n) = count

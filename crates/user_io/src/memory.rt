@@ -1,7 +1,7 @@
 //! A source and a sink in memory.
 
 ghost use Rattle.std.specs.Prelude.{◌≡◌, ◌<◌, ◌≤◌, [], Some, IfOk, take, length, min};
-ghost use Rattle.user_io.specs.Outside.{IsTaken, IsPut};
+ghost use Rattle.user_io.specs.Outside.{IsTaken, IsPut, CountsRead, CountsWrite};
 ghost use Rattle.user_io.specs.Memory.{MemRead, mem_put, after_write};
 
 use super::traits::{Put, Sink, Source, Took};
@@ -56,7 +56,7 @@ impl Source for MemSource {
     /// is left, and else the call takes as much as the buffer, a piece and what is left allow.
     fn read(&mut self, buf: &mut [u8]) -> Took
         ensures taken { IsTaken (Some self.old.left) (Some self.new.left) self.old.faults self.new.faults buf.new result }
-        ensures count { self.old.faults ≤ self.new.faults }
+        ensures count { CountsRead self.old.faults self.new.faults result }
         ensures exact { MemRead self.old self.new buf.new result }
     {
         let call = self.calls;
@@ -140,7 +140,7 @@ impl Sink for MemSink {
     /// room and the piece has bytes.
     fn write(&mut self, buf: &[u8]) -> Put
         ensures put { IsPut (Some self.old.held) (Some self.new.held) self.old.faults self.new.faults buf.now result }
-        ensures count { self.old.faults ≤ self.new.faults }
+        ensures count { CountsWrite self.old.faults self.new.faults result }
         ensures answer { result ≡ mem_put self.old (length buf.now) }
         ensures next { self.new ≡ after_write self.old buf.now result }
     {

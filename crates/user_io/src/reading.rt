@@ -39,6 +39,8 @@ pub fn read_all<S: Source>(alloc: Global, source: &mut S, limit: usize) -> Resul
 
     ensures long { IsErrOf result ReadEnd.TooLong → ConsumesMany (S.left source.old) (S.left source.new) (limit + 1) }
     ensures failed { IsErrOf result ReadEnd.Failed → Rose (S.faults source.old) (S.faults source.new) }
+    ensures unfailed { IfOk result (λ text. S.faults source.new ≡ S.faults source.old) }
+    ensures unfailed_long { IsErrOf result ReadEnd.TooLong → S.faults source.new ≡ S.faults source.old }
 
     // Whatever the answer is.
     ensures bound { ConsumesUpTo (S.left source.old) (S.left source.new) (limit + 1) }

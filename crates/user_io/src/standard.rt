@@ -1,7 +1,7 @@
 //! A source over std's reader and a sink over std's writer. They tell no content.
 
 ghost use Rattle.std.specs.Prelude.{◌≡◌, ◌≤◌, None};
-ghost use Rattle.user_io.specs.Outside.{IsTaken, IsPut, faults_after_read, faults_after_write};
+ghost use Rattle.user_io.specs.Outside.{IsTaken, IsPut, CountsRead, CountsWrite, faults_after_read, faults_after_write};
 
 use super::traits::{Put, Sink, Source, Took};
 use std::io::{ErrorKind, Read, Write};
@@ -44,7 +44,7 @@ impl<R: Read> Source for StdSource<R> {
     /// reader has left, where that is known.
     fn read(&mut self, buf: &mut [u8]) -> Took
         ensures taken { IsTaken None None self.old.faults self.new.faults buf.new result }
-        ensures count { self.old.faults ≤ self.new.faults }
+        ensures count { CountsRead self.old.faults self.new.faults result }
         ensures counted { self.new.faults ≡ faults_after_read self.old.faults result }
         ensures content { IsTaken self.old.known self.new.known self.old.faults self.new.faults buf.new result }
     {
@@ -102,7 +102,7 @@ impl<W: Write> Sink for StdSink<W> {
     /// writer holds, where that is known.
     fn write(&mut self, buf: &[u8]) -> Put
         ensures put { IsPut None None self.old.faults self.new.faults buf.now result }
-        ensures count { self.old.faults ≤ self.new.faults }
+        ensures count { CountsWrite self.old.faults self.new.faults result }
         ensures counted { self.new.faults ≡ faults_after_write self.old.faults result }
         ensures content { IsPut self.old.known self.new.known self.old.faults self.new.faults buf.now result }
     {

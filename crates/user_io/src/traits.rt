@@ -1,7 +1,7 @@
 //! What a program reads from and writes to.
 
-ghost use Rattle.std.specs.Prelude.{ℕ, ◌≤◌, List, Option};
-ghost use Rattle.user_io.specs.Outside.{IsTaken, IsPut};
+ghost use Rattle.std.specs.Prelude.{ℕ, List, Option};
+ghost use Rattle.user_io.specs.Outside.{IsTaken, IsPut, CountsRead, CountsWrite};
 
 /// What a read answers. This and the next three are this project's own; std's `Read` and `Write`
 /// are adapted to them.
@@ -34,10 +34,10 @@ pub trait Source {
 
     /// Moves bytes from the front of what is left to the front of the buffer, at least one where
     /// the buffer isn't empty. `End` comes only where nothing is left, and `Failed` only where the
-    /// count of faults rises; both move no byte. The count never falls.
+    /// count of faults rises; both move no byte. Nothing but `Failed` changes the count, and it never falls.
     fn read(&mut self, buf: &mut [u8]) -> Took
         ensures taken { IsTaken (left self.old) (left self.new) (faults self.old) (faults self.new) buf.new result }
-        ensures count { faults self.old ≤ faults self.new };
+        ensures count { CountsRead (faults self.old) (faults self.new) result };
 }
 
 /// Takes bytes, from the first to the last.
@@ -50,8 +50,8 @@ pub trait Sink {
 
     /// Appends bytes from the front of the piece, at least one where the piece isn't empty.
     /// `Failed` comes only where the count of faults rises, and then nothing was written.
-    /// The count never falls.
+    /// Nothing but `Failed` changes the count, and it never falls.
     fn write(&mut self, buf: &[u8]) -> Put
         ensures put { IsPut (holds self.old) (holds self.new) (faults self.old) (faults self.new) buf.now result }
-        ensures count { faults self.old ≤ faults self.new };
+        ensures count { CountsWrite (faults self.old) (faults self.new) result };
 }

@@ -1,4 +1,4 @@
-use Rattle.std.proofs.Common.{arith}
+use Rattle.std.proofs.Common.{◌∙◌}
 use Rattle.user_model.specs.declared.call.Call.TheVariants.{Peek}
 use Rattle.user_model.specs.declared.entry.Answer.TheVariants.{Okay}
 use Rattle.user_io.proofs.Written.{keep_err}
@@ -13,5 +13,5 @@ returns-in_err-write_entry-clause-err g c =
 pub loop-entry-preserved : goal.loop-entry-preserved
 loop-entry-preserved g c = record {
   passed = entry_passed _ _ _ _ _ _ c.args.words.now.script.now c.args.history.now c.loop-entry.entry-index (record { who = record { 0 = 0 }; call = Peek 0 0 0 0; answer = Okay }) c.loop-entry-test.true c.loop-entry.invariant.passed c.in_ok-write_entry.ensures.ok;
-  faults = omega (arith, c.loop-entry.invariant.faults, c.write_entry.ensures.faults);
+  faults = c.in_ok-write_entry.ensures.unfailed ∙ c.loop-entry.invariant.faults;
 }

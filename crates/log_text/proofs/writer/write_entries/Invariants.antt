@@ -1,4 +1,4 @@
-use Rattle.std.proofs.Common.{◌≤◌}
+use Rattle.std.proofs.Common.{◌≡◌}
 use Rattle.log_text.specs.Entries.{entries_text}
 use Rattle.log_text.specs.Passing.{Passes}
 use Rattle.log_text.proofs.EntryTexts.{past_at}
@@ -7,5 +7,5 @@ use Rattle.log_text.proofs.writer.write_entries.Given as goal
 abbrev pub invariant-loop-entry : goal.invariant-loop-entry
 invariant-loop-entry g l = record {
   passed : Passes (g.K.Sink.holds l.fn.sink) (g.K.Sink.holds l.sink) l.fn.text.items l.text.items (entries_text l.words.script.now (past_at l.history l.entry-index));
-  faults : g.K.Sink.faults l.fn.sink ≤ g.K.Sink.faults l.sink;
+  faults : g.K.Sink.faults l.sink ≡ g.K.Sink.faults l.fn.sink;
 }

@@ -5,7 +5,7 @@ use Rattle.user_io.proofs.reading.read_all.Given as goal
 abbrev pub invariant-loop-piece : goal.invariant-loop-piece
 invariant-loop-piece g l = record {
   bytes : Consumes (g.S.Source.left l.fn.source) (g.S.Source.left l.source) l.text.items;
-  faults : g.S.Source.faults l.fn.source ≤ g.S.Source.faults l.source;
+  faults : g.S.Source.faults l.source ≡ g.S.Source.faults l.fn.source;
   short : length l.text.items ≤ l.limit + 1;
   room : length l.piece ≡ 4096;
 }

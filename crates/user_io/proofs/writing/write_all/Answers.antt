@@ -1,4 +1,4 @@
-use Rattle.std.proofs.Common.{◌≡◌, ◌++◌, List, ℕ, arith, take, sym, ap, ◌∙◌, append_assoc, take-append-drop}
+use Rattle.std.proofs.Common.{◌≡◌, ◌++◌, List, ℕ, take, sym, ap, ◌∙◌, append_assoc, take-append-drop}
 use Rattle.std.proofs.KnownBytes.{Appends-trans}
 use Rattle.user_io.proofs.writing.write_all.Goals as goal
 
@@ -10,5 +10,5 @@ loop-rest-preserved g c =
     let cut : c.loop-rest.rest.now ≡ piece ++ c.split_at.result.1.now = sym (take-append-drop n c.loop-rest.rest.now) ∙ ap (λ (l : List ℕ). piece ++ l) (sym c.split_at.ensures.back) in
     record {
       bytes = (front ++ piece, c.loop-rest.invariant.bytes.1 ∙ ap (λ (l : List ℕ). front ++ l) cut ∙ sym (append_assoc front piece c.split_at.result.1.now), Appends-trans _ _ _ front piece c.loop-rest.invariant.bytes.2 c.in-Put.ensures.put.bytes);
-      faults = omega (arith, c.in-Put.ensures.count, c.loop-rest.invariant.faults);
+      faults = c.in-Put.ensures.count ∙ c.loop-rest.invariant.faults;
     }
