@@ -95,10 +95,10 @@ fn deal<S: Journaled>(top: &Top<S>, mut first: Place<S>, seats: u32, made: &mut 
     let mut number = 1;
     while number < seats {
         let place = top.split_seat::<Deal>(&mut first);
-        made.push(TurnSeat::of(place)).unwrap();
+        made.push(TurnSeat::of(place, number)).unwrap();
         number += 1;
     }
-    made.insert(0, TurnSeat::of(first)).unwrap();
+    made.insert(0, TurnSeat::of(first, 0)).unwrap();
 }
 
 impl<S: Journaled> TurnLock<S> {

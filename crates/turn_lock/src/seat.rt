@@ -14,11 +14,12 @@ pub(crate) type Place<S> = Seat<
 >;
 
 /// A seat of a lock over `S`. Contracts see which lock it is of, its number, what it has seen of the history since
-/// the opening, its own calls with their answers, and how often it looked. It has no bytes: all of this exists in
+/// the opening, its own calls with their answers, and how often it looked. But for the number all of this exists in
 /// proofs alone.
 #[derive(Drop)]
 pub struct TurnSeat<S: Journaled> {
     pub(crate) place: Place<S>,
+    number: u32,
 }
 
 impl<S: Journaled> Model for TurnSeat<S> {
@@ -29,23 +30,30 @@ impl<S: Journaled> Model for TurnSeat<S> {
 
     ghost view = { λ s. sitting s.place };
 
-    ghost invariant = { λ s. s.place ≡ at_rest s.place };
+    ghost invariant = { λ s. (s.place ≡ at_rest s.place) × (s.place.me.0.number ≡ s.number) };
 }
 
 impl<S: Journaled> TurnSeat<S> {
-    /// The seat at a place of the table.
-    pub(crate) fn of(place: Place<S>) -> TurnSeat<S>
-        requires { place ≡ at_rest place }
+    /// The seat at a place of the table, with its number.
+    pub(crate) fn of(place: Place<S>, number: u32) -> TurnSeat<S>
+        requires { (place ≡ at_rest place) × (place.me.0.number ≡ number) }
         ensures { result ≡ sitting place }
     {
-        TurnSeat { place }
+        TurnSeat { place, number }
+    }
+
+    /// The seat's number, from 0: its place in the list that the lock was opened with.
+    pub fn number(&self) -> u32
+        ensures { result ≡ self.now.number }
+    {
+        self.number
     }
 
     /// The place of the table that the seat had.
     pub(crate) fn into_place(self) -> Place<S>
         ensures { (result ≡ at_rest result) × (sitting result ≡ self) }
     {
-        let TurnSeat { place } = self;
+        let TurnSeat { place, number: _ } = self;
         place
     }
 }

@@ -1,0 +1,118 @@
+//! The desk.
+
+ghost use Rattle.std.specs.Prelude.{◌≡◌, ◌+◌, ◌<◌, ◌≤◌, length, All, IfOk, IfErr, OnErr};
+ghost use Rattle.user_model.specs.Legal.{IsLawful};
+ghost use Rattle.turn_lock.specs.Seats.{IsSameSeat, HasAllSeats, new_seats};
+ghost use Rattle.user_desk.specs.Desks.{IsDeskSeat, HasLooked, CameTo, TurnCameTo, HasClosed, made_by, told_of};
+
+use crate::shared::Shared;
+use std::alloc::{AllocError, Global};
+use std::marker::Model;
+use std::sync::Wait;
+use turn_lock::{TurnLock, TurnSeat};
+use user_model::{Answer, Call, Machine, Told};
+use win_num::Thread;
+
+/// A seat of a desk: its number is that of the actor whose calls it makes, 0 for the clock and 1 to 15 for threads.
+pub type DeskSeat<M> = TurnSeat<Shared<M>>;
+
+/// One machine at which threads make calls, each through a seat of its own. Contracts see which desk it is, the
+/// machine that it was opened with, and how many seats it has.
+pub struct Desk<M: Machine> {
+    lock: TurnLock<Shared<M>>,
+}
+
+impl<M: Machine> Model for Desk<M> {
+    ghost use Rattle.std.specs.Prelude.{◌≤◌};
+    ghost use Rattle.turn_lock.specs.Seats.{Lock};
+    ghost use Rattle.user_desk.specs.declared.shared.Shared.{Shared as SharedMachine};
+
+    ghost Value = { Lock (SharedMachine M) };
+
+    ghost view = { λ d. d.lock };
+
+    ghost invariant = { λ d. d.lock.seats ≤ 256 };
+}
+
+/// What a turn is told.
+fn told(answer: Option<Answer>) -> Told
+    ensures { result ≡ told_of answer }
+{
+    match answer {
+        Some(answer) => Told::Answered(answer),
+        None => Told::Barred,
+    }
+}
+
+impl<M: Machine> Desk<M> {
+    /// A desk over a machine, and its seats: one for the clock and one for each thread, with the numbers from 0
+    /// up, in order. Where memory is wanting the machine comes back.
+    pub fn new(
+        alloc: Global,
+        machine: M,
+        threads: u8,
+    ) -> Result<(Desk<M>, Vec<DeskSeat<M>>), (AllocError, M)>
+        requires few { threads < 255 }
+        requires legal { (length (M.past machine) ≤ 2097152) × IsLawful (M.setup machine) (M.past machine) }
+        ensures desk { IfOk result (λ r. (r.0.opening.machine ≡ machine) × (r.0.seats ≡ threads + 1)) }
+        ensures seats { IfOk result (λ r. r.1.items ≡ new_seats r.0 (threads + 1)) }
+        ensures err { IfErr result (λ e. e.1 ≡ machine) }
+    {
+        match TurnLock::new(alloc, Shared { machine }, u32::from(threads) + 1) {
+            Ok((lock, seats)) => Ok((Desk { lock }, seats)),
+            Err((error, shared)) => Err((error, shared.machine)),
+        }
+    }
+
+    /// Waits for the seat's turn and makes the call as the seat's actor.
+    pub fn call<R: Wait>(
+        &self,
+        rt: &R,
+        seat: &mut DeskSeat<M>,
+        call: Call,
+    ) -> Result<Answer, AllocError>
+        requires { IsDeskSeat self.now seat.old }
+        ensures same { IsSameSeat seat.old seat.new }
+        ensures looked { HasLooked (M.setup self.now.opening.machine) (M.past self.now.opening.machine) seat.old seat.new }
+        ensures came_to { IfOk result (λ answer. CameTo (M.setup self.now.opening.machine) (M.past self.now.opening.machine) seat.old seat.new call answer) }
+        ensures no_memory { OnErr result (made_by seat.new ≡ made_by seat.old) }
+    {
+        let lock = &self.lock;
+        let who = Thread(seat.number() as u8);
+        lock.run(rt, seat, (who, call))
+    }
+
+    /// Waits for the seat's turn and makes the call as the seat's actor, unless the actor has no call to make then.
+    pub fn turn<R: Wait>(
+        &self,
+        rt: &R,
+        seat: &mut DeskSeat<M>,
+        call: Call,
+    ) -> Result<Told, AllocError>
+        requires { IsDeskSeat self.now seat.old }
+        ensures same { IsSameSeat seat.old seat.new }
+        ensures looked { HasLooked (M.setup self.now.opening.machine) (M.past self.now.opening.machine) seat.old seat.new }
+        ensures came_to { IfOk result (λ told. TurnCameTo (M.setup self.now.opening.machine) (M.past self.now.opening.machine) seat.old seat.new call told) }
+        ensures no_memory { OnErr result (made_by seat.new ≡ made_by seat.old) }
+    {
+        let lock = &self.lock;
+        let who = Thread(seat.number() as u8);
+        let answer = lock.run_if(rt, seat, (who, call))?;
+        Ok(told(answer))
+    }
+
+    /// Gives the machine back, where all seats of the desk are given. Where one is missing, all come back untouched.
+    pub fn close(self, seats: Vec<DeskSeat<M>>) -> Result<M, (Desk<M>, Vec<DeskSeat<M>>)>
+        requires { All (IsDeskSeat self) seats.items }
+        ensures machine { IfOk result (λ machine. HasClosed (M.setup self.opening.machine) (M.past self.opening.machine) self.seats seats.items (M.setup machine) (M.past machine)) }
+        ensures all { IfOk result (λ _. HasAllSeats self seats.items) }
+        ensures missing { IfErr result (λ e. ¬ HasAllSeats self seats.items) }
+        ensures untouched { IfErr result (λ e. (e.0 ≡ self) × (e.1.items ≡ seats.items)) }
+    {
+        let Desk { lock } = self;
+        match lock.close(seats) {
+            Ok(shared) => Ok(shared.machine),
+            Err((lock, seats)) => Err((Desk { lock }, seats)),
+        }
+    }
+}

@@ -1,0 +1,8 @@
+//! One machine for all threads of a program: each makes its calls through a seat of its own.
+#![tactic(auto)]
+
+mod desk;
+mod shared;
+
+pub use desk::{Desk, DeskSeat};
+pub use shared::Shared;
