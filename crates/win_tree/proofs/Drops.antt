@@ -1,15 +1,15 @@
 -- What is left of the numbers and the windows when a window goes with its kin.
-use Rattle.std.proofs.Common.{◌≡◌, ◌∙◌, inl, inr, ℕ, List, [], ◌∷◌, Bool, true, false, ◌&&◌, ◌||◌, eqb, map, filter, refl, sym, ap}
+use Rattle.std.proofs.Common.{◌≡◌, ◌∙◌, inl, inr, ℕ, List, [], ◌∷◌, Bool, true, false, ◌&&◌, ◌||◌, eqb, map, filter, refl, sym, ap, subst}
 use Rattle.std.specs.List.{list_any}
 use Rattle.std.proofs.lemmas.Bool.{cases_Bool, eqb-true, eq-eqb}
 use Rattle.std.proofs.lemmas.Map.Views.{any-filter_same}
 use Rattle.win_num.specs.declared.message.Hwnd.{Hwnd}
 use Rattle.win_tree.specs.declared.window.Window.{Window}
-use Rattle.win_tree.specs.Windows.{number_of}
-
--- whether the number of the window is among these
-abbrev pub has : List Hwnd → Window → Bool
-has ks x = list_any (λ v. eqb v.0 x.number.0) ks
+use Rattle.std.specs.List.Sorted.{IsNonDecreasingBy}
+use Rattle.win_tree.specs.Windows.{IsOrdered, number_of}
+use Rattle.win_tree.specs.Index.{has}
+use Rattle.win_tree.proofs.Ordered.{ordered_filter}
+use Rattle.win_tree.proofs.Rising.{RisesBy, rises}
 
 -- the numbers of the windows that stay are the numbers that stay
 pub map-filter : (p : ℕ → Bool) (ws : List Window) → filter (λ v. p v.0) (map number_of ws) ≡ map number_of (filter (λ x. p x.number.0) ws)
@@ -62,3 +62,11 @@ module _ (p : ℕ → Bool) (ws : List Window) (ks ks' : List Hwnd) (ws' : List 
 
   pub kept_numbers : ks' ≡ map number_of ws'
   kept_numbers = numbers ∙ (ap (λ (vs : List Hwnd). filter (λ v. p v.0) vs) same ∙ (map-filter p ws ∙ ap (map number_of) (sym kept_windows)))
+
+numbers_rise : (from last : ℕ) (ws : List Window) → IsOrdered from last ws → RisesBy (λ v. v.0) from (map number_of ws)
+numbers_rise from last [] h = tt
+numbers_rise from last (x ∷ ws) h = (h.0, numbers_rise x.number.0 last ws h.2)
+
+-- the numbers of some of the windows rise
+pub some_rise : (p : Window → Bool) (last : ℕ) (ws : List Window) (ks : List Hwnd) → IsOrdered 15 last ws → ks ≡ map number_of (filter p ws) → IsNonDecreasingBy (λ (v : Hwnd). v.0) ks
+some_rise p last ws ks h same = subst (λ (vs : List Hwnd). IsNonDecreasingBy (λ (v : Hwnd). v.0) vs) (sym same) (rises (λ (v : Hwnd). v.0) 15 (map number_of (filter p ws)) (numbers_rise 15 last (filter p ws) (ordered_filter p 15 last ws h)))

@@ -1,8 +1,11 @@
 pub mod Alone
 pub mod Drops
+pub mod Indexed
 pub mod Marking
 pub mod Numbers
+pub mod Ones
 pub mod Ordered
+pub mod Rising
 pub mod Searches
 pub mod Walks
 pub mod ThreadDrops

@@ -1,6 +1,5 @@
 -- What changes windows but not their numbers.
-use Rattle.std.proofs.Common.{◌≡◌, ◌∙◌, inl, inr, ℕ, List, [], ◌∷◌, ◌++◌, length, take, drop, map, eqb, refl, ap}
-use Rattle.std.proofs.Math.Seq.{take-append_seam}
+use Rattle.std.proofs.Common.{◌≡◌, ◌∙◌, inl, inr, ℕ, List, [], ◌∷◌, map, eqb, refl, ap}
 use Rattle.std.proofs.lemmas.Bool.{cases_Bool}
 use Rattle.win_num.specs.declared.message.Hwnd.{Hwnd}
 use Rattle.win_num.specs.declared.shapes.Rect.{Rect}
@@ -9,10 +8,6 @@ use Rattle.win_tree.specs.declared.row.Unmade.TheVariants.{Tell, Last, Gone, Not
 use Rattle.win_tree.specs.declared.window.Window.{Window}
 use Rattle.win_tree.specs.Windows.{number_of, told_if, ended_if, set_if}
 use Rattle.win_tree.specs.Destruction.{given}
-
--- what is written over the whole of a vector
-pub whole : {X : Type 0} (n : ℕ) (new old : List X) → n ≡ length new → take n (new ++ drop (length new) old) ≡ new
-whole n new old long = rw long (take-append_seam new (drop (length new) old))
 
 -- windows that keep their numbers
 pub same_numbers : (f : Window → Window) → ((x : Window) → number_of (f x) ≡ number_of x) → (ws : List Window) → map number_of (map f ws) ≡ map number_of ws

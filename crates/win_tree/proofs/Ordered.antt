@@ -57,7 +57,7 @@ ordered_more from last [] x h lt older = (omega (arith, h, lt), older, omega ari
 ordered_more from last (y ∷ ws) x h lt older = (h.0, h.1, ordered_more y.number.0 last ws x h.2 lt older)
 
 -- a live window's number is among those that were given
-live_small : (from last : ℕ) (ws : List Window) (w : ℕ) → IsOrdered from last ws → is_live ws w ≡ true → w ≤ last
+pub live_small : (from last : ℕ) (ws : List Window) (w : ℕ) → IsOrdered from last ws → is_live ws w ≡ true → w ≤ last
 live_small from last [] w h live = absurd (cc live)
 live_small from last (x ∷ ws) w h live = elim (cases_Bool (eqb x.number.0 w)) [
   | inl k ↦ omega (arith, eqb-true x.number.0 w k, below_last x.number.0 last ws h.2)

@@ -1,5 +1,5 @@
 -- What is left of the numbers and the windows when those of a thread go.
-use Rattle.std.proofs.Common.{◌≡◌, ◌∙◌, inl, inr, ℕ, ◌<◌, List, [], ◌∷◌, Bool, true, false, not, cond, eqb, map, filter, Some, None, Option, refl, sym, ap, arith}
+use Rattle.std.proofs.Common.{◌≡◌, ◌∙◌, ℕ, ◌<◌, List, [], ◌∷◌, Bool, true, false, not, cond, eqb, map, filter, Some, None, Option, refl, ap, arith}
 use Rattle.std.specs.List.{AllByRecursion}
 use Rattle.std.proofs.lemmas.Bool.{eq-eqb, ne_eqb}
 use Rattle.win_num.specs.declared.message.Hwnd.{Hwnd}
@@ -35,3 +35,15 @@ left ws t from (x ∷ us) h = pick (left ws t from us h.1) (not (eqb x.row.threa
 -- the numbers of the windows that stay are the numbers that stay
 pub numbers_left : (last t : ℕ) (ws : List Window) → IsOrdered 15 last ws → filter (λ v. is_of_other ws t v.0) (map number_of ws) ≡ map number_of (without_thread ws t)
 numbers_left last t ws h = left ws t 15 ws (all_found 15 last ws h)
+
+left_windows : (ws : List Window) (t from : ℕ) (us : List Window) → AllByRecursion (IsFound from ws) us → filter (λ x. is_of_other ws t x.number.0) us ≡ without_thread us t
+left_windows ws t from [] h = refl
+left_windows ws t from (x ∷ us) h =
+    let rest = left_windows ws t from us h.1 in
+    let here : is_of_other ws t x.number.0 ≡ not (eqb x.row.thread.0 t) = ap (λ (o : Option Window). let b : Bool = elim o [ Some y ↦ not (eqb y.row.thread.0 t) | None ↦ false ] in b) h.0.1 in
+    ap (λ b. cond b (x ∷ filter (λ y. is_of_other ws t y.number.0) us) (filter (λ y. is_of_other ws t y.number.0) us)) here
+    ∙ ap (λ (vs : List Window). cond (not (eqb x.row.thread.0 t)) (x ∷ vs) vs) rest
+
+-- the windows of other threads are those whose numbers are of other threads
+pub windows_left : (last t : ℕ) (ws : List Window) → IsOrdered 15 last ws → filter (λ x. is_of_other ws t x.number.0) ws ≡ without_thread ws t
+windows_left last t ws h = left_windows ws t 15 ws (all_found 15 last ws h)

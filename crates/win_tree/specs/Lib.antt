@@ -1,3 +1,4 @@
 pub mod Destruction
+pub mod Index
 pub mod Kin
 pub mod Windows

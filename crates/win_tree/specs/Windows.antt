@@ -74,3 +74,8 @@ set_if w style ex place x = if x.number.0 == w then record x { row = record x.ro
 -- the top-level window of least number above w, or 0
 abbrev pub next_top : List Window → ℕ → Hwnd
 next_top ws w = unwrap_or (option_map number_of (find (λ x. (x.row.parent.0 == 0) && nat_lt w x.number.0) ws)) nobody
+
+-- each number is above the one before it, and the first above this one
+abbrev pub RisesFrom : ℕ → List Window → Type 0
+RisesFrom from [] = Unit {0}
+RisesFrom from (x ∷ ws) = (from < x.number.0) × RisesFrom x.number.0 ws

@@ -5,6 +5,7 @@
 mod destruction;
 mod kin;
 mod row;
+mod rows;
 #[cfg(test)]
 mod tests;
 mod tree;

@@ -7,8 +7,9 @@ ghost use Rattle.win_tree.specs.Kin.{IsFaultFor, is_bad, refusal, next_number, s
 ghost use Rattle.win_tree.specs.Destruction.{unmade, given};
 
 use crate::destruction::first_left;
-use crate::kin::{is_below, is_kin, top_of, window_of};
+use crate::kin::{is_below, is_kin, top_of};
 use crate::row::{Unmade, WindowRow};
+use crate::rows::Rows;
 use crate::window::Window;
 use std::alloc::{AllocError, Global};
 use std::marker::Model;
@@ -31,7 +32,7 @@ const NOT_ENDED: u16 = 87;
 #[derive(Drop)]
 pub struct Tree {
     last: u32,
-    windows: Vec<Window>,
+    rows: Rows,
     numbers: Vec<Hwnd>,
 }
 
@@ -41,9 +42,9 @@ impl Model for Tree {
 
     ghost Value = { Windows };
 
-    ghost view = { λ t. record { last = t.last; live = t.windows.items } };
+    ghost view = { λ t. record { last = t.last; live = t.rows } };
 
-    ghost invariant = { λ t. (t.numbers.items ≡ map number_of t.windows.items) × IsOrdered 15 t.last t.windows.items };
+    ghost invariant = { λ t. (t.numbers.items ≡ map number_of t.rows) × IsOrdered 15 t.last t.rows };
 }
 
 impl Tree {
@@ -53,7 +54,7 @@ impl Tree {
     {
         Tree {
             last: 15,
-            windows: Vec::new(alloc),
+            rows: Rows::new(alloc),
             numbers: Vec::new(alloc),
         }
     }
@@ -73,7 +74,7 @@ impl Tree {
             return Err(Fault::Refused(code));
         }
         let number = Hwnd(self.last + 1);
-        let kept = settled(&self.windows, &row);
+        let kept = settled(&self.rows, &row);
         if self.push(Window::new(number, kept)).is_err() {
             return Err(Fault::Memory);
         }
@@ -85,13 +86,13 @@ impl Tree {
         ensures cause { result ≡ refusal self.now row.now }
         ensures next { IfNone result (self.now.last + 1 < 2 ^ 32) }
     {
-        if is_bad(&self.windows, row.parent) || is_bad(&self.windows, row.owner) {
+        if is_bad(&self.rows, row.parent) || is_bad(&self.rows, row.owner) {
             return Some(Code::Win(NO_SUCH_WINDOW));
         }
         if u64::from(row.style) & WS_CHILD != 0 && row.parent == Hwnd(0) {
             return Some(Code::Win(CHILD_WITHOUT_PARENT));
         }
-        if self.windows.len() >= LIVE || self.last == u32::MAX {
+        if self.rows.len() >= LIVE || self.last == u32::MAX {
             return Some(Code::Full);
         }
         None
@@ -105,7 +106,7 @@ impl Tree {
         ensures err { OnErr result (self.new ≡ self.old) }
     {
         self.numbers.reserve(1)?;
-        self.windows.push(window)?;
+        self.rows.push(window)?;
         self.numbers.push(window.number).unwrap();
         self.last = window.number.0;
         Ok(())
@@ -116,7 +117,7 @@ impl Tree {
     pub fn row(&self, w: Hwnd) -> Option<&WindowRow>
         ensures { option_copied result ≡ option_map (λ x. x.row) (window_of self.now.live w.0) }
     {
-        match window_of(&self.windows, w) {
+        match self.rows.find(w) {
             Some(x) => Some(&x.row),
             None => None,
         }
@@ -128,7 +129,7 @@ impl Tree {
         requires { IsTrue (is_live self.old.live w.0) }
         ensures { self.new ≡ record self.old { live = map (set_if w.0 style ex place) self.old.live } }
     {
-        set_row(&mut self.windows, w, style, ex, place);
+        set_row(&mut self.rows, w, style, ex, place);
     }
 
     /// Marks a window with all that stands below it or is owned by it, by however many steps (Microsoft,
@@ -139,11 +140,11 @@ impl Tree {
         ensures cause { MatchResult result (λ _. doom_refusal self.old.live w.0 ≡ None) (λ code. doom_refusal self.old.live w.0 ≡ Some code) }
         ensures err { OnErr result (self.new ≡ self.old) }
     {
-        match window_of(&self.windows, w) {
+        match self.rows.find(w) {
             Some(x) if !x.marked => {}
             _ => return Err(Code::Win(NO_SUCH_WINDOW)),
         }
-        mark_kin(&mut self.windows, w);
+        mark_kin(&mut self.rows, w);
         Ok(())
     }
 
@@ -157,7 +158,7 @@ impl Tree {
         ensures given { self.new ≡ record self.old { live = given result self.old.live } }
     {
         let step = self.next_step(w);
-        give(&mut self.windows, step);
+        give(&mut self.rows, step);
         step
     }
 
@@ -165,13 +166,13 @@ impl Tree {
     pub fn next_step(&self, w: Hwnd) -> Unmade
         ensures { result ≡ unmade self.now.live w.0 }
     {
-        let Some(x) = window_of(&self.windows, w) else {
+        let Some(x) = self.rows.find(w) else {
             return Unmade::Gone;
         };
         if !x.marked {
             return Unmade::NotDoomed;
         }
-        match first_left(&self.windows, x, self.windows.len()) {
+        match first_left(&self.rows, x, self.rows.len()) {
             Some(step) => step,
             None => Unmade::Last(x.number),
         }
@@ -185,7 +186,7 @@ impl Tree {
         ensures cause { MatchResult result (λ _. drop_refusal self.old.live w.0 ≡ None) (λ code. drop_refusal self.old.live w.0 ≡ Some code) }
         ensures err { OnErr result (self.new ≡ self.old) }
     {
-        match window_of(&self.windows, w) {
+        match self.rows.find(w) {
             Some(x) if x.ended => {}
             Some(_) => return Err(Code::Win(NOT_ENDED)),
             None => return Err(Code::Win(NO_SUCH_WINDOW)),
@@ -198,7 +199,7 @@ impl Tree {
     fn drop_kin(&mut self, w: Hwnd)
         ensures { self.new ≡ record self.old { live = dropped self.old.live w.0 } }
     {
-        if is_alone(&self.windows, w) {
+        if is_alone(&self.rows, w) {
             self.drop_alone(w);
         } else {
             self.drop_each(w);
@@ -210,34 +211,40 @@ impl Tree {
         requires { IsTrue (is_alone self.old.live w.0) }
         ensures { self.new ≡ record self.old { live = dropped self.old.live w.0 } }
     {
-        self.numbers.retain(|v| *v != w);
-        self.windows.retain(|x| x.number != w);
+        if let Some(i) = self.rows.place_of(w) {
+            self.numbers.remove(i);
+            self.rows.take_out(i);
+        }
     }
 
     /// Takes out each window that is of the window's kin.
     fn drop_each(&mut self, w: Hwnd)
         ensures { self.new ≡ record self.old { live = dropped self.old.live w.0 } }
     {
-        let windows = &self.windows;
-        self.numbers.retain(|v| !is_kin(windows, w, *v));
-        let numbers = &self.numbers;
-        self.windows.retain(|x| has(numbers, x.number));
+        let rows = &self.rows;
+        self.numbers.retain(|v| !is_kin(rows, w, *v));
+        self.rows.keep(&self.numbers);
     }
 
     /// Takes out all windows of a thread. Takes no memory.
     pub fn drop_thread(&mut self, thread: Thread)
         ensures { self.new ≡ record self.old { live = without_thread self.old.live thread.0 } }
     {
-        let windows = &self.windows;
-        self.numbers.retain(|w| is_of_other(windows, thread, *w));
-        self.windows.retain(|x| x.row.thread != thread);
+        let rows = &self.rows;
+        self.numbers.retain(|w| is_of_other(rows, thread, *w));
+        self.rows.keep(&self.numbers);
     }
 
     /// Whether a live window has the class.
     pub fn has_class(&self, class: u32) -> bool
         ensures { result ≡ has_class self.now.live class }
     {
-        self.windows.iter().any(|x| x.row.class == class)
+        for i in 0..self.rows.len() {
+            if self.rows.at(i).row.class == class {
+                return true;
+            }
+        }
+        false
     }
 
     /// The live window of a number of 64 bits, which is compared as it was written. None comes exactly
@@ -246,8 +253,10 @@ impl Tree {
         ensures window { result ≡ option_map number_of (window_of self.now.live w) }
         ensures same { IfSome result (λ window. window.0 ≡ w) }
     {
-        let found = self.windows.iter().find(|x| u64::from(x.number.0) == w);
-        match found {
+        if w > u64::from(self.last) {
+            return None;
+        }
+        match self.rows.find(Hwnd(w as u32)) {
             Some(x) => Some(x.number),
             None => None,
         }
@@ -264,7 +273,7 @@ impl Tree {
     pub fn marked(&self, w: Hwnd) -> bool
         ensures { result ≡ is_marked self.now.live w.0 }
     {
-        match window_of(&self.windows, w) {
+        match self.rows.find(w) {
             Some(x) => x.marked,
             None => false,
         }
@@ -274,7 +283,7 @@ impl Tree {
     pub fn last_given(&self, w: Hwnd) -> bool
         ensures { result ≡ is_ended self.now.live w.0 }
     {
-        match window_of(&self.windows, w) {
+        match self.rows.find(w) {
             Some(x) => x.ended,
             None => false,
         }
@@ -292,56 +301,55 @@ impl Tree {
     pub fn is_child(&self, above: Hwnd, w: Hwnd) -> bool
         ensures { result ≡ is_below self.now.live above.0 w.0 }
     {
-        is_below(&self.windows, above, w)
+        is_below(&self.rows, above, w)
     }
 
     /// Whether w is `above`, or stands below it or is owned by it, by however many steps.
     pub fn is_kin(&self, above: Hwnd, w: Hwnd) -> bool
         ensures { result ≡ is_kin self.now.live above.0 w.0 }
     {
-        is_kin(&self.windows, above, w)
+        is_kin(&self.rows, above, w)
     }
 
     /// The top-level window of least number above w, or 0 where there is none. w is any number.
     pub fn next_top(&self, w: Hwnd) -> Hwnd
         ensures { result ≡ next_top self.now.live w.0 }
     {
-        let next = self
-            .windows
-            .iter()
-            .find(|x| x.row.parent == Hwnd(0) && w < x.number);
-        match next {
-            Some(x) => x.number,
-            None => Hwnd(0),
+        for i in 0..self.rows.len() {
+            let x = self.rows.at(i);
+            if x.row.parent == Hwnd(0) && w < x.number {
+                return x.number;
+            }
         }
+        Hwnd(0)
     }
 }
 
 /// Whether the window can't be a parent or an owner: it isn't 0, and not live or marked.
-fn is_bad(windows: &[Window], w: Hwnd) -> bool
+fn is_bad(windows: &Rows, w: Hwnd) -> bool
     ensures { result ≡ is_bad windows.now w.0 }
 {
     if w == Hwnd(0) {
         return false;
     }
-    match window_of(windows, w) {
+    match windows.find(w) {
         Some(x) => x.marked,
         None => true,
     }
 }
 
 /// Whether the window is live and of another thread.
-fn is_of_other(windows: &[Window], thread: Thread, w: Hwnd) -> bool
+fn is_of_other(windows: &Rows, thread: Thread, w: Hwnd) -> bool
     ensures { result ≡ is_of_other windows.now thread.0 w.0 }
 {
-    match window_of(windows, w) {
+    match windows.find(w) {
         Some(x) => x.row.thread != thread,
         None => false,
     }
 }
 
 /// The row that is kept of a new window.
-fn settled(windows: &[Window], row: &WindowRow) -> WindowRow
+fn settled(windows: &Rows, row: &WindowRow) -> WindowRow
     ensures { result ≡ settled windows.now row.now }
 {
     let owner = if row.parent == Hwnd(0) {
@@ -353,16 +361,17 @@ fn settled(windows: &[Window], row: &WindowRow) -> WindowRow
 }
 
 /// Sets the style, extended style and place of a window.
-fn set_row(windows: &mut [Window], w: Hwnd, style: u32, ex: u32, place: Rect)
+fn set_row(windows: &mut Rows, w: Hwnd, style: u32, ex: u32, place: Rect)
     ensures { windows.new ≡ map (set_if w.0 style ex place) windows.old }
 {
-    for x in windows.iter_mut() {
-        *x = x.set_if(w, style, ex, place);
+    if let Some(i) = windows.place_of(w) {
+        let x = windows.at(i).set_if(w, style, ex, place);
+        windows.put(i, x);
     }
 }
 
 /// Marks a window with its kin.
-fn mark_kin(windows: &mut [Window], w: Hwnd)
+fn mark_kin(windows: &mut Rows, w: Hwnd)
     ensures { windows.new ≡ doomed windows.old w.0 }
 {
     if is_alone(windows, w) {
@@ -373,7 +382,7 @@ fn mark_kin(windows: &mut [Window], w: Hwnd)
 }
 
 /// Whether nothing stands directly below the window or is owned by it.
-fn is_alone(windows: &[Window], w: Hwnd) -> bool
+fn is_alone(windows: &Rows, w: Hwnd) -> bool
     ensures { result ≡ is_alone windows.now w.0 }
 {
     if w == Hwnd(0) {
@@ -383,34 +392,40 @@ fn is_alone(windows: &[Window], w: Hwnd) -> bool
 }
 
 /// Whether the window is the parent or owner of one of these.
-fn has_above(windows: &[Window], w: Hwnd) -> bool
+fn has_above(windows: &Rows, w: Hwnd) -> bool
     ensures { result ≡ list_any (λ x. (up x).0 == w.0) windows.now }
 {
-    windows.iter().any(|x| x.up() == w)
+    for i in 0..windows.len() {
+        if windows.at(i).up() == w {
+            return true;
+        }
+    }
+    false
 }
 
 /// Marks a window alone.
-fn mark_one(windows: &mut [Window], w: Hwnd)
+fn mark_one(windows: &mut Rows, w: Hwnd)
     ensures { windows.new ≡ map (marked_if w.0) windows.old }
 {
-    for x in windows.iter_mut() {
-        *x = x.marked_if(w);
+    if let Some(i) = windows.place_of(w) {
+        let x = windows.at(i).marked_if(w);
+        windows.put(i, x);
     }
 }
 
 /// Marks each window that is of the window's kin.
-fn mark_each(windows: &mut [Window], w: Hwnd)
+fn mark_each(windows: &mut Rows, w: Hwnd)
     ensures { windows.new ≡ doomed windows.old w.0 }
 {
     for i in 0..windows.len() {
-        let x = windows[i];
+        let x = *windows.at(i);
         let also = is_kin(windows, w, x.number);
-        windows[i] = x.marked_also(also);
+        windows.put(i, x.marked_also(also));
     }
 }
 
 /// Gives what was answered.
-fn give(windows: &mut [Window], step: Unmade)
+fn give(windows: &mut Rows, step: Unmade)
     ensures { windows.new ≡ given step windows.old }
 {
     match step {
@@ -421,26 +436,21 @@ fn give(windows: &mut [Window], step: Unmade)
 }
 
 /// Notes that a window was told.
-fn tell(windows: &mut [Window], w: Hwnd)
+fn tell(windows: &mut Rows, w: Hwnd)
     ensures { windows.new ≡ map (told_if w.0) windows.old }
 {
-    for x in windows.iter_mut() {
-        *x = x.told_if(w);
+    if let Some(i) = windows.place_of(w) {
+        let x = windows.at(i).told_if(w);
+        windows.put(i, x);
     }
 }
 
 /// Notes that a window got its last message.
-fn end(windows: &mut [Window], w: Hwnd)
+fn end(windows: &mut Rows, w: Hwnd)
     ensures { windows.new ≡ map (ended_if w.0) windows.old }
 {
-    for x in windows.iter_mut() {
-        *x = x.ended_if(w);
+    if let Some(i) = windows.place_of(w) {
+        let x = windows.at(i).ended_if(w);
+        windows.put(i, x);
     }
-}
-
-/// Whether the number is among these.
-fn has(numbers: &[Hwnd], w: Hwnd) -> bool
-    ensures { result ≡ list_any (λ v. v.0 == w.0) numbers.now }
-{
-    numbers.iter().any(|v| *v == w)
 }

@@ -10,13 +10,13 @@ returns-then-is_some t c =
     let ws = c.args.windows.now in
     let x = c.args.x.now in
     let n = c.args.depth in
-    let y = c.owned-item.result in
+    let y = c.at-owned.result.now in
     let deep : eqb n 0 ≡ false = search (rules, tests) in
-    let lt : c.loop-owned.owned-index < length ws = search (rules, tests) in
+    let lt : c.loop-i.i < length ws = search (rules, tests) in
     let same : eqb y.row.owner.0 x.number.0 ≡ true = search (rules, tests) in
     let some : is_some (option_map answer_of (find is_left (destruction (n - 1) ws y))) ≡ true = search (rules, tests) in
-    let first = found answer_of is_left (destruction (n - 1) ws) (λ z. eqb z.row.owner.0 x.number.0) ws c.loop-owned.owned-index y lt c.owned-item.is same some in
-    let whole = sym first ∙ c.loop-owned.invariant in
+    let first = found answer_of is_left (destruction (n - 1) ws) (λ z. eqb z.row.owner.0 x.number.0) ws c.loop-i.i y lt c.at-owned.ensures same some in
+    let whole = sym first ∙ c.loop-i.invariant in
     c.first_left-first.ensures
     ∙ (whole ∙ sym (left_owned n ws x deep (ap is_some (sym whole) ∙ some)))
 
@@ -26,8 +26,8 @@ returns-in-Some t c =
     let x = c.args.x.now in
     let n = c.args.depth in
     let deep : eqb n 0 ≡ false = search (rules, tests) in
-    let gone : drop c.loop-owned.owned-index ws ≡ [] = past_end ws c.loop-owned.owned-index (omega arith) in
-    let none : option_map answer_of (find is_left (flat_map (destruction (n - 1) ws) (owned_by ws x))) ≡ None = sym (ap (λ (us : List Window). option_map answer_of (find is_left (flat_map (destruction (n - 1) ws) (owned_by us x)))) (sym gone) ∙ c.loop-owned.invariant) in
+    let gone : drop c.loop-i.i ws ≡ [] = past_end ws c.loop-i.i (omega arith) in
+    let none : option_map answer_of (find is_left (flat_map (destruction (n - 1) ws) (owned_by ws x))) ≡ None = sym (ap (λ (us : List Window). option_map answer_of (find is_left (flat_map (destruction (n - 1) ws) (owned_by us x)))) (sym gone) ∙ c.loop-i.invariant) in
     sym (left_told n ws x _ deep none (sym c.in-Some.ensures))
 
 pub returns-in-None : goal.returns-in-None
@@ -36,6 +36,6 @@ returns-in-None t c =
     let x = c.args.x.now in
     let n = c.args.depth in
     let deep : eqb n 0 ≡ false = search (rules, tests) in
-    let gone : drop c.loop-owned.owned-index ws ≡ [] = past_end ws c.loop-owned.owned-index (omega arith) in
-    let none : option_map answer_of (find is_left (flat_map (destruction (n - 1) ws) (owned_by ws x))) ≡ None = sym (ap (λ (us : List Window). option_map answer_of (find is_left (flat_map (destruction (n - 1) ws) (owned_by us x)))) (sym gone) ∙ c.loop-owned.invariant) in
+    let gone : drop c.loop-i.i ws ≡ [] = past_end ws c.loop-i.i (omega arith) in
+    let none : option_map answer_of (find is_left (flat_map (destruction (n - 1) ws) (owned_by ws x))) ≡ None = sym (ap (λ (us : List Window). option_map answer_of (find is_left (flat_map (destruction (n - 1) ws) (owned_by us x)))) (sym gone) ∙ c.loop-i.invariant) in
     c.first_last.ensures ∙ sym (left_ended n ws x deep none (sym c.in-None.ensures))

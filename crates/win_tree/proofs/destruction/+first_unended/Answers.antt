@@ -11,13 +11,13 @@ returns-then-is_some t c =
     let ws = c.args.windows.now in
     let x = c.args.x.now in
     let n = c.args.depth in
-    let y = c.child-item.result in
+    let y = c.at-child.result.now in
     let deep : eqb n 0 ≡ false = search (rules, tests) in
-    let lt : c.loop-child.child-index < length ws = search (rules, tests) in
+    let lt : c.loop-i.i < length ws = search (rules, tests) in
     let same : eqb y.row.parent.0 x.number.0 ≡ true = search (rules, tests) in
     let some : is_some (option_map number_of (find is_unended (postorder (n - 1) ws y))) ≡ true = search (rules, tests) in
-    let first = found number_of is_unended (postorder (n - 1) ws) (λ z. eqb z.row.parent.0 x.number.0) ws c.loop-child.child-index y lt c.child-item.is same some in
-    let whole = sym first ∙ c.loop-child.invariant in
+    let first = found number_of is_unended (postorder (n - 1) ws) (λ z. eqb z.row.parent.0 x.number.0) ws c.loop-i.i y lt c.at-child.ensures same some in
+    let whole = sym first ∙ c.loop-i.invariant in
     c.first_unended-first.ensures
     ∙ (whole ∙ sym (unended_below n ws x deep (ap is_some (sym whole) ∙ some)))
 
@@ -27,8 +27,8 @@ returns-then-x t c =
     let x = c.args.x.now in
     let n = c.args.depth in
     let deep : eqb n 0 ≡ false = search (rules, tests) in
-    let gone : drop c.loop-child.child-index ws ≡ [] = past_end ws c.loop-child.child-index (omega arith) in
-    let none : option_map number_of (find is_unended (flat_map (postorder (n - 1) ws) (children_of ws x))) ≡ None = sym (ap (λ (us : List Window). option_map number_of (find is_unended (flat_map (postorder (n - 1) ws) (children_of us x)))) (sym gone) ∙ c.loop-child.invariant) in
+    let gone : drop c.loop-i.i ws ≡ [] = past_end ws c.loop-i.i (omega arith) in
+    let none : option_map number_of (find is_unended (flat_map (postorder (n - 1) ws) (children_of ws x))) ≡ None = sym (ap (λ (us : List Window). option_map number_of (find is_unended (flat_map (postorder (n - 1) ws) (children_of us x)))) (sym gone) ∙ c.loop-i.invariant) in
     let done : x.ended ≡ true = search (rules, tests) in
     sym (unended_here n ws x deep none ∙ unended_none x done)
 
@@ -38,7 +38,7 @@ returns-else-x t c =
     let x = c.args.x.now in
     let n = c.args.depth in
     let deep : eqb n 0 ≡ false = search (rules, tests) in
-    let gone : drop c.loop-child.child-index ws ≡ [] = past_end ws c.loop-child.child-index (omega arith) in
-    let none : option_map number_of (find is_unended (flat_map (postorder (n - 1) ws) (children_of ws x))) ≡ None = sym (ap (λ (us : List Window). option_map number_of (find is_unended (flat_map (postorder (n - 1) ws) (children_of us x)))) (sym gone) ∙ c.loop-child.invariant) in
+    let gone : drop c.loop-i.i ws ≡ [] = past_end ws c.loop-i.i (omega arith) in
+    let none : option_map number_of (find is_unended (flat_map (postorder (n - 1) ws) (children_of ws x))) ≡ None = sym (ap (λ (us : List Window). option_map number_of (find is_unended (flat_map (postorder (n - 1) ws) (children_of us x)))) (sym gone) ∙ c.loop-i.invariant) in
     let left : x.ended ≡ false = search (rules, tests) in
     sym (unended_here n ws x deep none ∙ unended_some x left)

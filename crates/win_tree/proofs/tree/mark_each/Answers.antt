@@ -5,6 +5,7 @@ use Rattle.win_tree.proofs.tree.mark_each.Goals as goal
 
 pub loop-i-preserved : goal.loop-i-preserved
 loop-i-preserved c =
-    let x = c.index-windows-i.result in
-    one_more c.args.windows.now c.loop-i.windows c.args.w.0 c.loop-i.i x c.marked_also.result (omega arith) c.loop-i.invariant c.index-windows-i.is
+    let x = c.at.result.now in
+    let us = c.loop-i.windows in
+    c.put.ensures ∙ one_more c.args.windows.now us c.args.w.0 c.loop-i.i x c.marked_also.result (omega arith) c.loop-i.invariant c.at.ensures
     (c.marked_also.ensures ∙ ap (λ (b : Bool). marked_also b x) c.is_kin-also.ensures)

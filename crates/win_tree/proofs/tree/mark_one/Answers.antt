@@ -1,11 +1,14 @@
-use Rattle.std.proofs.Common.{◌∙◌, set, sym, ap, arith}
-use Rattle.std.proofs.lemmas.List.Edits.{map_over_more}
+use Rattle.std.proofs.Common.{◌∙◌, set, sym, ap}
 use Rattle.win_tree.specs.Windows.{marked_if}
+use Rattle.win_tree.proofs.Ones.{map_one, map_none, marked_other}
 use Rattle.win_tree.proofs.tree.mark_one.Goals as goal
 
-pub loop-x-preserved : goal.loop-x-preserved
-loop-x-preserved c =
-    let f = marked_if c.args.w.0 in
-    let i = c.loop-x.x-index in
-    ap (λ y. set c.loop-x.windows i y) (c.marked_if.ensures ∙ ap f (sym c.x-item.is))
-    ∙ map_over_more f c.args.windows.now c.loop-x.windows i c.x-item.result (omega arith) c.loop-x.invariant c.x-item.is
+pub returns-in-Some : goal.returns-in-Some
+returns-in-Some c =
+    let w = c.args.w.0 in
+    let ws = c.args.windows.now in
+    c.put.ensures ∙ ap (λ y. set ws c.in-Some.i y) c.marked_if-x.ensures
+    ∙ map_one (marked_if w) w (marked_other w) ws c.in-Some.i c.at.result.now c.in-Some.ensures.rising c.in-Some.ensures.place c.at.ensures
+
+pub returns-in_default : goal.returns-in_default
+returns-in_default c = sym (map_none (marked_if c.args.w.0) c.args.w.0 (marked_other c.args.w.0) c.args.windows.now c.in_default.ensures.place)

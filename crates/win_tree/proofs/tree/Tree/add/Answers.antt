@@ -7,7 +7,7 @@ use Rattle.win_tree.proofs.tree.Tree.add.Goals as goal
 
 pub push-requires-clause-older : goal.push-requires-clause-older
 push-requires-clause-older c =
-    let ws = c.self.inside.windows.items in
+    let ws = c.self.inside.rows in
     let t : Windows = record { last = c.self.inside.last; live = ws } in
     let none : refusal t c.args.row ≡ None = search (rules, tests) in
     let kept : c.settled-kept.result ≡ settled ws c.args.row = search (rules, tests) in

@@ -1,6 +1,0 @@
-use Rattle.std.proofs.Common.{◌≡◌, ◌++◌, take, drop, map}
-use Rattle.win_tree.specs.Windows.{told_if}
-use Rattle.win_tree.proofs.tree.tell.Given as goal
-
-abbrev pub invariant-loop-x : goal.invariant-loop-x
-invariant-loop-x l = l.windows ≡ map (told_if l.w.0) (take l.x-index l.initial.windows) ++ drop l.x-index l.initial.windows
