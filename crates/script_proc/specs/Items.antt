@@ -12,13 +12,13 @@ use Rattle.script_tree.specs.declared.variables.Parameters.{Parameters}
 use Rattle.script_tree.specs.Values.{no_parameters}
 use Rattle.script_tree.specs.Steps.{parameters_from, statement}
 use Rattle.script_tree.specs.Tree.{Tree, body_of, procedure_of}
-use Rattle.script_tree.specs.Pieces.{Piece, Lines, One, PassEnd, Making, Again, Giving, Settle, Quiet, Sleeping, Running, Leaving, Leaves, Left, Restore, Feed, Default, Take, State, Going, Returning, Given, Step, Becomes, Trace, End}
+use Rattle.script_tree.specs.Pieces.{Piece, Lines, One, PassEnd, Making, Again, Giving, Settle, Quiet, Sleeping, Running, Leaving, Leaves, Left, Restore, Feed, State, Going, Returning, Given, Step, Becomes, Trace, End}
 use Rattle.script_tree.specs.Traces.{Makes}
 use Rattle.script_tree.specs.Weights.{steps_left}
 use Rattle.script_proc.specs.declared.item.Way.{Way}
 use Rattle.script_proc.specs.declared.item.Way.TheVariants.{Thread, Procedure, First, Second, Pass}
 use Rattle.script_proc.specs.declared.item.Item.{Item}
-use Rattle.script_proc.specs.declared.item.Item.TheVariants.{Block, Once, PassEnd as PassEndItem, Making as MakingItem, Again as AgainItem, Giving as GivingItem, Settle as SettleItem, Quiet as QuietItem, Sleeping as SleepingItem, Running as RunningItem, Leaving as LeavingItem, Leaves as LeavesItem, Left as LeftItem, Restore as RestoreItem, Feed as FeedItem, Default as DefaultItem, Take as TakeItem}
+use Rattle.script_proc.specs.declared.item.Item.TheVariants.{Block, Once, PassEnd as PassEndItem, Making as MakingItem, Again as AgainItem, Giving as GivingItem, Settle as SettleItem, Quiet as QuietItem, Sleeping as SleepingItem, Running as RunningItem, Leaving as LeavingItem, Leaves as LeavesItem, Left as LeftItem, Restore as RestoreItem, Feed as FeedItem}
 use Rattle.script_proc.specs.declared.item.Mode.{Mode}
 use Rattle.script_proc.specs.declared.item.Mode.TheVariants.{Going as GoingMode, Returning as ReturningMode, Given as GivenMode}
 use Rattle.script_proc.specs.declared.item.Few.{Few}
@@ -69,8 +69,6 @@ piece s around (LeavesItem frame x) = Leaves frame x
 piece s around (LeftItem x) = Left x
 piece s around (RestoreItem p) = Restore p
 piece s around (FeedItem q) = Feed q
-piece s around (DefaultItem x) = Default x
-piece s around TakeItem = Take
 
 -- what items stand for: the statement before the place of the innermost block, and the pieces, the next one first
 pub record Standing : Type 0 where

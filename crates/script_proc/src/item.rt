@@ -1,6 +1,6 @@
 //! What a thread has left to do, one thing after another.
 
-use script_tree::{Compound, Parameters, Run, Variables};
+use script_tree::{Parameters, Place, Run, Variables};
 use user_model::{Answer, Call};
 use win_num::Frame;
 
@@ -33,9 +33,9 @@ pub enum Item {
     Making(Call),
     /// The same call once more, after the procedure of an attempt.
     Again(Call),
-    /// The answer is given, with the result of the procedure that ran for it.
+    /// The answer is given, with the result of the procedure that ran for it, or without one.
     Giving(Answer),
-    /// The call of a statement sets `r` and `err`.
+    /// A statement that began with this call sets `r` and `err`.
     Settle(Call),
     /// The `yield` of a `while` sets nothing.
     Quiet,
@@ -47,16 +47,12 @@ pub enum Item {
     Leaving(Run),
     /// The `leave` of a frame, with its result.
     Leaves(Frame, u64),
-    /// The result of a procedure stays, whatever its `leave` answered.
+    /// The result of a procedure stays, whatever its `leave` or the default procedure was answered.
     Left(u64),
     /// The parameters of the procedure around come back.
     Restore(Parameters),
-    /// A compound takes the answer to its call.
-    Feed(Compound),
-    /// The default procedure's result.
-    Default(u64),
-    /// The statement `default` sets `r` and `err`.
-    Take,
+    /// A compound takes the answer to its call, or that of the compound inside of it.
+    Feed(Place),
 }
 
 /// What one item hands to the next.

@@ -3,13 +3,13 @@
 ghost use Rattle.std.specs.Prelude.{◌≡◌, ℕ, [], ◌∷◌, ◌++◌, Option, Some, option_map};
 ghost use Rattle.script_tree.specs.Tree.{Tree};
 ghost use Rattle.script_tree.specs.declared.statement.Statement.{Statement};
-ghost use Rattle.script_tree.specs.Pieces.{Default, Going, Becomes};
-ghost use Rattle.script_tree.specs.Steps.{statement as statement_of, begins, returns_to, takes, goes_on, sleeps as sleeps_of, default_pieces, default_result as default_of, is_callback as is_callback_of};
+ghost use Rattle.script_tree.specs.Pieces.{Settle, Left, Leaving, Going, Becomes};
+ghost use Rattle.script_tree.specs.Compounds.{default_result};
+ghost use Rattle.script_tree.specs.Steps.{statement as statement_of, begins, returns_to, takes, goes_on, sleeps as sleeps_of, default_pieces, is_callback as is_callback_of};
 ghost use Rattle.script_proc.specs.Items.{piece, above, once_of, pass_end_of, few_items, step_of, IsAtMostFour, IsLater, IsLonger, IsSilent};
 
 use crate::item::{Few, Item, Mode, Move, Way};
-use script_tree::messages::{WM_CLOSE, WM_NCCREATE};
-use script_tree::{Compound, Next, Parameters, Run, Statement, Variables};
+use script_tree::{Begin, Lead, Parameters, Place, Run, Statement, Variables};
 use user_model::{Answer, Call};
 use win_num::Frame;
 
@@ -35,29 +35,37 @@ pub fn hands(variables: Variables, mode: Mode) -> Move
     }
 }
 
-/// What the default procedure gives where it makes no call.
-fn default_result(parameters: &Parameters) -> u64
-    ensures { result ≡ default_of parameters.now }
+/// The statement `default` (Microsoft, DefWindowProc function).
+fn default_statement(parameters: &Parameters) -> Few
+    ensures small { IsAtMostFour result }
+    ensures pieces { (s : Tree) (around : Option Statement) → above s around (few_items result) ≡ default_pieces parameters.now (Settle (Call.Doom parameters.now.hwnd) ∷ []) }
 {
-    if parameters.number == u64::from(WM_NCCREATE) {
-        1
-    } else {
-        0
+    let settle = Item::Settle(Call::Doom(parameters.hwnd));
+    let result = parameters.default_result();
+    match parameters.default_begin() {
+        None => Few::Two(settle, Item::Giving(Answer::Value(result))),
+        Some(begin) => {
+            let defaulting = Item::Feed(Place::Defaulting(result));
+            let feed = Item::Feed(begin.place);
+            Few::Four(settle, defaulting, feed, Item::Making(begin.call))
+        }
     }
 }
 
-/// The default procedure, over one item (Microsoft, DefWindowProc function).
-fn default_over(below: Item, parameters: &Parameters) -> Few
-    ensures small { IsAtMostFour result }
-    ensures pieces { (s : Tree) (around : Option Statement) → above s around (few_items result) ≡ default_pieces parameters.now ++ Default (default_of parameters.now) ∷ piece s around below ∷ [] }
+/// The default procedure at the end of a procedure, whose result it is, whatever it is answered.
+fn default_end(run: Run) -> Few
+    ensures { (s : Tree) (around : Option Statement) → above s around (few_items result) ≡ default_pieces run.parameters (Left (default_result run.parameters) ∷ Leaving run ∷ []) }
 {
-    let result = Item::Default(default_result(parameters));
-    if parameters.number == u64::from(WM_CLOSE) {
-        let window = parameters.hwnd;
-        let feed = Item::Feed(Compound::Dooming(window, true));
-        Few::Four(below, result, feed, Item::Making(Call::Doom(window)))
-    } else {
-        Few::Two(below, result)
+    let leaving = Item::Leaving(run);
+    let result = run.parameters.default_result();
+    let left = Item::Left(result);
+    match run.parameters.default_begin() {
+        None => Few::Three(leaving, left, Item::Giving(Answer::Value(result))),
+        Some(begin) => {
+            let defaulting = Item::Feed(Place::Defaulting(result));
+            let feed = Item::Feed(begin.place);
+            Few::Five(leaving, left, defaulting, feed, Item::Making(begin.call))
+        }
     }
 }
 
@@ -69,12 +77,14 @@ fn makes(call: Call) -> Few
     Few::Two(Item::Settle(call), Item::Making(call))
 }
 
-/// A compound's first call.
-fn begins_with(call: Call, place: Compound) -> Few
+/// A compound of a statement begins.
+fn begins_with(begin: Begin) -> Few
     ensures small { IsAtMostFour result }
-    ensures items { few_items result ≡ Item.Settle call ∷ Item.Feed place ∷ Item.Making call ∷ [] }
+    ensures items { few_items result ≡ Item.Settle begin.call ∷ Item.Feed begin.place ∷ Item.Making begin.call ∷ [] }
 {
-    Few::Three(Item::Settle(call), Item::Feed(place), Item::Making(call))
+    let settle = Item::Settle(begin.call);
+    let feed = Item::Feed(begin.place);
+    Few::Three(settle, feed, Item::Making(begin.call))
 }
 
 /// What a statement becomes that neither sets variables nor returns, above the block that it stands in.
@@ -111,12 +121,9 @@ fn becomes(line: &Statement, variables: &Variables, used: u32) -> Few
             Item::Sleeping(ms.value(variables)),
             Item::Making(Call::Clock),
         ),
-        Statement::Create(creation) => begins_with(creation.call(variables), Compound::Making),
-        Statement::Destroy(window) => {
-            let window = window.value(variables);
-            begins_with(Call::Doom(window), Compound::Dooming(window, true))
-        }
-        Statement::Default => default_over(Item::Take, &variables.parameters),
+        Statement::Create(creation) => begins_with(Begin::creation(creation.call(variables))),
+        Statement::Destroy(window) => begins_with(Begin::destruction(window.value(variables))),
+        Statement::Default => default_statement(&variables.parameters),
         _ => unreachable!(),
     }
 }
@@ -208,7 +215,7 @@ pub fn going(item: Item, variables: Variables) -> Move
             if is_callback(run.frame) {
                 return goes(leaves(run, 0), variables);
             }
-            goes(default_over(item, &run.parameters), variables)
+            goes(default_end(run), variables)
         }
         Item::Restore(parameters) => {
             let outer = Variables {
@@ -217,7 +224,7 @@ pub fn going(item: Item, variables: Variables) -> Move
             };
             goes(Few::Nothing, outer)
         }
-        Item::Default(value) => hands(variables, Mode::Returning(value)),
+        Item::Giving(answer) => hands(variables, Mode::Given(answer, 0)),
         _ => goes(Few::Nothing, variables),
     }
 }
@@ -238,14 +245,6 @@ pub fn returning(item: Item, variables: Variables, value: u64) -> Move
             };
             hands(outer, Mode::Returning(value))
         }
-        Item::Take => {
-            let next = Variables {
-                last_result: value,
-                last_error: 0,
-                ..variables
-            };
-            goes(Few::Nothing, next)
-        }
         _ => hands(variables, Mode::Returning(value)),
     }
 }
@@ -261,15 +260,21 @@ fn sleeps(ms: u64, variables: Variables, answer: &Answer, value: u64) -> Move
 }
 
 /// What a compound does next.
-fn compound(next: Next, variables: Variables) -> Move
+fn compound(next: Lead, variables: Variables) -> Move
     ensures { (s : Tree) (around : Option Statement) → step_of s around result ≡ goes_on variables next }
 {
     match next {
-        Next::Calls(call, place) => goes(
+        Lead::Calls(call, place) => goes(
             Few::Two(Item::Feed(place), Item::Making(call)),
             variables,
         ),
-        Next::Ends(answer) => hands(variables, Mode::Given(answer, 0)),
+        Lead::Runs(begin, place) => {
+            let outer = Item::Feed(place);
+            let feed = Item::Feed(begin.place);
+            let first = Item::Making(begin.call);
+            goes(Few::Three(outer, feed, first), variables)
+        }
+        Lead::Ends(answer) => hands(variables, Mode::Given(answer, 0)),
     }
 }
 
@@ -291,7 +296,6 @@ pub fn given(item: Item, variables: Variables, answer: Answer, value: u64) -> Mo
         }
         Item::Feed(place) => compound(place.after(&answer, value), variables),
         Item::Left(result) => hands(variables, Mode::Returning(result)),
-        Item::Default(result) => hands(variables, Mode::Returning(result)),
         _ => hands(variables, Mode::Given(answer, value)),
     }
 }

@@ -4,13 +4,13 @@ ghost use Rattle.std.specs.Prelude.{◌≡◌, [], Option, IfNone, IfSome, Some}
 ghost use Rattle.script_tree.specs.Tree.{Tree};
 ghost use Rattle.script_tree.specs.declared.statement.Statement.{Statement};
 ghost use Rattle.script_tree.specs.Pieces.{Becomes};
-ghost use Rattle.script_tree.specs.Steps.{follows, answered, following as following_of, after_answer, given as given_of, is_last as is_last_of, parameters_of, parameters_from, result_of as result_by};
+ghost use Rattle.script_tree.specs.Steps.{follows, answered, following as following_of, after_answer, given as given_of, is_last as is_last_of, parameters_of, parameters_from};
 ghost use Rattle.user_model.specs.Stacks.{leaves as leaves_of, waits as waits_of};
 ghost use Rattle.script_proc.specs.Items.{told as told_by, step_of, asks, IsSilent};
 
 use crate::item::{Few, Item, Mode, Move};
 use crate::moves::{goes, hands};
-use script_tree::{Parameters, Run, Variables};
+use script_tree::{Parameters, Run, Variables, result_of};
 use user_model::{Answer, Call};
 use win_num::Frame;
 
@@ -106,16 +106,6 @@ fn told(answer: &Answer) -> Parameters
             ..
         } => with(u64::from(hwnd.0), u64::from(*number), *extra, *result),
         _ => Parameters::none(),
-    }
-}
-
-fn result_of(answer: &Answer) -> u64
-    ensures { result ≡ result_by answer.now }
-{
-    match answer {
-        Answer::Value(value) => *value,
-        Answer::Done { result, .. } => *result,
-        _ => 0,
     }
 }
 

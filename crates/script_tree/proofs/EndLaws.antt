@@ -6,22 +6,22 @@ use Rattle.user_model.specs.declared.call.Call.{Call}
 use Rattle.user_model.specs.declared.call.Call.TheVariants.{EndThread, Doom, Leave, Send, SendTimeout, Yield}
 use Rattle.user_model.specs.declared.entry.Answer.{Answer}
 use Rattle.user_model.specs.declared.entry.Answer.TheVariants.{Wait, Enter, Callback, Inside, Called, Begun, Refused}
-use Rattle.script_tree.specs.declared.messages.TheConstants.{WM_CLOSE}
 use Rattle.script_tree.specs.declared.statement.Statement.{Statement, items-the_row-Statement}
 use Rattle.script_tree.specs.declared.statement.Statement.TheVariants.{Let, Compute, If', IfElse', While', Return, Call as CallOf, Sleep, Create, Destroy, Default as DefaultOf}
 use Rattle.script_tree.specs.declared.frame.Run.{Run}
-use Rattle.script_tree.specs.declared.frame.Compound.{Compound}
-use Rattle.script_tree.specs.declared.frame.Next.{Next}
-use Rattle.script_tree.specs.declared.frame.Next.TheVariants.{Calls, Ends as EndsSo}
+use Rattle.script_tree.specs.declared.frame.Lead.{Lead}
+use Rattle.script_tree.specs.declared.frame.Lead.TheVariants.{Calls, Runs, Ends as EndsSo}
+use Rattle.script_tree.specs.declared.variables.Parameters.{Parameters}
 use Rattle.script_tree.specs.declared.variables.Variables.{Variables}
 use Rattle.script_tree.specs.Tree.{Tree, body_of}
 use Rattle.script_tree.specs.Values.{holds, call_of}
-use Rattle.script_tree.specs.Compounds.{compound_after}
-use Rattle.script_tree.specs.Pieces.{Piece, Lines, One, PassEnd, Making, Again, Giving, Settle, Quiet, Sleeping, Running, Leaving, Leaves, Left, Restore, Feed, Default, Take, State, Going, Returning, Given, Step, Becomes, Asks, Trace, End, Whole, Cut}
-use Rattle.script_tree.specs.Steps.{step, statement, begins, returns_to, takes, goes_on, sleeps, is_callback, follows, answered, variables_of}
+use Rattle.script_tree.specs.Compounds.{default_result, compound_after}
+use Rattle.script_tree.specs.Pieces.{Piece, Lines, One, PassEnd, Making, Again, Giving, Settle, Quiet, Sleeping, Running, Leaving, Leaves, Left, Restore, Feed, State, Going, Returning, Given, Step, Becomes, Asks, Trace, End, Whole, Cut}
+use Rattle.script_tree.specs.Steps.{step, statement, begins, returns_to, takes, goes_on, sleeps, is_callback, default_pieces, follows, answered, variables_of}
 use Rattle.script_tree.specs.Stacks.{Kind, Goes, Returns, Gives, kind_of}
 use Rattle.script_tree.specs.Traces.{Makes, over, silent, entry, cut, IsTrace, GoesOn, EndsAfter}
-use Rattle.script_tree.proofs.PlainCalls.{IsPlain, NextIsPlain, plain_compound, plain_statement, plain_goes_on}
+use Rattle.script_tree.proofs.Defaults.{default_either}
+use Rattle.script_tree.proofs.PlainCalls.{IsPlain, LeadIsPlain, plain_compound, plain_statement, plain_goes_on}
 
 -- pieces that make no `end_thread`, where each gets what it can begin with
 abbrev Fit : List Piece → Kind → Type 0
@@ -35,6 +35,7 @@ Fit (PassEnd loop began ∷ ps) Goes = Fit ps Goes × Fit ps Returns
 Fit (PassEnd loop began ∷ ps) Returns = Fit ps Returns
 Fit (Making call ∷ ps) Goes = (call ≢ EndThread) × Fit ps Gives
 Fit (Again call ∷ ps) Returns = (call ≢ EndThread) × Fit ps Gives
+Fit (Giving a ∷ ps) Goes = Fit ps Gives
 Fit (Giving a ∷ ps) Returns = Fit ps Gives
 Fit (Settle call ∷ ps) Gives = Fit ps Goes
 Fit (Quiet ∷ ps) Gives = Fit ps Goes
@@ -46,9 +47,6 @@ Fit (Leaves frame x ∷ ps) Goes = Fit ps Gives
 Fit (Left x ∷ ps) Gives = Fit ps Returns
 Fit (Restore p ∷ ps) Returns = Fit ps Returns
 Fit (Feed q ∷ ps) Gives = Fit ps Gives
-Fit (Default x ∷ ps) Goes = Fit ps Returns
-Fit (Default x ∷ ps) Gives = Fit ps Returns
-Fit (Take ∷ ps) Returns = Fit ps Goes
 Fit (p ∷ ps) k = ⊥
 
 -- a step to pieces that fit, or a call that fits
@@ -60,13 +58,8 @@ either : (left : List Piece) (b : Bool) (x y : Step) → FitStep left x → FitS
 either left true x y f g = f
 either left false x y f g = g
 
-take_fits : (left : List Piece) (b : Bool) (w : ℕ) (q : Compound) (x : ℕ) (v : Variables) → Fit left Goes → FitStep left (Becomes ((if b then Making (Doom w) ∷ Feed q ∷ [] else []) ++ Default x ∷ Take ∷ []) (Going v))
-take_fits left true w q x v h = ((λ e. absurd cc), h)
-take_fits left false w q x v h = h
-
-leaving_fits : (left : List Piece) (b : Bool) (w : ℕ) (q : Compound) (x : ℕ) (run : Run) (v : Variables) → Fit left Returns → FitStep left (Becomes ((if b then Making (Doom w) ∷ Feed q ∷ [] else []) ++ Default x ∷ Leaving run ∷ []) (Going v))
-leaving_fits left true w q x run v h = ((λ e. absurd cc), h)
-leaving_fits left false w q x run v h = h
+default_fits : (left : List Piece) (p : Parameters) (ps : List Piece) (v : Variables) → Fit (ps ++ left) Gives → FitStep left (Becomes (default_pieces p ps) (Going v))
+default_fits left p ps v h = default_either (λ qs. FitStep left (Becomes qs (Going v))) p ps (λ e. ((λ f. absurd cc), h)) (λ e. h)
 
 statement_fits : (left : List Piece) (line : Statement) (v : Variables) (n : ℕ) → Fit left Goes × Fit left Returns → FitStep left (statement line v n)
 statement_fits left (Let x e) v n h = h.0
@@ -79,10 +72,11 @@ statement_fits left (CallOf ask) v n h = (plain_goes_on _ (plain_statement ask v
 statement_fits left (Sleep e) v n h = ((λ e. absurd cc), h.0)
 statement_fits left (Create c) v n h = ((λ e. absurd cc), h.0)
 statement_fits left (Destroy e) v n h = ((λ e. absurd cc), h.0)
-statement_fits left DefaultOf v n h = take_fits left (v.parameters.number == WM_CLOSE) _ _ _ v h.0
+statement_fits left DefaultOf v n h = default_fits left v.parameters (Settle (Doom v.parameters.hwnd) ∷ []) v h.0
 
-compound_fits : (left : List Piece) (v : Variables) (next : Next) → NextIsPlain next → Fit left Gives → FitStep left (goes_on v next)
+compound_fits : (left : List Piece) (v : Variables) (next : Lead) → LeadIsPlain next → Fit left Gives → FitStep left (goes_on v next)
 compound_fits left v (Calls call q) p h = (plain_goes_on call p, h)
+compound_fits left v (Runs b q) p h = (plain_goes_on b.call p, h)
 compound_fits left v (EndsSo a) p h = h
 
 sleep_fits : (left : List Piece) (ms : ℕ) (v : Variables) (a : Answer) (x : ℕ) → Fit left Goes → FitStep left (sleeps ms v a x)
@@ -97,9 +91,9 @@ module _ (s : Tree) where
   begins_fits left (PassEnd loop began) v n h = either left (n == began) _ _ ((λ e. absurd cc), h) h
   begins_fits left (Making call) v n h = h
   begins_fits left (Running run) v n h = (h, h)
-  begins_fits left (Leaving run) v n h = either left (is_callback run.frame) _ _ h (leaving_fits left (run.parameters.number == WM_CLOSE) _ _ _ run v h)
+  begins_fits left (Leaving run) v n h = either left (is_callback run.frame) _ _ h (default_fits left run.parameters (Left (default_result run.parameters) ∷ Leaving run ∷ []) v h)
   begins_fits left (Leaves frame x) v n h = ((λ e. absurd cc), h)
-  begins_fits left (Default x) v n h = h
+  begins_fits left (Giving a) v n h = h
   begins_fits left p v n h = absurd h
 
   returns_fits : (left : List Piece) (p : Piece) (v : Variables) (x : ℕ) → Fit (p ∷ left) Returns → FitStep left (returns_to p v x)
@@ -110,7 +104,6 @@ module _ (s : Tree) where
   returns_fits left (Giving a) v x h = h
   returns_fits left (Leaving run) v x h = h
   returns_fits left (Restore p) v x h = h
-  returns_fits left Take v x h = h
   returns_fits left p v x h = absurd h
 
   takes_fits : (left : List Piece) (p : Piece) (v : Variables) (a : Answer) (x : ℕ) → Fit (p ∷ left) Gives → FitStep left (takes p v a x)
@@ -119,7 +112,6 @@ module _ (s : Tree) where
   takes_fits left (Sleeping ms) v a x h = sleep_fits left ms _ a x h
   takes_fits left (Left y) v a x h = h
   takes_fits left (Feed q) v a x h = compound_fits left v (compound_after q a x) (plain_compound q a x) h
-  takes_fits left (Default y) v a x h = h
   takes_fits left p v a x h = absurd h
 
   step_fits : (left : List Piece) (p : Piece) (st : State) (n : ℕ) → Fit (p ∷ left) (kind_of st) → FitStep left (step s p st n)

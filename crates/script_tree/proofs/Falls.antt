@@ -5,19 +5,18 @@ use Rattle.user_model.specs.declared.entry.Answer.{Answer}
 use Rattle.user_model.specs.declared.entry.Answer.TheVariants.{Refused}
 use Rattle.user_model.specs.declared.call.Call.{Call}
 use Rattle.user_model.specs.declared.call.Call.TheVariants.{Doom, Yield}
-use Rattle.script_tree.specs.declared.messages.TheConstants.{WM_CLOSE}
 use Rattle.script_tree.specs.declared.statement.Statement.{Statement, Row_of-Statement, end_of-Statement, more_of-Statement, items-the_row-Statement}
 use Rattle.script_tree.specs.declared.statement.Statement.TheVariants.{Let, Compute, If', IfElse', While', Return, Call as CallOf, Sleep, Create, Destroy, Default as DefaultOf}
 use Rattle.script_tree.specs.declared.frame.Run.{Run}
-use Rattle.script_tree.specs.declared.frame.Compound.{Compound}
-use Rattle.script_tree.specs.declared.frame.Next.{Next}
-use Rattle.script_tree.specs.declared.frame.Next.TheVariants.{Calls, Ends}
+use Rattle.script_tree.specs.declared.frame.Lead.{Lead}
+use Rattle.script_tree.specs.declared.frame.Lead.TheVariants.{Calls, Runs, Ends}
 use Rattle.script_tree.specs.declared.variables.Variables.{Variables}
 use Rattle.script_tree.specs.Tree.{Tree}
 use Rattle.script_tree.specs.Values.{holds}
-use Rattle.script_tree.specs.Compounds.{compound_after}
-use Rattle.script_tree.specs.Pieces.{Piece, Lines, One, PassEnd, Making, Again, Giving, Settle, Quiet, Sleeping, Running, Leaving, Leaves, Left, Restore, Feed, Default, Take, State, Going, Returning, Given, Step, Becomes, Asks}
-use Rattle.script_tree.specs.Steps.{step, statement, begins, returns_to, takes, goes_on, sleeps, is_callback}
+use Rattle.script_tree.specs.Compounds.{default_result, compound_after}
+use Rattle.script_tree.specs.Pieces.{Piece, Lines, One, PassEnd, Making, Again, Giving, Settle, Quiet, Sleeping, Running, Leaving, Leaves, Left, Restore, Feed, State, Going, Returning, Given, Step, Becomes, Asks}
+use Rattle.script_tree.specs.Steps.{step, statement, begins, returns_to, takes, goes_on, sleeps, is_callback, default_pieces}
+use Rattle.script_tree.proofs.Defaults.{default_either}
 use Rattle.script_tree.specs.Weights.{weight, row_weight, lines_weight, costs, steps_left}
 
 row_lines : {n : _} (row : Row_of-Statement n) → lines_weight (items-the_row-Statement _ row) ≡ row_weight row
@@ -45,15 +44,6 @@ module _ (s : Tree) (n : ℕ) (left : List Piece) where
   then_falls : (lines body m : ℕ) → lines ≡ body → 1 + lines + m < 1 + (2 + body) + m
   then_falls lines body m f = omega arith
 
-  -- the default procedure's pieces, before a `default` and before the end of a procedure
-  default_falls : (b : Bool) (call : Call) (q : Compound) (x : ℕ) (v : Variables) (bound : ℕ) → 3 + (costs s n left).going < bound → steps_left s n (((if b then Making call ∷ Feed q ∷ [] else []) ++ Default x ∷ Take ∷ []) ++ left) (Going v) < bound
-  default_falls true call q x v bound h = omega arith
-  default_falls false call q x v bound h = omega arith
-
-  leaving_falls : (b : Bool) (call : Call) (q : Compound) (x : ℕ) (run : Run) (v : Variables) → steps_left s n (((if b then Making call ∷ Feed q ∷ [] else []) ++ Default x ∷ Leaving run ∷ []) ++ left) (Going v) < 6
-  leaving_falls true call q x run v = omega arith
-  leaving_falls false call q x run v = omega arith
-
   statement_falls : (line : Statement) (v : Variables) → Falls s n left (steps_left s n (One line ∷ left) (Going v)) (statement line v n)
   statement_falls (Let x e) v = omega arith
   statement_falls (Compute x e op f) v = omega arith
@@ -70,14 +60,15 @@ module _ (s : Tree) (n : ℕ) (left : List Piece) where
   statement_falls (Sleep e) v = omega arith
   statement_falls (Create c) v = omega arith
   statement_falls (Destroy e) v = omega arith
-  statement_falls DefaultOf v = default_falls (v.parameters.number == WM_CLOSE) _ _ _ v _ (omega arith)
+  statement_falls DefaultOf v = default_either (λ qs. Falls s n left (steps_left s n (One DefaultOf ∷ left) (Going v)) (Becomes qs (Going v))) v.parameters (Settle (Doom v.parameters.hwnd) ∷ []) (λ e. omega arith) (λ e. omega arith)
 
   turn_falls : (b : Bool) (loop : Statement) (v : Variables) → Falls s n left (if b then 1 else 2 + weight loop + max (costs s n left).going (costs s n left).returning) (if b then Becomes (Making Yield ∷ Quiet ∷ One loop ∷ []) (Going v) else Becomes (One loop ∷ []) (Going v))
   turn_falls true loop v = omega arith
   turn_falls false loop v = omega arith
 
-  compound_falls : (v : Variables) (next : Next) → Falls s n left (1 + (costs s n left).given) (goes_on v next)
+  compound_falls : (v : Variables) (next : Lead) → Falls s n left (1 + (costs s n left).given) (goes_on v next)
   compound_falls v (Calls call q) = omega arith
+  compound_falls v (Runs b q) = omega arith
   compound_falls v (Ends a) = omega arith
 
   sleep_falls : (ms : ℕ) (v : Variables) (a : Answer) (x : ℕ) → Falls s n left (1 + (costs s n left).going) (sleeps ms v a x)
@@ -91,7 +82,7 @@ module _ (s : Tree) (n : ℕ) (left : List Piece) where
   begins_falls (PassEnd loop began) v = turn_falls (n == began) loop v
   begins_falls (Making call) v = tt
   begins_falls (Running run) v = omega arith
-  begins_falls (Leaving run) v = either _ (is_callback run.frame) _ _ (omega arith) (leaving_falls (run.parameters.number == WM_CLOSE) _ _ _ run v)
+  begins_falls (Leaving run) v = either _ (is_callback run.frame) _ _ (omega arith) (default_either (λ qs. Falls s n left 6 (Becomes qs (Going v))) run.parameters (Left (default_result run.parameters) ∷ Leaving run ∷ []) (λ e. omega arith) (λ e. omega arith))
   begins_falls (Leaves frame x) v = tt
   begins_falls p v = omega arith
 

@@ -1,3 +1,4 @@
+pub mod Defaults
 pub mod EndLaws
 pub mod Falls
 pub mod ListedAnswers

@@ -7,10 +7,10 @@ use Rattle.user_model.specs.declared.entry.Answer.{Answer}
 use Rattle.user_model.specs.declared.entry.Answer.TheVariants.{Window, Tell, Last, Refused}
 use Rattle.script_tree.specs.declared.statement.CallStatement.{CallStatement}
 use Rattle.script_tree.specs.declared.statement.CallStatement.TheVariants.{Yield}
-use Rattle.script_tree.specs.declared.frame.Compound.{Compound}
-use Rattle.script_tree.specs.declared.frame.Compound.TheVariants.{Making, Greeting, Telling, Dooming, Unmaking, Destroying, Parting, Dropping}
-use Rattle.script_tree.specs.declared.frame.Next.{Next}
-use Rattle.script_tree.specs.declared.frame.Next.TheVariants.{Calls, Ends}
+use Rattle.script_tree.specs.declared.frame.Place.{Place}
+use Rattle.script_tree.specs.declared.frame.Place.TheVariants.{Making, Greeting, Telling, Undoing, Dooming, Unmaking, Destroying, Parting, Dropping, Defaulting}
+use Rattle.script_tree.specs.declared.frame.Lead.{Lead}
+use Rattle.script_tree.specs.declared.frame.Lead.TheVariants.{Calls, Runs, Ends}
 use Rattle.script_tree.specs.declared.variables.Variables.{Variables}
 use Rattle.script_tree.specs.Values.{call_of}
 use Rattle.script_tree.specs.Compounds.{compound_after, after_making}
@@ -22,9 +22,10 @@ IsPlain (Leave v) = ⊥
 IsPlain EndThread = ⊥
 IsPlain call = Unit {0}
 
-abbrev pub NextIsPlain : Next → Type 0
-NextIsPlain (Calls call q) = IsPlain call
-NextIsPlain (Ends a) = Unit {0}
+abbrev pub LeadIsPlain : Lead → Type 0
+LeadIsPlain (Calls call q) = IsPlain call
+LeadIsPlain (Runs b q) = IsPlain b.call
+LeadIsPlain (Ends a) = Unit {0}
 
 pub plain_goes_on : (call : Call) → IsPlain call → call ≢ EndThread
 plain_goes_on EndThread h = absurd h
@@ -34,26 +35,30 @@ pub plain_statement : (ask : CallStatement) (v : Variables) → IsPlain (call_of
 plain_statement Yield v = tt
 plain_statement ask v = tt
 
-either : (b : Bool) (x y : Next) → NextIsPlain x → NextIsPlain y → NextIsPlain (if b then x else y)
+either : (b : Bool) (x y : Lead) → LeadIsPlain x → LeadIsPlain y → LeadIsPlain (if b then x else y)
 either true x y f g = f
 either false x y f g = g
 
-plain_making : (a : Answer) → NextIsPlain (after_making a)
+plain_making : (a : Answer) → LeadIsPlain (after_making a)
 plain_making (Window w) = tt
 plain_making (Refused code) = tt
 plain_making a = tt
 
 -- what a compound does next is plain
-pub plain_compound : (q : Compound) (a : Answer) (x : ℕ) → NextIsPlain (compound_after q a x)
+pub plain_compound : (q : Place) (a : Answer) (x : ℕ) → LeadIsPlain (compound_after q a x)
 plain_compound Making a x = plain_making a
 plain_compound (Greeting w) a x = either (x == 0) _ _ tt tt
 plain_compound (Telling w) (Refused code) x = tt
 plain_compound (Telling w) a x = either (x == 18446744073709551615) _ _ tt tt
-plain_compound (Dooming w alone) (Refused code) x = either alone _ _ tt tt
-plain_compound (Dooming w alone) a x = tt
-plain_compound (Unmaking w alone) (Tell v) x = tt
-plain_compound (Unmaking w alone) (Last v) x = tt
-plain_compound (Unmaking w alone) a x = either alone _ _ tt tt
-plain_compound (Destroying w alone) a x = tt
-plain_compound (Parting w v alone) a x = tt
-plain_compound (Dropping w alone) a x = tt
+plain_compound Undoing a x = tt
+plain_compound (Dooming w) (Refused code) x = tt
+plain_compound (Dooming w) a x = tt
+plain_compound (Unmaking w) (Tell v) x = tt
+plain_compound (Unmaking w) (Last v) x = tt
+plain_compound (Unmaking w) (Refused code) x = tt
+plain_compound (Unmaking w) a x = tt
+plain_compound (Destroying w) a x = tt
+plain_compound (Parting w v) a x = tt
+plain_compound (Dropping w) a x = tt
+plain_compound (Defaulting y) (Refused code) x = tt
+plain_compound (Defaulting y) a x = tt

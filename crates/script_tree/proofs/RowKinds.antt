@@ -3,38 +3,38 @@ use Rattle.std.proofs.Common.{sym, subst}
 use Rattle.user_model.specs.declared.call.Call.{Call}
 use Rattle.user_model.specs.declared.call.Call.TheVariants.{Doom, SleepUntil}
 use Rattle.user_model.specs.declared.entry.Answer.{Answer}
+use Rattle.user_model.specs.declared.entry.Answer.TheVariants.{Refused}
 use Rattle.script_tree.specs.declared.variables.Parameters.{Parameters}
 use Rattle.script_tree.specs.Tree.{Tree}
 use Rattle.script_tree.specs.Values.{value_of, call_of, creation_call, time_after}
 use Rattle.script_tree.specs.Pieces.{Returning, Given, Trace}
-use Rattle.script_tree.specs.Rows.{Place, At, CutBefore, on, settling, giving, returning, restoring, taking, undone, Part, Body, Line, Asleep, Frame, Exit, DefaultFor, Rows, call_cut, after_cut, body_over, body, body_left, lets, computes, if_holds, if_fails, if_first, if_second, while_ends, while_left, while_cut, while_again, while_yields, returns, makes, sleeps, asleep_refused, asleep, defaults, destroys, creates, call_waits, call_enters, call_back, leave_back, call_inside, call_calls, call_begins, call_ends, frame, exit_returned, exit_callback, exit_default, default_close, default_greeting, default_other, destruction, doom_refused, doomed, unmaking, unmade_tell, unmade_last, unmade_refused, unmade_gone, create_refused, create_none, created, greeted_no, greeted, told_refused, told_no, told, thread}
+use Rattle.script_tree.specs.Rows.{Point, At, CutBefore, on, settling, giving, returning, restoring, defaulting, undone, Part, Body, Line, Asleep, Frame, Exit, DefaultFor, Rows, call_cut, after_cut, body_over, body, body_left, lets, computes, if_holds, if_fails, if_first, if_second, while_ends, while_left, while_cut, while_again, while_yields, returns, makes, sleeps, asleep_refused, asleep, defaults, destroys, creates, call_waits, call_enters, call_back, leave_back, call_inside, call_calls, call_begins, call_ends, frame, exit_returned, exit_callback, exit_default, default_close, default_greeting, default_other, destruction, doom_refused, doomed, unmaking, unmade_tell, unmade_last, unmade_refused, unmade_gone, create_refused, create_none, created, greeted_no, greeted, told_refused, told_no, told, thread}
 
 -- an answer, or a cut
-abbrev pub IsGiven : Place → Type 0
+abbrev pub IsGiven : Point → Type 0
 IsGiven (At (Given v a x)) = Unit {0}
 IsGiven (At st) = ⊥
 IsGiven (CutBefore call) = Unit {0}
 
 -- a result, or a cut
-abbrev pub IsReturned : Place → Type 0
+abbrev pub IsReturned : Point → Type 0
 IsReturned (At (Returning v x)) = Unit {0}
 IsReturned (At st) = ⊥
 IsReturned (CutBefore call) = Unit {0}
 
 -- no answer
-abbrev pub IsRun : Place → Type 0
+abbrev pub IsRun : Point → Type 0
 IsRun (At (Given v a x)) = ⊥
 IsRun (At st) = Unit {0}
 IsRun (CutBefore call) = Unit {0}
 
 -- how a part ends
-abbrev pub HasKind : Part → Place → Type 0
+abbrev pub HasKind : Part → Point → Type 0
 HasKind (Body lines) out = IsRun out
 HasKind (Line line) out = IsRun out
 HasKind (Asleep ms) out = IsRun out
 HasKind (Frame run) out = IsReturned out
 HasKind (Exit run) out = IsReturned out
-HasKind (DefaultFor p) out = IsReturned out
 HasKind part out = IsGiven out
 
 pub cut_kind : (part : Part) (call : Call) → HasKind part (CutBefore call)
@@ -43,41 +43,41 @@ cut_kind (Line line) call = tt
 cut_kind (Asleep ms) call = tt
 cut_kind (Frame run) call = tt
 cut_kind (Exit run) call = tt
-cut_kind (DefaultFor p) call = tt
 cut_kind part call = tt
 
-settling_run : (call : Call) (got : Place) → IsGiven got → IsRun (on (settling call) got)
+settling_run : (call : Call) (got : Point) → IsGiven got → IsRun (on (settling call) got)
 settling_run call (At (Given v a x)) k = tt
 settling_run call (At st) k = absurd k
 settling_run call (CutBefore c) k = tt
 
-taking_run : (got : Place) → IsReturned got → IsRun (on taking got)
-taking_run (At (Returning v x)) k = tt
-taking_run (At st) k = absurd k
-taking_run (CutBefore c) k = tt
+defaulting_given : (x : _) (got : Point) → IsGiven got → IsGiven (on (defaulting x) got)
+defaulting_given x (At (Given v (Refused code) y)) k = tt
+defaulting_given x (At (Given v a y)) k = tt
+defaulting_given x (At st) k = absurd k
+defaulting_given x (CutBefore c) k = tt
 
-giving_given : (a : Answer) (got : Place) → IsReturned got → IsGiven (on (giving a) got)
+giving_given : (a : Answer) (got : Point) → IsReturned got → IsGiven (on (giving a) got)
 giving_given a (At (Returning v x)) k = tt
 giving_given a (At st) k = absurd k
 giving_given a (CutBefore c) k = tt
 
-returning_returned : (x : _) (got : Place) → IsGiven got → IsReturned (on (returning x) got)
+returning_returned : (x : _) (got : Point) → IsGiven got → IsReturned (on (returning x) got)
 returning_returned x (At (Given v a y)) k = tt
 returning_returned x (At st) k = absurd k
 returning_returned x (CutBefore c) k = tt
 
-restoring_returned : (p : Parameters) (got : Place) → IsReturned got → IsReturned (on (restoring p) got)
+restoring_returned : (p : Parameters) (got : Point) → IsReturned got → IsReturned (on (restoring p) got)
 restoring_returned p (At (Returning v x)) k = tt
 restoring_returned p (At st) k = absurd k
 restoring_returned p (CutBefore c) k = tt
 
-undone_given : (got : Place) → IsGiven got → IsGiven (on undone got)
+undone_given : (got : Point) → IsGiven got → IsGiven (on undone got)
 undone_given (At (Given v a x)) k = tt
 undone_given (At st) k = absurd k
 undone_given (CutBefore c) k = tt
 
 module _ (s : Tree) where
-  pub kind : {part : Part} {before : Place} {tr : Trace} {out : Place} → Rows s part before tr out → HasKind part out
+  pub kind : {part : Part} {before : Point} {tr : Trace} {out : Point} → Rows s part before tr out → HasKind part out
   kind call_cut = tt
   kind (after_cut {part} {call}) = cut_kind part call
   kind body_over = tt
@@ -99,7 +99,7 @@ module _ (s : Tree) where
   kind (sleeps d e f) = kind e
   kind (asleep_refused h) = tt
   kind (asleep {ms = ms} {x = x} {got = got} h d f) = subst IsRun (sym f) (settling_run (SleepUntil (time_after x ms)) got (kind d))
-  kind (defaults {got = got} d f) = subst IsRun (sym f) (taking_run got (kind d))
+  kind (defaults {v = v} {got = got} d f) = subst IsRun (sym f) (settling_run (Doom v.parameters.hwnd) got (kind d))
   kind (destroys {e = e} {v = v} {got = got} d f) = subst IsRun (sym f) (settling_run (Doom (value_of e v)) got (kind d))
   kind (creates {c = c} {v = v} {got = got} d e f g) = subst IsRun (sym g) (settling_run (creation_call c v) got (kind e))
   kind (call_waits d) = kind d
@@ -114,7 +114,7 @@ module _ (s : Tree) where
   kind (exit_returned {got = got} d f) = subst IsReturned (sym f) (returning_returned _ got (kind d))
   kind (exit_callback {got = got} h d f) = subst IsReturned (sym f) (returning_returned _ got (kind d))
   kind (exit_default h d e f) = kind e
-  kind (default_close {got = got} h d f) = subst IsReturned (sym f) (returning_returned _ got (kind d))
+  kind (default_close {got = got} h d f) = subst IsGiven (sym f) (defaulting_given 0 got (kind d))
   kind (default_greeting h) = tt
   kind (default_other h g) = tt
   kind (destruction d e f) = kind e

@@ -9,11 +9,11 @@ use Rattle.user_model.specs.Stacks.{waits}
 use Rattle.script_tree.specs.declared.messages.TheConstants.{WM_CLOSE, WM_NCCREATE, WM_CREATE}
 use Rattle.script_tree.specs.declared.variables.Parameters.{Parameters}
 use Rattle.script_tree.specs.declared.variables.Variables.{Variables}
-use Rattle.script_tree.specs.declared.frame.Compound.TheVariants.{Telling}
-use Rattle.script_tree.specs.declared.frame.Next.TheVariants.{Calls as CallsNext, Ends}
-use Rattle.script_tree.specs.Compounds.{sent, dooms, unmakes, ends_with, after_making, after_greeting, kept_or_doomed, after_telling, after_dooming, after_unmaking}
+use Rattle.script_tree.specs.declared.frame.Place.TheVariants.{Telling}
+use Rattle.script_tree.specs.declared.frame.Lead.TheVariants.{Calls as CallsLead, Ends}
+use Rattle.script_tree.specs.Compounds.{sent, undoes, unmakes, default_result, after_making, after_greeting, kept_or_undone, after_telling, after_dooming, after_unmaking}
 use Rattle.script_tree.specs.Pieces.{Piece, State, Trace}
-use Rattle.script_tree.specs.Steps.{default_result, following, follows, given, after_answer, answered, is_last}
+use Rattle.script_tree.specs.Steps.{following, follows, given, after_answer, answered, is_last}
 use Rattle.script_tree.specs.Rows.{ends_call, is_final, is_refusal, is_made, is_undone}
 
 pub same_number : (x y : ℕ) → x ≡ y → (x == y) ≡ true
@@ -37,23 +37,23 @@ pub uncounted : (n m : ℕ) → m ≡ n + length {A = Call × Answer} [] → (m 
 uncounted n m e = same_number m n (omega arith)
 
 -- the places of a destruction
-pub doom_goes : (w : ℕ) (alone : Bool) (a : Answer) → is_refusal a ≡ false → after_dooming w alone a ≡ unmakes w alone
-doom_goes w alone (Refused code) h = absurd cc
-doom_goes w alone _ h = refl
+pub doom_goes : (w : ℕ) (a : Answer) → is_refusal a ≡ false → after_dooming w a ≡ unmakes w
+doom_goes w (Refused code) h = absurd cc
+doom_goes w _ h = refl
 
-pub doom_ends : (w : ℕ) (alone : Bool) (a : Answer) → is_refusal a ≡ true → after_dooming w alone a ≡ ends_with alone a
-doom_ends w alone (Refused code) h = refl
-doom_ends w alone _ h = absurd cc
+pub doom_ends : (w : ℕ) (a : Answer) → is_refusal a ≡ true → after_dooming w a ≡ Ends a
+doom_ends w (Refused code) h = refl
+doom_ends w _ h = absurd cc
 
-pub unmade_ends : (w : ℕ) (alone : Bool) (a : Answer) → is_refusal a ≡ true → after_unmaking w alone a ≡ ends_with alone a
-unmade_ends w alone (Refused code) h = refl
-unmade_ends w alone _ h = absurd cc
+pub unmade_ends : (w : ℕ) (a : Answer) → is_refusal a ≡ true → after_unmaking w a ≡ Ends a
+unmade_ends w (Refused code) h = refl
+unmade_ends w _ h = absurd cc
 
-pub unmade_done : (w : ℕ) (alone : Bool) (a : Answer) → is_undone a ≡ false → after_unmaking w alone a ≡ ends_with alone (Value 1)
-unmade_done w alone (Tell v) h = absurd cc
-unmade_done w alone (Last v) h = absurd cc
-unmade_done w alone (Refused code) h = absurd cc
-unmade_done w alone _ h = refl
+pub unmade_done : (w : ℕ) (a : Answer) → is_undone a ≡ false → after_unmaking w a ≡ Ends (Value 1)
+unmade_done w (Tell v) h = absurd cc
+unmade_done w (Last v) h = absurd cc
+unmade_done w (Refused code) h = absurd cc
+unmade_done w _ h = refl
 
 -- the places of a `create`
 pub made_ends : (a : Answer) → is_refusal a ≡ true → after_making a ≡ Ends a
@@ -65,25 +65,25 @@ made_none (WindowMade w) h = absurd cc
 made_none (Refused code) h = absurd cc
 made_none _ h = refl
 
-pub greeted_zero : (w x : ℕ) → x ≡ 0 → after_greeting w x ≡ dooms w false
-greeted_zero w x h = ap (λ z. if z then dooms w false else CallsNext (sent w WM_CREATE) (Telling w)) (same_number x 0 h)
+pub greeted_zero : (w x : ℕ) → x ≡ 0 → after_greeting w x ≡ undoes w
+greeted_zero w x h = ap (λ z. if z then undoes w else CallsLead (sent w WM_CREATE) (Telling w)) (same_number x 0 h)
 
-pub greeted_more : (w x : ℕ) → x ≢ 0 → after_greeting w x ≡ CallsNext (sent w WM_CREATE) (Telling w)
-greeted_more w x h = ap (λ z. if z then dooms w false else CallsNext (sent w WM_CREATE) (Telling w)) (other_number x 0 h)
+pub greeted_more : (w x : ℕ) → x ≢ 0 → after_greeting w x ≡ CallsLead (sent w WM_CREATE) (Telling w)
+greeted_more w x h = ap (λ z. if z then undoes w else CallsLead (sent w WM_CREATE) (Telling w)) (other_number x 0 h)
 
-pub telling_refused : (w : ℕ) (a : Answer) (x : ℕ) → is_refusal a ≡ true → after_telling w a x ≡ dooms w false
+pub telling_refused : (w : ℕ) (a : Answer) (x : ℕ) → is_refusal a ≡ true → after_telling w a x ≡ undoes w
 telling_refused w (Refused code) x h = refl
 telling_refused w _ x h = absurd cc
 
-pub telling_kept : (w : ℕ) (a : Answer) (x : ℕ) → is_refusal a ≡ false → after_telling w a x ≡ kept_or_doomed w x
+pub telling_kept : (w : ℕ) (a : Answer) (x : ℕ) → is_refusal a ≡ false → after_telling w a x ≡ kept_or_undone w x
 telling_kept w (Refused code) x h = absurd cc
 telling_kept w _ x h = refl
 
-pub kept_no : (w x : ℕ) → x ≡ 18446744073709551615 → kept_or_doomed w x ≡ dooms w false
-kept_no w x h = ap (λ z. if z then dooms w false else Ends (Value w)) (same_number x 18446744073709551615 h)
+pub kept_no : (w x : ℕ) → x ≡ 18446744073709551615 → kept_or_undone w x ≡ undoes w
+kept_no w x h = ap (λ z. if z then undoes w else Ends (Value w)) (same_number x 18446744073709551615 h)
 
-pub kept_yes : (w x : ℕ) → x ≢ 18446744073709551615 → kept_or_doomed w x ≡ Ends (Value w)
-kept_yes w x h = ap (λ z. if z then dooms w false else Ends (Value w)) (other_number x 18446744073709551615 h)
+pub kept_yes : (w x : ℕ) → x ≢ 18446744073709551615 → kept_or_undone w x ≡ Ends (Value w)
+kept_yes w x h = ap (λ z. if z then undoes w else Ends (Value w)) (other_number x 18446744073709551615 h)
 
 -- the default procedure
 

@@ -1,6 +1,6 @@
 -- Each trace by the rows is one of the table of steps.
 use Rattle.std.proofs.Common.{◌≡◌, ℕ, ◌+◌, suc, Bool, true, false, List, [], ◌∷◌, ◌++◌, length, refl, sym, ap, ◌∙◌, subst, append_assoc, append-nil, arith}
-use Rattle.std.specs.Prelude.{if◌then◌else◌, ◌==◌}
+use Rattle.std.specs.Prelude.{if◌then◌else◌, ◌==◌, Option, Some, None}
 use Rattle.user_model.specs.declared.call.Call.{Call}
 use Rattle.user_model.specs.declared.call.Call.TheVariants.{Await, Leave, Doom, Unmake, Drop, Clock, SleepUntil, Yield, EndThread}
 use Rattle.user_model.specs.declared.entry.Answer.{Answer}
@@ -13,53 +13,47 @@ use Rattle.script_tree.specs.declared.statement.Statement.{Statement, items-the_
 use Rattle.script_tree.specs.declared.statement.Statement.TheVariants.{Let, Compute, If', IfElse', While', Return, Call as CallOf, Sleep, Create, Destroy, Default as DefaultOf}
 use Rattle.script_tree.specs.declared.variables.Parameters.{Parameters}
 use Rattle.script_tree.specs.declared.variables.Variables.{Variables}
-use Rattle.script_tree.specs.declared.frame.Compound.{Compound}
-use Rattle.script_tree.specs.declared.frame.Compound.TheVariants.{Making as MakingWindow, Greeting, Telling, Dooming, Unmaking as UnmakingPlace, Destroying, Parting, Dropping}
-use Rattle.script_tree.specs.declared.frame.Next.TheVariants.{Calls as CallsNext, Ends}
+use Rattle.script_tree.specs.declared.frame.Begin.{Begin}
+use Rattle.script_tree.specs.declared.frame.Run.{Run}
+use Rattle.script_tree.specs.declared.frame.Place.{Place}
+use Rattle.script_tree.specs.declared.frame.Place.TheVariants.{Making as MakingWindow, Greeting, Telling, Undoing, Defaulting, Dooming, Unmaking as UnmakingPlace, Destroying, Parting, Dropping}
+use Rattle.script_tree.specs.declared.frame.Lead.TheVariants.{Calls as CallsLead, Runs as RunsLead, Ends}
 use Rattle.script_tree.specs.Tree.{Tree, body_of, procedure_of}
 use Rattle.script_tree.specs.Values.{value_of, computed, holds, assigned, call_of, creation_call, time_after, start, inside_of, settled}
-use Rattle.script_tree.specs.Compounds.{sent, unmakes, ends_with, compound_after}
-use Rattle.script_tree.specs.Pieces.{Piece, Lines, One, PassEnd, Making, Again, Giving, Settle, Quiet, Sleeping, Running, Leaving, Leaves, Left, Restore, Feed, Default, Take, State, Going, Returning, Given, Becomes, Asks, Trace, End}
-use Rattle.script_tree.specs.Steps.{step, default_pieces, default_result, goes_on, sleeps as slept, passes, makes as calls_for, follows, following, given, answered, after_answer, is_last, parameters_of, run_of, variables_of}
+use Rattle.script_tree.specs.Compounds.{sent, unmakes, destruction as destruction_begin, default_begin, default_result, compound_after}
+use Rattle.script_tree.specs.Pieces.{Piece, Lines, One, PassEnd, Making, Again, Giving, Settle, Quiet, Sleeping, Running, Leaving, Leaves, Left, Restore, Feed, State, Going, Returning, Given, Becomes, Asks, Trace, End}
+use Rattle.script_tree.specs.Steps.{step, default_over, default_pieces, goes_on, sleeps as slept, passes, makes as calls_for, follows, following, given, answered, after_answer, is_last, parameters_of, run_of, variables_of}
 use Rattle.script_tree.specs.Traces.{Makes, over, silent, entry, cut, program, IsTrace}
-use Rattle.script_tree.specs.Rows.{Place, At, CutBefore, on, going, settling, giving, returning, restoring, taking, undone, ended, is_refusal, entered, called_back, end_of, ByRows, Part, Body, Line, Asleep, Calls, Frame, Exit, DefaultFor, Destruction, Doomed, Unmaking, Unmade, Created, Greeted, Told, Thread, Rows, call_cut, after_cut, body_over, body, body_left, lets, computes, if_holds, if_fails, if_first, if_second, while_ends, while_left, while_cut, while_again, while_yields, returns, makes, sleeps, asleep_refused, asleep, defaults, destroys, creates, call_waits, call_enters, call_back, leave_back, call_inside, call_calls, call_begins, call_ends, frame, exit_returned, exit_callback, exit_default, default_close, default_greeting, default_other, destruction, doom_refused, doomed, unmaking, unmade_tell, unmade_last, unmade_refused, unmade_gone, create_refused, create_none, created, greeted_no, greeted, told_refused, told_no, told, thread}
+use Rattle.script_tree.specs.Rows.{Point, At, CutBefore, on, going, settling, giving, returning, restoring, defaulting, undone, ended, is_refusal, entered, called_back, end_of, ByRows, Part, Body, Line, Asleep, Calls, Frame, Exit, DefaultFor, Destruction, Doomed, Unmaking, Unmade, Created, Greeted, Told, Thread, Rows, call_cut, after_cut, body_over, body, body_left, lets, computes, if_holds, if_fails, if_first, if_second, while_ends, while_left, while_cut, while_again, while_yields, returns, makes, sleeps, asleep_refused, asleep, defaults, destroys, creates, call_waits, call_enters, call_back, leave_back, call_inside, call_calls, call_begins, call_ends, frame, exit_returned, exit_callback, exit_default, default_close, default_greeting, default_other, destruction, doom_refused, doomed, unmaking, unmade_tell, unmade_last, unmade_refused, unmade_gone, create_refused, create_none, created, greeted_no, greeted, told_refused, told_no, told, thread}
+use Rattle.script_tree.proofs.Defaults.{default_append}
 use Rattle.script_tree.proofs.RowKinds.{IsGiven, IsReturned, IsRun, kind}
 use Rattle.script_tree.proofs.RowSteps.{counted, uncounted, same_number, other_number, doom_goes, doom_ends, unmade_ends, unmade_done, made_ends, made_none, greeted_zero, greeted_more, telling_refused, telling_kept, kept_no, kept_yes, close_result, other_result, greeting_result, final_follows, final_answered}
 
 -- The pieces make the trace, up to that place: the table's relation with the state at its end.
-pub data Runs (s : Tree) : List Piece → State → ℕ → Trace → Place → Type 0 where
+pub data Runs (s : Tree) : List Piece → State → ℕ → Trace → Point → Type 0 where
   runs_over : {st : State} {n : ℕ} → Runs s [] st n [] (At st)
-  runs_silent : {p : Piece} {left : List Piece} {st : State} {n : ℕ} {tr : Trace} {out : Place} (ps : List Piece) (st' : State) → step s p st n ≡ Becomes ps st' → Runs s (ps ++ left) st' n tr out → Runs s (p ∷ left) st n tr out
-  runs_entry : {p : Piece} {left : List Piece} {st : State} {n : ℕ} {tr : Trace} {out : Place} (call : Call) (a : Answer) → step s p st n ≡ Asks call → Runs s (follows call a ++ left) (answered call a (variables_of st)) (suc n) tr out → Runs s (p ∷ left) st n ((call, a) ∷ tr) out
+  runs_silent : {p : Piece} {left : List Piece} {st : State} {n : ℕ} {tr : Trace} {out : Point} (ps : List Piece) (st' : State) → step s p st n ≡ Becomes ps st' → Runs s (ps ++ left) st' n tr out → Runs s (p ∷ left) st n tr out
+  runs_entry : {p : Piece} {left : List Piece} {st : State} {n : ℕ} {tr : Trace} {out : Point} (call : Call) (a : Answer) → step s p st n ≡ Asks call → Runs s (follows call a ++ left) (answered call a (variables_of st)) (suc n) tr out → Runs s (p ∷ left) st n ((call, a) ∷ tr) out
   runs_cut : {p : Piece} {left : List Piece} {st : State} {n : ℕ} (call : Call) → step s p st n ≡ Asks call → Runs s (p ∷ left) st n [] (CutBefore call)
-
--- a destruction that is a statement's own, or part of a `create`
-abbrev pub ended_so : Bool → State → State
-ended_so true = λ st. st
-ended_so false = undone
-
-pub on_same : (got : Place) → on (ended_so true) got ≡ got
-on_same (At st) = refl
-on_same (CutBefore call) = refl
 
 module _ (s : Tree) where
   -- a trace up to a place is one of the table
-  pub makes_of : {ps : List Piece} {st : State} {n : ℕ} {tr : Trace} {out : Place} → Runs s ps st n tr out → Makes s ps st n tr (end_of out)
+  pub makes_of : {ps : List Piece} {st : State} {n : ℕ} {tr : Trace} {out : Point} → Runs s ps st n tr out → Makes s ps st n tr (end_of out)
   makes_of runs_over = over
   makes_of (runs_silent ps st' h d) = silent ps st' h (makes_of d)
   makes_of (runs_entry call a h d) = entry call a h (makes_of d)
   makes_of (runs_cut call h) = cut call h
 
   -- what follows a trace that comes to that place
-  abbrev Follow : List Piece → ℕ → Trace → Place → Trace → Place → Type 0
+  abbrev Follow : List Piece → ℕ → Trace → Point → Trace → Point → Type 0
   Follow qs n first (At mid) second out = (m : ℕ) → m ≡ n + length first → Runs s qs mid m second out
   Follow qs n first (CutBefore call) second out = (second ≡ []) × (out ≡ CutBefore call)
 
-  shift : (qs : List Piece) (n : ℕ) (x : Call × Answer) (first : Trace) (mid : Place) (second : Trace) (out : Place) → Follow qs n (x ∷ first) mid second out → Follow qs (suc n) first mid second out
+  shift : (qs : List Piece) (n : ℕ) (x : Call × Answer) (first : Trace) (mid : Point) (second : Trace) (out : Point) → Follow qs n (x ∷ first) mid second out → Follow qs (suc n) first mid second out
   shift qs n x first (At mid) second out k = λ m e. k m (omega (arith, e))
   shift qs n x first (CutBefore call) second out k = k
 
-  join : {ps : List Piece} {st : State} {n : ℕ} {first : Trace} {mid : Place} (qs : List Piece) (second : Trace) (out : Place) → Runs s ps st n first mid → Follow qs n first mid second out → Runs s (ps ++ qs) st n (first ++ second) out
+  join : {ps : List Piece} {st : State} {n : ℕ} {first : Trace} {mid : Point} (qs : List Piece) (second : Trace) (out : Point) → Runs s ps st n first mid → Follow qs n first mid second out → Runs s (ps ++ qs) st n (first ++ second) out
   join qs second out (runs_over {st = st} {n = n}) k = k n (omega arith)
   join qs second out (runs_silent {left = left} {st = st} {n = n} {tr = tr} ps st' h d) k =
       runs_silent ps st' h (subst (λ xs. Runs s xs st' n (tr ++ second) out) (append_assoc ps left qs) (join qs second out d k))
@@ -69,11 +63,11 @@ module _ (s : Tree) where
       subst (λ x. Runs s (p ∷ left ++ qs) st n x out) (sym k.0) (subst (λ x. Runs s (p ∷ left ++ qs) st n [] x) (sym k.1) (runs_cut call h))
 
   -- one trace and then the other
-  both : (ps qs : List Piece) (st : State) (n : ℕ) (tr first second : Trace) (mid out : Place) → Runs s ps st n first mid → Follow qs n first mid second out → tr ≡ first ++ second → Runs s (ps ++ qs) st n tr out
+  both : (ps qs : List Piece) (st : State) (n : ℕ) (tr first second : Trace) (mid out : Point) → Runs s ps st n first mid → Follow qs n first mid second out → tr ≡ first ++ second → Runs s (ps ++ qs) st n tr out
   both ps qs st n tr first second mid out d k f = subst (λ x. Runs s (ps ++ qs) st n x out) (sym f) (join qs second out d k)
 
   -- a piece that becomes others has their trace
-  becomes : (p : Piece) (ps : List Piece) (st st' : State) (n : ℕ) (tr : Trace) (out : Place) → step s p st n ≡ Becomes ps st' → Runs s ps st' n tr out → Runs s (p ∷ []) st n tr out
+  becomes : (p : Piece) (ps : List Piece) (st st' : State) (n : ℕ) (tr : Trace) (out : Point) → step s p st n ≡ Becomes ps st' → Runs s ps st' n tr out → Runs s (p ∷ []) st n tr out
   becomes p ps st st' n tr out h d = runs_silent ps st' h (subst (λ xs. Runs s xs st' n tr out) (sym (append-nil ps)) d)
 
   -- a piece that passes a state on
@@ -81,15 +75,15 @@ module _ (s : Tree) where
   passed p st st' n h = runs_silent [] st' h runs_over
 
   -- and then a piece that only changes the state
-  mapped_at : (p : Piece) (f : State → State) (n : ℕ) (tr : Trace) (got : Place) → ((st : State) (m : ℕ) → step s p st m ≡ Becomes [] (f st)) → Follow (p ∷ []) n tr got [] (on f got)
+  mapped_at : (p : Piece) (f : State → State) (n : ℕ) (tr : Trace) (got : Point) → ((st : State) (m : ℕ) → step s p st m ≡ Becomes [] (f st)) → Follow (p ∷ []) n tr got [] (on f got)
   mapped_at p f n tr (At st) h = λ m e. passed p st (f st) m (h st m)
   mapped_at p f n tr (CutBefore call) h = (refl, refl)
 
-  then_maps : (ps : List Piece) (p : Piece) (f : State → State) (st : State) (n : ℕ) (tr : Trace) (got out : Place) → Runs s ps st n tr got → Follow (p ∷ []) n tr got [] (on f got) → out ≡ on f got → Runs s (ps ++ p ∷ []) st n tr out
+  then_maps : (ps : List Piece) (p : Piece) (f : State → State) (st : State) (n : ℕ) (tr : Trace) (got out : Point) → Runs s ps st n tr got → Follow (p ∷ []) n tr got [] (on f got) → out ≡ on f got → Runs s (ps ++ p ∷ []) st n tr out
   then_maps ps p f st n tr got out d k e =
       subst (λ x. Runs s (ps ++ p ∷ []) st n tr x) (sym e) (both ps (p ∷ []) st n tr tr [] got (on f got) d k (sym (append-nil tr)))
 
-  maps : (ps : List Piece) (p : Piece) (f : State → State) (st : State) (n : ℕ) (tr : Trace) (got out : Place) → Runs s ps st n tr got → ((st : State) (m : ℕ) → step s p st m ≡ Becomes [] (f st)) → out ≡ on f got → Runs s (ps ++ p ∷ []) st n tr out
+  maps : (ps : List Piece) (p : Piece) (f : State → State) (st : State) (n : ℕ) (tr : Trace) (got out : Point) → Runs s ps st n tr got → ((st : State) (m : ℕ) → step s p st m ≡ Becomes [] (f st)) → out ≡ on f got → Runs s (ps ++ p ∷ []) st n tr out
   maps ps p f st n tr got out d h e = then_maps ps p f st n tr got out d (mapped_at p f n tr got h) e
 
   settle_maps : (call : Call) (st : State) (m : ℕ) → step s (Settle call) st m ≡ Becomes [] (settling call st)
@@ -97,10 +91,10 @@ module _ (s : Tree) where
   settle_maps call (Returning v x) m = refl
   settle_maps call (Given v a x) m = refl
 
-  giving_maps : (a : Answer) (st : State) (m : ℕ) → step s (Giving a) st m ≡ Becomes [] (giving a st)
-  giving_maps a (Going v) m = refl
-  giving_maps a (Returning v x) m = refl
-  giving_maps a (Given v b x) m = refl
+  giving_follows : (a : Answer) (n : ℕ) (tr : Trace) (got : Point) → IsReturned got → Follow (Giving a ∷ []) n tr got [] (on (giving a) got)
+  giving_follows a n tr (At (Returning v x)) k = λ m e. passed (Giving a) (Returning v x) (Given v a x) m refl
+  giving_follows a n tr (At st) k = absurd k
+  giving_follows a n tr (CutBefore call) k = (refl, refl)
 
   left_maps : (x : ℕ) (st : State) (m : ℕ) → step s (Left x) st m ≡ Becomes [] (returning x st)
   left_maps x (Going v) m = refl
@@ -112,107 +106,104 @@ module _ (s : Tree) where
   restore_maps p (Returning v x) m = refl
   restore_maps p (Given v b x) m = refl
 
-  take_maps : (st : State) (m : ℕ) → step s Take st m ≡ Becomes [] (taking st)
-  take_maps (Going v) m = refl
-  take_maps (Returning v x) m = refl
-  take_maps (Given v b x) m = refl
+  undone_maps : (got : Point) (n : ℕ) (tr : Trace) → IsGiven got → Follow (Feed Undoing ∷ []) n tr got [] (on undone got)
+  undone_maps (At (Given v a x)) n tr k = λ m e. passed (Feed Undoing) (Given v a x) (Given v (Value 0) 0) m refl
+  undone_maps (At st) n tr k = absurd k
+  undone_maps (CutBefore call) n tr k = (refl, refl)
 
-  default_at : (x n : ℕ) (tr : Trace) (got : Place) → IsGiven got → Follow (Default x ∷ []) n tr got [] (on (returning x) got)
-  default_at x n tr (At (Given v a y)) k = λ m e. passed (Default x) (Given v a y) (Returning v x) m refl
-  default_at x n tr (At st) k = absurd k
-  default_at x n tr (CutBefore call) k = (refl, refl)
+  defaulting_maps : (y : ℕ) (got : Point) (n : ℕ) (tr : Trace) → IsGiven got → Follow (Feed (Defaulting y) ∷ []) n tr got [] (on (defaulting y) got)
+  defaulting_maps y (At (Given v (Refused code) x)) n tr k = λ m e. passed (Feed (Defaulting y)) (Given v (Refused code) x) (Given v (Refused code) 0) m refl
+  defaulting_maps y (At (Given v a x)) n tr k = λ m e. passed (Feed (Defaulting y)) (Given v a x) (Given v (Value y) 0) m refl
+  defaulting_maps y (At st) n tr k = absurd k
+  defaulting_maps y (CutBefore call) n tr k = (refl, refl)
 
   -- a piece that steps as another one has its traces
-  same_step : (p q : Piece) (left : List Piece) (st st' : State) {n : ℕ} {tr : Trace} {out : Place} → ((n : ℕ) → step s p st n ≡ step s q st' n) → variables_of st ≡ variables_of st' → Runs s (p ∷ left) st n tr out → Runs s (q ∷ left) st' n tr out
+  same_step : (p q : Piece) (left : List Piece) (st st' : State) {n : ℕ} {tr : Trace} {out : Point} → ((n : ℕ) → step s p st n ≡ step s q st' n) → variables_of st ≡ variables_of st' → Runs s (p ∷ left) st n tr out → Runs s (q ∷ left) st' n tr out
   same_step p q left st st' {n} e f (runs_silent ps st'' h d) = runs_silent ps st'' (sym (e n) ∙ h) d
   same_step p q left st st' {n} e f (runs_entry {tr = tr} {out = out} call a h d) = runs_entry call a (sym (e n) ∙ h) (subst (λ v. Runs s (follows call a ++ left) (answered call a v) (suc n) tr out) f d)
   same_step p q left st st' {n} e f (runs_cut call h) = runs_cut call (sym (e n) ∙ h)
 
   -- a call with that answer, and the trace of what follows it
-  answers : (call : Call) (a : Answer) (ps : List Piece) (v : Variables) (st : State) (n : ℕ) (tr : Trace) (out : Place) → follows call a ≡ ps → answered call a v ≡ st → Runs s ps st (suc n) tr out → Runs s (Making call ∷ []) (Going v) n ((call, a) ∷ tr) out
+  answers : (call : Call) (a : Answer) (ps : List Piece) (v : Variables) (st : State) (n : ℕ) (tr : Trace) (out : Point) → follows call a ≡ ps → answered call a v ≡ st → Runs s ps st (suc n) tr out → Runs s (Making call ∷ []) (Going v) n ((call, a) ∷ tr) out
   answers call a ps v st n tr out f g d =
       runs_entry call a refl (subst (λ xs. Runs s (xs ++ []) (answered call a v) (suc n) tr out) (sym f) (subst (λ xs. Runs s xs (answered call a v) (suc n) tr out) (sym (append-nil ps)) (subst (λ y. Runs s ps y (suc n) tr out) (sym g) d)))
 
   -- a step of a compound
-  feeds : (q : Compound) (v : Variables) (a : Answer) (x : ℕ) (call : Call) (next : Compound) (n : ℕ) (tr : Trace) (out : Place) → compound_after q a x ≡ CallsNext call next → Runs s (Making call ∷ Feed next ∷ []) (Going v) n tr out → Runs s (Feed q ∷ []) (Given v a x) n tr out
+  feeds : (q : Place) (v : Variables) (a : Answer) (x : ℕ) (call : Call) (next : Place) (n : ℕ) (tr : Trace) (out : Point) → compound_after q a x ≡ CallsLead call next → Runs s (Making call ∷ Feed next ∷ []) (Going v) n tr out → Runs s (Feed q ∷ []) (Given v a x) n tr out
   feeds q v a x call next n tr out h d = becomes (Feed q) (Making call ∷ Feed next ∷ []) (Given v a x) (Going v) n tr out (ap (goes_on v) h) d
 
-  feed_ends : (q : Compound) (v : Variables) (a b : Answer) (x n : ℕ) → compound_after q a x ≡ Ends b → Runs s (Feed q ∷ []) (Given v a x) n [] (ended v b)
+  feed_ends : (q : Place) (v : Variables) (a b : Answer) (x n : ℕ) → compound_after q a x ≡ Ends b → Runs s (Feed q ∷ []) (Given v a x) n [] (ended v b)
   feed_ends q v a b x n h = passed (Feed q) (Given v a x) (Given v b 0) n (ap (goes_on v) h)
 
-  feed_ends_with : (q : Compound) (alone : Bool) (v : Variables) (a b : Answer) (x n : ℕ) → compound_after q a x ≡ ends_with alone b → Runs s (Feed q ∷ []) (Given v a x) n [] (on (ended_so alone) (ended v b))
-  feed_ends_with q true v a b x n h = feed_ends q v a b x n h
-  feed_ends_with q false v a b x n h = feed_ends q v a (Value 0) x n h
+  -- a compound that begins inside of another
+  feed_runs : (q : Place) (v : Variables) (a : Answer) (x : ℕ) (b : Begin) (next : Place) (n : ℕ) (tr : Trace) (out : Point) → compound_after q a x ≡ RunsLead b next → Runs s (Making b.call ∷ Feed b.place ∷ Feed next ∷ []) (Going v) n tr out → Runs s (Feed q ∷ []) (Given v a x) n tr out
+  feed_runs q v a x b next n tr out h d = becomes (Feed q) (Making b.call ∷ Feed b.place ∷ Feed next ∷ []) (Given v a x) (Going v) n tr out (ap (goes_on v) h) d
 
   -- what a part's traces are by the table, from a state on
-  abbrev Sound : Part → State → ℕ → Trace → Place → Type 0
+  abbrev Sound : Part → State → ℕ → Trace → Point → Type 0
   Sound (Body lines) st n tr out = Runs s (Lines lines ∷ []) st n tr out
   Sound (Line line) st n tr out = Runs s (One line ∷ []) st n tr out
   Sound (Asleep ms) st n tr out = Runs s (Sleeping ms ∷ []) st n tr out
   Sound (Calls call) st n tr out = Runs s (Making call ∷ []) st n tr out
   Sound (Frame run) st n tr out = Runs s (Running run ∷ []) st n tr out
   Sound (Exit run) st n tr out = Runs s (Leaving run ∷ []) st n tr out
-  Sound (DefaultFor p) st n tr out = Runs s (default_pieces p ++ Default (default_result p) ∷ []) st n tr out
-  Sound (Destruction w) st n tr out = (alone : Bool) → Runs s (Making (Doom w) ∷ Feed (Dooming w alone) ∷ []) st n tr (on (ended_so alone) out)
-  Sound (Doomed w) st n tr out = (alone : Bool) → Runs s (Feed (Dooming w alone) ∷ []) st n tr (on (ended_so alone) out)
-  Sound (Unmaking w) st n tr out = (alone : Bool) → Runs s (Making (Unmake w) ∷ Feed (UnmakingPlace w alone) ∷ []) st n tr (on (ended_so alone) out)
-  Sound (Unmade w) st n tr out = (alone : Bool) → Runs s (Feed (UnmakingPlace w alone) ∷ []) st n tr (on (ended_so alone) out)
+  Sound (DefaultFor p) st n tr out = Runs s (default_pieces p []) st n tr out
+  Sound (Destruction w) st n tr out = Runs s (Making (Doom w) ∷ Feed (Dooming w) ∷ []) st n tr out
+  Sound (Doomed w) st n tr out = Runs s (Feed (Dooming w) ∷ []) st n tr out
+  Sound (Unmaking w) st n tr out = Runs s (Making (Unmake w) ∷ Feed (UnmakingPlace w) ∷ []) st n tr out
+  Sound (Unmade w) st n tr out = Runs s (Feed (UnmakingPlace w) ∷ []) st n tr out
   Sound Created st n tr out = Runs s (Feed MakingWindow ∷ []) st n tr out
   Sound (Greeted w) st n tr out = Runs s (Feed (Greeting w) ∷ []) st n tr out
   Sound (Told w) st n tr out = Runs s (Feed (Telling w) ∷ []) st n tr out
   Sound (Thread t) st n tr out = Runs s (program s t) st n tr out
 
   -- after that place, whatever the number of entries is
-  abbrev Ahead : (State → ℕ → Type 0) → Place → Trace → Place → Type 0
+  abbrev Ahead : (State → ℕ → Type 0) → Point → Trace → Point → Type 0
   Ahead P (At st) tr out = (n : ℕ) → P st n
   Ahead P (CutBefore call) tr out = (tr ≡ []) × (out ≡ CutBefore call)
 
-  abbrev Meaning : Part → Place → Trace → Place → Type 0
+  abbrev Meaning : Part → Point → Trace → Point → Type 0
   Meaning part before tr out = Ahead (λ st n. Sound part st n tr out) before tr out
 
-  ahead : (qs : List Piece) (n : ℕ) (first : Trace) (mid : Place) (second : Trace) (out : Place) → Ahead (λ st m. Runs s qs st m second out) mid second out → Follow qs n first mid second out
+  ahead : (qs : List Piece) (n : ℕ) (first : Trace) (mid : Point) (second : Trace) (out : Point) → Ahead (λ st m. Runs s qs st m second out) mid second out → Follow qs n first mid second out
   ahead qs n first (At st) second out k = λ m e. k m
   ahead qs n first (CutBefore call) second out k = k
 
-  ahead_alone : (qs : Bool → List Piece) (alone : Bool) (n : ℕ) (first : Trace) (mid : Place) (second : Trace) (out : Place) → Ahead (λ st m. (b : Bool) → Runs s (qs b) st m second (on (ended_so b) out)) mid second out → Follow (qs alone) n first mid second (on (ended_so alone) out)
-  ahead_alone qs alone n first (At st) second out k = λ m e. k m alone
-  ahead_alone qs alone n first (CutBefore call) second out k = (k.0, ap (on (ended_so alone)) k.1)
-
   -- a `while` goes on after its `yield`
-  ahead_yield : (loop : Statement) (n : ℕ) (first : Trace) (mid : Place) (second : Trace) (out : Place) → IsGiven mid → Meaning (Line loop) (on going mid) second out → Follow (Quiet ∷ One loop ∷ []) n first mid second out
+  ahead_yield : (loop : Statement) (n : ℕ) (first : Trace) (mid : Point) (second : Trace) (out : Point) → IsGiven mid → Meaning (Line loop) (on going mid) second out → Follow (Quiet ∷ One loop ∷ []) n first mid second out
   ahead_yield loop n first (At (Given v a x)) second out g k = λ m e. runs_silent [] (Going v) refl (k m)
   ahead_yield loop n first (At st) second out g k = absurd g
   ahead_yield loop n first (CutBefore call) second out g k = k
 
   -- the same call again after an attempt
-  ahead_again : (call : Call) (n : ℕ) (first : Trace) (mid : Place) (second : Trace) (out : Place) → IsReturned mid → Meaning (Calls call) (on going mid) second out → Follow (Again call ∷ []) n first mid second out
+  ahead_again : (call : Call) (n : ℕ) (first : Trace) (mid : Point) (second : Trace) (out : Point) → IsReturned mid → Meaning (Calls call) (on going mid) second out → Follow (Again call ∷ []) n first mid second out
   ahead_again call n first (At (Returning v x)) second out g k = λ m e. runs_silent (Making call ∷ []) (Going v) refl (k m)
   ahead_again call n first (At st) second out g k = absurd g
   ahead_again call n first (CutBefore c) second out g k = k
 
   -- the end of a thread
-  ahead_end : (n : ℕ) (first : Trace) (mid : Place) (second : Trace) (out : Place) → IsRun mid → Meaning (Calls EndThread) (on going mid) second out → Follow (Making EndThread ∷ []) n first mid second out
+  ahead_end : (n : ℕ) (first : Trace) (mid : Point) (second : Trace) (out : Point) → IsRun mid → Meaning (Calls EndThread) (on going mid) second out → Follow (Making EndThread ∷ []) n first mid second out
   ahead_end n first (At (Going v)) second out g k = λ m e. k m
   ahead_end n first (At (Returning v x)) second out g k = λ m e. same_step (Making EndThread) (Making EndThread) [] (Going v) (Returning v x) (λ i. refl) refl (k m)
   ahead_end n first (At (Given v a x)) second out g k = absurd g
   ahead_end n first (CutBefore c) second out g k = k
 
   -- the next `unmake` after a message or a `drop`
-  ahead_unmake : (w : ℕ) (q : Bool → Compound) (alone : Bool) (n : ℕ) (first : Trace) (mid : Place) (second : Trace) (out : Place) → ((b : Bool) (a : Answer) (x : ℕ) → compound_after (q b) a x ≡ unmakes w b) → IsGiven mid → Meaning (Unmaking w) (on going mid) second out → Follow (Feed (q alone) ∷ []) n first mid second (on (ended_so alone) out)
-  ahead_unmake w q alone n first (At (Given v a x)) second out h g k = λ m e. feeds (q alone) v a x (Unmake w) (UnmakingPlace w alone) m second (on (ended_so alone) out) (h alone a x) (k m alone)
-  ahead_unmake w q alone n first (At st) second out h g k = absurd g
-  ahead_unmake w q alone n first (CutBefore c) second out h g k = (k.0, ap (on (ended_so alone)) k.1)
+  ahead_unmake : (w : ℕ) (q : Place) (n : ℕ) (first : Trace) (mid : Point) (second : Trace) (out : Point) → ((a : Answer) (x : ℕ) → compound_after q a x ≡ unmakes w) → IsGiven mid → Meaning (Unmaking w) (on going mid) second out → Follow (Feed q ∷ []) n first mid second out
+  ahead_unmake w q n first (At (Given v a x)) second out h g k = λ m e. feeds q v a x (Unmake w) (UnmakingPlace w) m second out (h a x) (k m)
+  ahead_unmake w q n first (At st) second out h g k = absurd g
+  ahead_unmake w q n first (CutBefore c) second out h g k = k
 
   -- the `drop` after a last message
-  ahead_drop : (w part : ℕ) (alone : Bool) (n : ℕ) (first : Trace) (mid : Place) (second third : Trace) (after out : Place) → IsGiven mid → IsGiven after → Meaning (Calls (Drop part)) (on going mid) second after → Meaning (Unmaking w) (on going after) third out → Follow (Feed (Parting w part alone) ∷ []) n first mid (second ++ third) (on (ended_so alone) out)
-  ahead_drop w part alone n first (At (Given v a x)) second third after out g j k l = λ m e.
-      feeds (Parting w part alone) v a x (Drop part) (Dropping w alone) m (second ++ third) (on (ended_so alone) out) refl
-      (both (Making (Drop part) ∷ []) (Feed (Dropping w alone) ∷ []) (Going v) m (second ++ third) second third after (on (ended_so alone) out) (k m)
-      (ahead_unmake w (λ b. Dropping w b) alone m second after third out (λ b a x. refl) j l) refl)
-  ahead_drop w part alone n first (At st) second third after out g j k l = absurd g
-  ahead_drop w part alone n first (CutBefore c) second third after out g j k l =
+  ahead_drop : (w part : ℕ) (n : ℕ) (first : Trace) (mid : Point) (second third : Trace) (after out : Point) → IsGiven mid → IsGiven after → Meaning (Calls (Drop part)) (on going mid) second after → Meaning (Unmaking w) (on going after) third out → Follow (Feed (Parting w part) ∷ []) n first mid (second ++ third) out
+  ahead_drop w part n first (At (Given v a x)) second third after out g j k l = λ m e.
+      feeds (Parting w part) v a x (Drop part) (Dropping w) m (second ++ third) out refl
+      (both (Making (Drop part) ∷ []) (Feed (Dropping w) ∷ []) (Going v) m (second ++ third) second third after out (k m)
+      (ahead_unmake w (Dropping w) m second after third out (λ a x. refl) j l) refl)
+  ahead_drop w part n first (At st) second third after out g j k l = absurd g
+  ahead_drop w part n first (CutBefore c) second third after out g j k l =
       let r : (third ≡ []) × (out ≡ CutBefore c) = subst (λ z. Meaning (Unmaking w) (on going z) third out) k.1 l in
-      (ap (λ z. z ++ third) k.0 ∙ r.0, ap (on (ended_so alone)) r.1)
+      (ap (λ z. z ++ third) k.0 ∙ r.0, r.1)
 
   while_step : (t : Test) (k : _) (a : _) (v : Variables) (n : ℕ) → holds t v ≡ true → step s (One (While' t k a)) (Going v) n ≡ Becomes (Lines (items-the_row-Statement _ a) ∷ PassEnd (While' t k a) n ∷ []) (Going v)
   while_step t k a v n h = ap (λ z. if z then Becomes (Lines (items-the_row-Statement _ a) ∷ PassEnd (While' t k a) n ∷ []) (Going v) else passes (Going v)) h
@@ -228,10 +219,6 @@ module _ (s : Tree) where
   sleep_ends ms v (Refused code) x h = refl
   sleep_ends ms v _ x h = absurd cc
 
-  -- the destruction of a statement's own window
-  own : (ps : List Piece) (v : Variables) (n : ℕ) (tr : Trace) (got : Place) → Runs s ps (Going v) n tr (on (ended_so true) got) → Runs s ps (Going v) n tr got
-  own ps v n tr got d = subst (λ x. Runs s ps (Going v) n tr x) (on_same got) d
-
   -- what follows an answer to a call that isn't the last of a thread
   last_follows : (call : Call) (a : Answer) → is_last call ≡ false → (if is_last call then [] else following call a) ≡ following call a
   last_follows call a h = ap (λ z. if z then [] else following call a) h
@@ -243,7 +230,18 @@ module _ (s : Tree) where
   waits_not_last EndThread h = absurd cc
   waits_not_last _ h = refl
 
-  pub sound : {part : Part} {before : Place} {tr : Trace} {out : Place} → Rows s part before tr out → Meaning part before tr out
+  -- the end of a procedure behind the default procedure
+  ahead_left : (x : ℕ) (run : Run) (n : ℕ) (first : Trace) (mid : Point) (second : Trace) (out : Point) → Meaning (Exit run) (on (returning x) mid) second out → Follow (Left x ∷ Leaving run ∷ []) n first mid second out
+  ahead_left x run n first (At st) second out k = λ m e. runs_silent [] (returning x st) (left_maps x st m) (k m)
+  ahead_left x run n first (CutBefore c) second out k = k
+
+  -- the default procedure without a compound
+  default_alone : (p : Parameters) (v : Variables) (n x : ℕ) → (p.number == WM_CLOSE) ≡ false → default_result p ≡ x → Runs s (default_pieces p []) (Going v) n [] (ended v (Value x))
+  default_alone p v n x h g =
+      subst (λ xs. Runs s xs (Going v) n [] (ended v (Value x))) (sym (ap (λ z. default_over (if z then Some (destruction_begin p.hwnd) else None) (default_result p) []) h ∙ ap (λ y. Giving (Value y) ∷ []) g))
+      (passed (Giving (Value x)) (Going v) (Given v (Value x) 0) n refl)
+
+  pub sound : {part : Part} {before : Point} {tr : Trace} {out : Point} → Rows s part before tr out → Meaning part before tr out
   sound (call_cut {call}) = λ n. runs_cut call refl
   sound after_cut = (refl, refl)
   sound (body_over {v}) = λ n. runs_silent [] (Going v) refl runs_over
@@ -287,12 +285,12 @@ module _ (s : Tree) where
       becomes (Sleeping ms) (Making (SleepUntil (time_after x ms)) ∷ Settle (SleepUntil (time_after x ms)) ∷ []) (Given v a x) (Going (settled v Clock a x)) n tr out (sleep_goes ms (settled v Clock a x) a x h)
       (maps (Making (SleepUntil (time_after x ms)) ∷ []) (Settle (SleepUntil (time_after x ms))) (settling (SleepUntil (time_after x ms))) (Going (settled v Clock a x)) n tr got out (sound d n) (settle_maps (SleepUntil (time_after x ms))) f)
   sound (defaults {v} {tr} {got} {out} d f) = λ n.
-      becomes (One DefaultOf) (default_pieces v.parameters ++ Default (default_result v.parameters) ∷ Take ∷ []) (Going v) (Going v) n tr out refl
-      (subst (λ xs. Runs s xs (Going v) n tr out) (append_assoc (default_pieces v.parameters) (Default (default_result v.parameters) ∷ []) (Take ∷ []))
-      (maps (default_pieces v.parameters ++ Default (default_result v.parameters) ∷ []) Take taking (Going v) n tr got out (sound d n) take_maps f))
+      becomes (One DefaultOf) (default_pieces v.parameters (Settle (Doom v.parameters.hwnd) ∷ [])) (Going v) (Going v) n tr out refl
+      (subst (λ xs. Runs s xs (Going v) n tr out) (default_append v.parameters (Settle (Doom v.parameters.hwnd) ∷ []))
+      (maps (default_pieces v.parameters []) (Settle (Doom v.parameters.hwnd)) (settling (Doom v.parameters.hwnd)) (Going v) n tr got out (sound d n) (settle_maps (Doom v.parameters.hwnd)) f))
   sound (destroys {e} {v} {tr} {got} {out} d f) = λ n.
-      becomes (One (Destroy e)) (Making (Doom (value_of e v)) ∷ Feed (Dooming (value_of e v) true) ∷ Settle (Doom (value_of e v)) ∷ []) (Going v) (Going v) n tr out refl
-      (maps (Making (Doom (value_of e v)) ∷ Feed (Dooming (value_of e v) true) ∷ []) (Settle (Doom (value_of e v))) (settling (Doom (value_of e v))) (Going v) n tr got out (own _ v n tr got (sound d n true)) (settle_maps (Doom (value_of e v))) f)
+      becomes (One (Destroy e)) (Making (Doom (value_of e v)) ∷ Feed (Dooming (value_of e v)) ∷ Settle (Doom (value_of e v)) ∷ []) (Going v) (Going v) n tr out refl
+      (maps (Making (Doom (value_of e v)) ∷ Feed (Dooming (value_of e v)) ∷ []) (Settle (Doom (value_of e v))) (settling (Doom (value_of e v))) (Going v) n tr got out (sound d n) (settle_maps (Doom (value_of e v))) f)
   sound (creates {c} {v} {tr} {first} {second} {mid} {got} {out} d e f g) = λ n.
       becomes (One (Create c)) (Making (creation_call c v) ∷ Feed MakingWindow ∷ Settle (creation_call c v) ∷ []) (Going v) (Going v) n tr out refl
       (maps (Making (creation_call c v) ∷ Feed MakingWindow ∷ []) (Settle (creation_call c v)) (settling (creation_call c v)) (Going v) n tr got out
@@ -309,15 +307,15 @@ module _ (s : Tree) where
   sound (leave_back {call} {v} {sid} {proc_no} {number} {extra} {result} {w} {tr} {mid} {out} h g d f) = λ n.
       answers call (Callback sid proc_no w number extra result) (Running (called_back proc_no w.0 number extra result) ∷ Giving (Callback sid proc_no w number extra result) ∷ []) v (Going v) n tr out
       (last_follows call (Callback sid proc_no w number extra result) h ∙ ap (λ z. Running (called_back proc_no w.0 number extra result) ∷ (if z then Giving (Callback sid proc_no w number extra result) else Again call) ∷ []) g) (last_answered call (Callback sid proc_no w number extra result) v h)
-      (maps (Running (called_back proc_no w.0 number extra result) ∷ []) (Giving (Callback sid proc_no w number extra result)) (giving (Callback sid proc_no w number extra result)) (Going v) (suc n) tr mid out (sound d (suc n)) (giving_maps (Callback sid proc_no w number extra result)) f)
+      (then_maps (Running (called_back proc_no w.0 number extra result) ∷ []) (Giving (Callback sid proc_no w number extra result)) (giving (Callback sid proc_no w number extra result)) (Going v) (suc n) tr mid out (sound d (suc n)) (giving_follows (Callback sid proc_no w number extra result) (suc n) tr mid (kind s d)) f)
   sound (call_inside {call} {v} {sid} {proc_no} {tr} {mid} {out} h d f) = λ n.
       answers call (Inside sid proc_no) (Running (run_of proc_no (parameters_of call) (InsideFrame sid)) ∷ Giving (Inside sid proc_no) ∷ []) v (Going v) n tr out
       (last_follows call (Inside sid proc_no) h) (last_answered call (Inside sid proc_no) v h)
-      (maps (Running (run_of proc_no (parameters_of call) (InsideFrame sid)) ∷ []) (Giving (Inside sid proc_no)) (giving (Inside sid proc_no)) (Going v) (suc n) tr mid out (sound d (suc n)) (giving_maps (Inside sid proc_no)) f)
+      (then_maps (Running (run_of proc_no (parameters_of call) (InsideFrame sid)) ∷ []) (Giving (Inside sid proc_no)) (giving (Inside sid proc_no)) (Going v) (suc n) tr mid out (sound d (suc n)) (giving_follows (Inside sid proc_no) (suc n) tr mid (kind s d)) f)
   sound (call_calls {call} {v} {proc_no} {tr} {mid} {out} h d f) = λ n.
       answers call (Called proc_no) (Running (run_of proc_no (parameters_of call) CalledFrame) ∷ Giving (Called proc_no) ∷ []) v (Going v) n tr out
       (last_follows call (Called proc_no) h) (last_answered call (Called proc_no) v h)
-      (maps (Running (run_of proc_no (parameters_of call) CalledFrame) ∷ []) (Giving (Called proc_no)) (giving (Called proc_no)) (Going v) (suc n) tr mid out (sound d (suc n)) (giving_maps (Called proc_no)) f)
+      (then_maps (Running (run_of proc_no (parameters_of call) CalledFrame) ∷ []) (Giving (Called proc_no)) (giving (Called proc_no)) (Going v) (suc n) tr mid out (sound d (suc n)) (giving_follows (Called proc_no) (suc n) tr mid (kind s d)) f)
   sound (call_begins {call} {v} {sid} {tr} {out} h d) = λ n.
       answers call (Begun sid) (Making (Await sid.0) ∷ []) v (Going v) n tr out
       (last_follows call (Begun sid) (waits_not_last call h) ∙ ap (λ z. if z then Making (Await sid.0) ∷ [] else []) h)
@@ -332,50 +330,51 @@ module _ (s : Tree) where
       becomes (Leaving run) (Leaves run.frame x ∷ Left x ∷ []) (Returning v x) (Going v) n tr out refl
       (maps (Leaves run.frame x ∷ []) (Left x) (returning x) (Going v) n tr got out (same_step (Making (Leave x)) (Leaves run.frame x) [] (Going v) (Going v) (λ i. refl) refl (sound d n)) (left_maps x) f)
   sound (exit_callback {run} {v} {tr} {got} {out} h d f) = λ n.
-      becomes (Leaving run) (Leaves run.frame 0 ∷ Left 0 ∷ []) (Going v) (Going v) n tr out (ap (λ z. if z then Becomes (Leaves run.frame 0 ∷ Left 0 ∷ []) (Going v) else Becomes (default_pieces run.parameters ++ Default (default_result run.parameters) ∷ Leaving run ∷ []) (Going v)) h)
+      becomes (Leaving run) (Leaves run.frame 0 ∷ Left 0 ∷ []) (Going v) (Going v) n tr out (ap (λ z. if z then Becomes (Leaves run.frame 0 ∷ Left 0 ∷ []) (Going v) else Becomes (default_pieces run.parameters (Left (default_result run.parameters) ∷ Leaving run ∷ [])) (Going v)) h)
       (maps (Leaves run.frame 0 ∷ []) (Left 0) (returning 0) (Going v) n tr got out (same_step (Making (Leave 0)) (Leaves run.frame 0) [] (Going v) (Going v) (λ i. refl) refl (sound d n)) (left_maps 0) f)
   sound (exit_default {run} {v} {tr} {first} {second} {mid} {out} h d e f) = λ n.
-      becomes (Leaving run) (default_pieces run.parameters ++ Default (default_result run.parameters) ∷ Leaving run ∷ []) (Going v) (Going v) n tr out (ap (λ z. if z then Becomes (Leaves run.frame 0 ∷ Left 0 ∷ []) (Going v) else Becomes (default_pieces run.parameters ++ Default (default_result run.parameters) ∷ Leaving run ∷ []) (Going v)) h)
-      (subst (λ xs. Runs s xs (Going v) n tr out) (append_assoc (default_pieces run.parameters) (Default (default_result run.parameters) ∷ []) (Leaving run ∷ []))
-      (both (default_pieces run.parameters ++ Default (default_result run.parameters) ∷ []) (Leaving run ∷ []) (Going v) n tr first second mid out (sound d n) (ahead (Leaving run ∷ []) n first mid second out (sound e)) f))
+      becomes (Leaving run) (default_pieces run.parameters (Left (default_result run.parameters) ∷ Leaving run ∷ [])) (Going v) (Going v) n tr out (ap (λ z. if z then Becomes (Leaves run.frame 0 ∷ Left 0 ∷ []) (Going v) else Becomes (default_pieces run.parameters (Left (default_result run.parameters) ∷ Leaving run ∷ [])) (Going v)) h)
+      (subst (λ xs. Runs s xs (Going v) n tr out) (default_append run.parameters (Left (default_result run.parameters) ∷ Leaving run ∷ []))
+      (both (default_pieces run.parameters []) (Left (default_result run.parameters) ∷ Leaving run ∷ []) (Going v) n tr first second mid out (sound d n) (ahead_left (default_result run.parameters) run n first mid second out (sound e)) f))
   sound (default_close {p} {v} {tr} {got} {out} h d f) = λ n.
-      subst (λ xs. Runs s (xs ++ Default (default_result p) ∷ []) (Going v) n tr out) (sym (ap (λ z. if z then Making (Doom p.hwnd) ∷ Feed (Dooming p.hwnd true) ∷ [] else []) (same_number p.number WM_CLOSE h)))
-      (subst (λ x. Runs s ((Making (Doom p.hwnd) ∷ Feed (Dooming p.hwnd true) ∷ []) ++ Default x ∷ []) (Going v) n tr out) (sym (close_result p h))
-      (then_maps (Making (Doom p.hwnd) ∷ Feed (Dooming p.hwnd true) ∷ []) (Default 0) (returning 0) (Going v) n tr got out (own _ v n tr got (sound d n true)) (default_at 0 n tr got (kind s d)) f))
+      let close : (p.number == WM_CLOSE) ≡ true = same_number p.number WM_CLOSE h in
+      subst (λ xs. Runs s xs (Going v) n tr out) (sym (ap (λ z. default_over (if z then Some (destruction_begin p.hwnd) else None) (default_result p) []) close ∙ ap (λ x. Making (Doom p.hwnd) ∷ Feed (Dooming p.hwnd) ∷ Feed (Defaulting x) ∷ []) (close_result p h)))
+      (then_maps (Making (Doom p.hwnd) ∷ Feed (Dooming p.hwnd) ∷ []) (Feed (Defaulting 0)) (defaulting 0) (Going v) n tr got out (sound d n) (defaulting_maps 0 got n tr (kind s d)) f)
   sound (default_greeting {p} {v} h) = λ n.
-      subst (λ xs. Runs s (xs ++ Default (default_result p) ∷ []) (Going v) n [] (At (Returning v 1))) (sym (ap (λ z. if z then Making (Doom p.hwnd) ∷ Feed (Dooming p.hwnd true) ∷ [] else []) (other_number p.number WM_CLOSE (λ e. absurd (omega arith)))))
-      (passed (Default (default_result p)) (Going v) (Returning v 1) n (ap (λ x. Becomes [] (Returning v x)) (greeting_result p h)))
+      default_alone p v n 1 (other_number p.number WM_CLOSE (λ e. absurd (omega arith))) (greeting_result p h)
   sound (default_other {p} {v} h g) = λ n.
-      subst (λ xs. Runs s (xs ++ Default (default_result p) ∷ []) (Going v) n [] (At (Returning v 0))) (sym (ap (λ z. if z then Making (Doom p.hwnd) ∷ Feed (Dooming p.hwnd true) ∷ [] else []) (other_number p.number WM_CLOSE h)))
-      (passed (Default (default_result p)) (Going v) (Returning v 0) n (ap (λ x. Becomes [] (Returning v x)) (other_result p g)))
-  sound (destruction {w} {v} {tr} {first} {second} {got} {out} d e f) = λ n alone.
-      both (Making (Doom w) ∷ []) (Feed (Dooming w alone) ∷ []) (Going v) n tr first second got (on (ended_so alone) out) (sound d n) (ahead_alone (λ b. Feed (Dooming w b) ∷ []) alone n first got second out (sound e)) f
-  sound (doom_refused {w} {x} {v} {a} h) = λ n alone. feed_ends_with (Dooming w alone) alone v a a x n (doom_ends w alone a h)
-  sound (doomed {w} {x} {v} {a} {tr} {out} h d) = λ n alone. feeds (Dooming w alone) v a x (Unmake w) (UnmakingPlace w alone) n tr (on (ended_so alone) out) (doom_goes w alone a h) (sound d n alone)
-  sound (unmaking {w} {v} {tr} {first} {second} {got} {out} d e f) = λ n alone.
-      both (Making (Unmake w) ∷ []) (Feed (UnmakingPlace w alone) ∷ []) (Going v) n tr first second got (on (ended_so alone) out) (sound d n) (ahead_alone (λ b. Feed (UnmakingPlace w b) ∷ []) alone n first got second out (sound e)) f
-  sound (unmade_tell {w} {x} {told} {v} {tr} {first} {second} {mid} {out} d e f) = λ n alone.
-      feeds (UnmakingPlace w alone) v (Tell told) x (sent told.0 WM_DESTROY) (Destroying w alone) n tr (on (ended_so alone) out) refl
-      (both (Making (sent told.0 WM_DESTROY) ∷ []) (Feed (Destroying w alone) ∷ []) (Going v) n tr first second mid (on (ended_so alone) out) (sound d n) (ahead_unmake w (λ b. Destroying w b) alone n first mid second out (λ b a x. refl) (kind s d) (sound e)) f)
-  sound (unmade_last {w} {x} {part} {v} {tr} {first} {second} {third} {mid} {after} {out} d e k f) = λ n alone.
-      feeds (UnmakingPlace w alone) v (Last part) x (sent part.0 WM_NCDESTROY) (Parting w part.0 alone) n tr (on (ended_so alone) out) refl
-      (both (Making (sent part.0 WM_NCDESTROY) ∷ []) (Feed (Parting w part.0 alone) ∷ []) (Going v) n tr first (second ++ third) mid (on (ended_so alone) out) (sound d n) (ahead_drop w part.0 alone n first mid second third after out (kind s d) (kind s e) (sound e) (sound k)) f)
-  sound (unmade_refused {w} {x} {v} {a} h) = λ n alone. feed_ends_with (UnmakingPlace w alone) alone v a a x n (unmade_ends w alone a h)
-  sound (unmade_gone {w} {x} {v} {a} h) = λ n alone. feed_ends_with (UnmakingPlace w alone) alone v a (Value 1) x n (unmade_done w alone a h)
+      default_alone p v n 0 (other_number p.number WM_CLOSE h) (other_result p g)
+  sound (destruction {w} {v} {tr} {first} {second} {got} {out} d e f) = λ n.
+      both (Making (Doom w) ∷ []) (Feed (Dooming w) ∷ []) (Going v) n tr first second got out (sound d n) (ahead (Feed (Dooming w) ∷ []) n first got second out (sound e)) f
+  sound (doom_refused {w} {x} {v} {a} h) = λ n. feed_ends (Dooming w) v a a x n (doom_ends w a h)
+  sound (doomed {w} {x} {v} {a} {tr} {out} h d) = λ n. feeds (Dooming w) v a x (Unmake w) (UnmakingPlace w) n tr out (doom_goes w a h) (sound d n)
+  sound (unmaking {w} {v} {tr} {first} {second} {got} {out} d e f) = λ n.
+      both (Making (Unmake w) ∷ []) (Feed (UnmakingPlace w) ∷ []) (Going v) n tr first second got out (sound d n) (ahead (Feed (UnmakingPlace w) ∷ []) n first got second out (sound e)) f
+  sound (unmade_tell {w} {x} {told} {v} {tr} {first} {second} {mid} {out} d e f) = λ n.
+      feeds (UnmakingPlace w) v (Tell told) x (sent told.0 WM_DESTROY) (Destroying w) n tr out refl
+      (both (Making (sent told.0 WM_DESTROY) ∷ []) (Feed (Destroying w) ∷ []) (Going v) n tr first second mid out (sound d n) (ahead_unmake w (Destroying w) n first mid second out (λ a x. refl) (kind s d) (sound e)) f)
+  sound (unmade_last {w} {x} {part} {v} {tr} {first} {second} {third} {mid} {after} {out} d e k f) = λ n.
+      feeds (UnmakingPlace w) v (Last part) x (sent part.0 WM_NCDESTROY) (Parting w part.0) n tr out refl
+      (both (Making (sent part.0 WM_NCDESTROY) ∷ []) (Feed (Parting w part.0) ∷ []) (Going v) n tr first (second ++ third) mid out (sound d n) (ahead_drop w part.0 n first mid second third after out (kind s d) (kind s e) (sound e) (sound k)) f)
+  sound (unmade_refused {w} {x} {v} {a} h) = λ n. feed_ends (UnmakingPlace w) v a a x n (unmade_ends w a h)
+  sound (unmade_gone {w} {x} {v} {a} h) = λ n. feed_ends (UnmakingPlace w) v a (Value 1) x n (unmade_done w a h)
   sound (create_refused {x} {v} {a} h) = λ n. feed_ends MakingWindow v a a x n (made_ends a h)
   sound (create_none {x} {v} {a} h) = λ n. feed_ends MakingWindow v a (Value 0) x n (made_none a h)
   sound (created {x} {w} {v} {tr} {first} {second} {mid} {out} d e f) = λ n.
       feeds MakingWindow v (WindowMade w) x (sent w.0 WM_NCCREATE) (Greeting w.0) n tr out refl
       (both (Making (sent w.0 WM_NCCREATE) ∷ []) (Feed (Greeting w.0) ∷ []) (Going v) n tr first second mid out (sound d n) (ahead (Feed (Greeting w.0) ∷ []) n first mid second out (sound e)) f)
   sound (greeted_no {w} {x} {v} {a} {tr} {got} {out} h d f) = λ n.
-      feeds (Greeting w) v a x (Doom w) (Dooming w false) n tr out (greeted_zero w x h) (subst (λ y. Runs s (Making (Doom w) ∷ Feed (Dooming w false) ∷ []) (Going v) n tr y) (sym f) (sound d n false))
+      feed_runs (Greeting w) v a x (destruction_begin w) Undoing n tr out (greeted_zero w x h)
+      (then_maps (Making (Doom w) ∷ Feed (Dooming w) ∷ []) (Feed Undoing) undone (Going v) n tr got out (sound d n) (undone_maps got n tr (kind s d)) f)
   sound (greeted {w} {x} {v} {a} {tr} {first} {second} {mid} {out} h d e f) = λ n.
       feeds (Greeting w) v a x (sent w WM_CREATE) (Telling w) n tr out (greeted_more w x h)
       (both (Making (sent w WM_CREATE) ∷ []) (Feed (Telling w) ∷ []) (Going v) n tr first second mid out (sound d n) (ahead (Feed (Telling w) ∷ []) n first mid second out (sound e)) f)
   sound (told_refused {w} {x} {v} {a} {tr} {got} {out} h d f) = λ n.
-      feeds (Telling w) v a x (Doom w) (Dooming w false) n tr out (telling_refused w a x h) (subst (λ y. Runs s (Making (Doom w) ∷ Feed (Dooming w false) ∷ []) (Going v) n tr y) (sym f) (sound d n false))
+      feed_runs (Telling w) v a x (destruction_begin w) Undoing n tr out (telling_refused w a x h)
+      (then_maps (Making (Doom w) ∷ Feed (Dooming w) ∷ []) (Feed Undoing) undone (Going v) n tr got out (sound d n) (undone_maps got n tr (kind s d)) f)
   sound (told_no {w} {x} {v} {a} {tr} {got} {out} h g d f) = λ n.
-      feeds (Telling w) v a x (Doom w) (Dooming w false) n tr out (telling_kept w a x h ∙ kept_no w x g) (subst (λ y. Runs s (Making (Doom w) ∷ Feed (Dooming w false) ∷ []) (Going v) n tr y) (sym f) (sound d n false))
+      feed_runs (Telling w) v a x (destruction_begin w) Undoing n tr out (telling_kept w a x h ∙ kept_no w x g)
+      (then_maps (Making (Doom w) ∷ Feed (Dooming w) ∷ []) (Feed Undoing) undone (Going v) n tr got out (sound d n) (undone_maps got n tr (kind s d)) f)
   sound (told {w} {x} {v} {a} h g) = λ n. feed_ends (Telling w) v a (Value w) x n (telling_kept w a x h ∙ kept_yes w x g)
   sound (thread {t} {tr} {first} {second} {mid} {out} d e f) = λ n.
       both (Lines (body_of s t) ∷ []) (Making EndThread ∷ []) (Going start) n tr first second mid out (sound d n) (ahead_end n first mid second out (kind s d) (sound e)) f

@@ -7,22 +7,21 @@ use Rattle.user_model.specs.declared.call.Call.TheVariants.{Peek, Get, Dispatch,
 use Rattle.user_model.specs.declared.entry.Answer.{Answer}
 use Rattle.user_model.specs.declared.entry.Answer.TheVariants.{Wait, Called, Inside, Begun, Left as LeftOf, Enter, Callback, Done, Refused}
 use Rattle.user_model.specs.Stacks.{stacked}
-use Rattle.script_tree.specs.declared.messages.TheConstants.{WM_CLOSE}
 use Rattle.script_tree.specs.declared.statement.Statement.{Statement}
 use Rattle.script_tree.specs.declared.statement.Statement.TheVariants.{Let, Compute, If', IfElse', While', Return, Call as CallOf, Sleep, Create, Destroy, Default as DefaultOf}
 use Rattle.script_tree.specs.declared.frame.Run.{Run}
-use Rattle.script_tree.specs.declared.frame.Compound.{Compound}
-use Rattle.script_tree.specs.declared.frame.Next.{Next}
-use Rattle.script_tree.specs.declared.frame.Next.TheVariants.{Calls, Ends}
+use Rattle.script_tree.specs.declared.frame.Lead.{Lead}
+use Rattle.script_tree.specs.declared.frame.Lead.TheVariants.{Calls, Runs, Ends}
 use Rattle.script_tree.specs.declared.variables.Variables.{Variables}
 use Rattle.script_tree.specs.Tree.{Tree}
 use Rattle.script_tree.specs.Values.{holds, call_of}
-use Rattle.script_tree.specs.Compounds.{compound_after}
-use Rattle.script_tree.specs.Pieces.{Piece, Lines, One, PassEnd, Making, Again, Giving, Settle, Quiet, Sleeping, Running, Leaving, Leaves, Left, Restore, Feed, Default, Take, State, Going, Returning, Given, Step, Becomes, Asks, Trace, End, Cut}
-use Rattle.script_tree.specs.Steps.{step, statement, begins, returns_to, takes, goes_on, sleeps, is_callback, follows, answered, variables_of}
+use Rattle.script_tree.specs.Compounds.{default_result, compound_after}
+use Rattle.script_tree.specs.Pieces.{Piece, Lines, One, PassEnd, Making, Again, Giving, Settle, Quiet, Sleeping, Running, Leaving, Leaves, Left, Restore, Feed, State, Going, Returning, Given, Step, Becomes, Asks, Trace, End, Cut}
+use Rattle.script_tree.specs.Steps.{step, statement, begins, returns_to, takes, goes_on, sleeps, is_callback, default_pieces, follows, answered, variables_of}
 use Rattle.script_tree.specs.Traces.{Makes, IsTrace, over, silent, entry, cut}
 use Rattle.script_tree.specs.Stacks.{stack_after, awaited, frames_in, is_listed, AreListed, Goes, Returns, Gives, kind_of, IsProcedure, AwaitsNone, MakingSuits, Suits, Fits}
-use Rattle.script_tree.proofs.PlainCalls.{IsPlain, NextIsPlain, plain_compound, plain_statement}
+use Rattle.script_tree.proofs.Defaults.{default_either}
+use Rattle.script_tree.proofs.PlainCalls.{IsPlain, LeadIsPlain, plain_compound, plain_statement}
 
 plain_suits : (call : Call) (frames : List Frame) (next : Type 0) → IsPlain call → AwaitsNone frames × next → MakingSuits call Goes frames next
 plain_suits (Await s) frames next p h = absurd p
@@ -44,14 +43,6 @@ module _ (s : Tree) (n : ℕ) (left : List Piece) where
   either frames true x y f g = f
   either frames false x y f g = g
 
-  default_kept : (b : Bool) (w : ℕ) (q : Compound) (x : ℕ) (v : Variables) → AwaitsNone (frames_in left) × Suits left Goes → Kept left (frames_in left) (Becomes ((if b then Making (Doom w) ∷ Feed q ∷ [] else []) ++ Default x ∷ Take ∷ []) (Going v))
-  default_kept true w q x v h = ((h.0, h), refl)
-  default_kept false w q x v h = (h.1, refl)
-
-  leaving_kept : (b : Bool) (w : ℕ) (q : Compound) (x : ℕ) (run : Run) (v : Variables) → IsProcedure run.frame × Suits left Returns → Kept left (run.frame ∷ frames_in left) (Becomes ((if b then Making (Doom w) ∷ Feed q ∷ [] else []) ++ Default x ∷ Leaving run ∷ []) (Going v))
-  leaving_kept true w q x run v h = ((h.0, (h.0, h)), refl)
-  leaving_kept false w q x run v h = (h, refl)
-
   statement_kept : (line : Statement) (v : Variables) → AwaitsNone (frames_in left) × Suits left Goes × Suits left Returns → Kept left (frames_in left) (statement line v n)
   statement_kept (Let x e) v h = (h.1, refl)
   statement_kept (Compute x e op f) v h = (h.1, refl)
@@ -63,10 +54,11 @@ module _ (s : Tree) (n : ℕ) (left : List Piece) where
   statement_kept (Sleep e) v h = ((h.0, (h.0, h.1)), refl)
   statement_kept (Create c) v h = ((h.0, (h.0, h.1)), refl)
   statement_kept (Destroy e) v h = ((h.0, (h.0, h.1)), refl)
-  statement_kept DefaultOf v h = default_kept (v.parameters.number == WM_CLOSE) _ _ _ v (h.0, h.1)
+  statement_kept DefaultOf v h = default_either (λ qs. Kept left (frames_in left) (Becomes qs (Going v))) v.parameters (Settle (Doom v.parameters.hwnd) ∷ []) (λ e. ((h.0, (h.0, (h.0, h.1))), refl)) (λ e. (h.1, refl))
 
-  compound_kept : (v : Variables) (next : Next) → NextIsPlain next → AwaitsNone (frames_in left) × Suits left Gives → Kept left (frames_in left) (goes_on v next)
+  compound_kept : (v : Variables) (next : Lead) → LeadIsPlain next → AwaitsNone (frames_in left) × Suits left Gives → Kept left (frames_in left) (goes_on v next)
   compound_kept v (Calls call q) p h = (plain_suits call _ _ p (h.0, h), plain_frames call _ p)
+  compound_kept v (Runs b q) p h = (plain_suits b.call _ _ p (h.0, (h.0, h)), plain_frames b.call _ p)
   compound_kept v (Ends a) p h = (h.1, refl)
 
   sleep_kept : (ms : ℕ) (v : Variables) (a : Answer) (x : ℕ) → AwaitsNone (frames_in left) × Suits left Goes → Kept left (frames_in left) (sleeps ms v a x)
@@ -80,9 +72,9 @@ module _ (s : Tree) (n : ℕ) (left : List Piece) where
   begins_kept (PassEnd loop began) v h = either _ (n == began) _ _ ((h.0, h), refl) (h, refl)
   begins_kept (Making call) v h = tt
   begins_kept (Running run) v h = ((h.0, h, h), refl)
-  begins_kept (Leaving run) v h = either _ (is_callback run.frame) _ _ (h, refl) (leaving_kept (run.parameters.number == WM_CLOSE) _ _ _ run v h)
+  begins_kept (Leaving run) v h = either _ (is_callback run.frame) _ _ (h, refl) (default_either (λ qs. Kept left (run.frame ∷ frames_in left) (Becomes qs (Going v))) run.parameters (Left (default_result run.parameters) ∷ Leaving run ∷ []) (λ e. ((h.0, (h.0, (h.0, h))), refl)) (λ e. (h, refl)))
   begins_kept (Leaves frame x) v h = tt
-  begins_kept (Default x) v h = (h, refl)
+  begins_kept (Giving a) v h = (h, refl)
   begins_kept p v h = absurd h
 
   again_makes : (call : Call) (v : Variables) → Suits (Again call ∷ left) Returns → Kept left (frames_in (Again call ∷ left)) (Becomes (Making call ∷ []) (Going v))
@@ -99,7 +91,6 @@ module _ (s : Tree) (n : ℕ) (left : List Piece) where
   returns_kept (Giving a) v x h = (h, refl)
   returns_kept (Leaving run) v x h = (h, refl)
   returns_kept (Restore p) v x h = (h, refl)
-  returns_kept Take v x h = (h, refl)
   returns_kept p v x h = absurd h
 
   takes_kept : (p : Piece) (v : Variables) (a : Answer) (x : ℕ) → Suits (p ∷ left) Gives → Kept left (frames_in (p ∷ left)) (takes p v a x)
@@ -108,7 +99,6 @@ module _ (s : Tree) (n : ℕ) (left : List Piece) where
   takes_kept (Sleeping ms) v a x h = sleep_kept ms _ a x h
   takes_kept (Left y) v a x h = (h, refl)
   takes_kept (Feed q) v a x h = compound_kept v (compound_after q a x) (plain_compound q a x) h
-  takes_kept (Default y) v a x h = (h, refl)
   takes_kept (Making call) v a x h = absurd h
   takes_kept p v a x h = absurd h
 
@@ -193,8 +183,9 @@ module _ (s : Tree) (n : ℕ) (left : List Piece) where
   returns_asked (Making call) v x h = ending call v x h
   returns_asked p v x h = tt
 
-  compound_asked : (frames : List Frame) (st : State) (v : Variables) (next : Next) → Asked frames st left (goes_on v next)
+  compound_asked : (frames : List Frame) (st : State) (v : Variables) (next : Lead) → Asked frames st left (goes_on v next)
   compound_asked frames st v (Calls call q) = tt
+  compound_asked frames st v (Runs b q) = tt
   compound_asked frames st v (Ends a) = tt
 
   sleep_asked : (frames : List Frame) (st : State) (ms : ℕ) (v : Variables) (a : Answer) (x : ℕ) → Asked frames st left (sleeps ms v a x)

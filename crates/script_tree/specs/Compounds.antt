@@ -1,69 +1,90 @@
--- The compounds: where the answer to each of their calls leads.
-use Rattle.std.specs.Prelude.{ℕ, ◌==◌, Bool, false, if◌then◌else◌}
-use Rattle.script_tree.specs.declared.messages.TheConstants.{WM_NCCREATE, WM_CREATE, WM_DESTROY, WM_NCDESTROY}
+-- The compounds: how each begins, and where the answer to each of their calls leads. A compound may begin inside of another.
+use Rattle.std.specs.Prelude.{ℕ, ◌==◌, if◌then◌else◌, Option, Some, None}
+use Rattle.script_tree.specs.declared.messages.TheConstants.{WM_CLOSE, WM_NCCREATE, WM_CREATE, WM_DESTROY, WM_NCDESTROY}
 use Rattle.user_model.specs.declared.call.Call.{Call}
 use Rattle.user_model.specs.declared.call.Call.TheVariants.{Send, Doom, Unmake, Drop}
 use Rattle.user_model.specs.declared.entry.Answer.{Answer}
 use Rattle.user_model.specs.declared.entry.Answer.TheVariants.{Value, Window as WindowMade, Tell, Last, Refused}
-use Rattle.script_tree.specs.declared.frame.Compound.{Compound}
-use Rattle.script_tree.specs.declared.frame.Compound.TheVariants.{Making, Greeting, Telling, Dooming, Unmaking, Destroying, Parting, Dropping}
-use Rattle.script_tree.specs.declared.frame.Next.{Next}
-use Rattle.script_tree.specs.declared.frame.Next.TheVariants.{Calls, Ends}
+use Rattle.script_tree.specs.declared.variables.Parameters.{Parameters}
+use Rattle.script_tree.specs.declared.frame.Begin.{Begin}
+use Rattle.script_tree.specs.declared.frame.Place.{Place}
+use Rattle.script_tree.specs.declared.frame.Place.TheVariants.{Making, Greeting, Telling, Undoing, Dooming, Unmaking, Destroying, Parting, Dropping, Defaulting}
+use Rattle.script_tree.specs.declared.frame.Lead.{Lead}
+use Rattle.script_tree.specs.declared.frame.Lead.TheVariants.{Calls, Runs, Ends}
 
 -- a message without parameters is sent
 abbrev pub sent : ℕ → ℕ → Call
 sent w number = Send w number 0 0
 
--- a window is to be destroyed
-abbrev pub dooms : ℕ → Bool → Next
-dooms w alone = Calls (Doom w) (Dooming w alone)
+-- a `create` begins with the call that makes the window
+abbrev pub creation : Call → Begin
+creation call = record { call = call; place = Making }
+
+-- a `destroy` begins with `doom`
+abbrev pub destruction : ℕ → Begin
+destruction w = record { call = Doom w; place = Dooming w }
+
+-- the default procedure destroys a window that is to close
+abbrev pub default_begin : Parameters → Option Begin
+default_begin p = if p.number == WM_CLOSE then Some (destruction p.hwnd) else None
+
+-- the result of the default procedure
+abbrev pub default_result : Parameters → ℕ
+default_result p = if p.number == WM_NCCREATE then 1 else 0
+
+-- `create`: its window is destroyed, by a compound inside of it
+abbrev pub undoes : ℕ → Lead
+undoes w = Runs (destruction w) Undoing
 
 -- the next step of a destruction
-abbrev pub unmakes : ℕ → Bool → Next
-unmakes w alone = Calls (Unmake w) (Unmaking w alone)
-
--- a destruction ends so where it is a statement's own, and a `create` ends with 0
-abbrev pub ends_with : Bool → Answer → Next
-ends_with alone a = if alone then Ends a else Ends (Value 0)
+abbrev pub unmakes : ℕ → Lead
+unmakes w = Calls (Unmake w) (Unmaking w)
 
 -- `create`: the window was made
-abbrev pub after_making : Answer → Next
+abbrev pub after_making : Answer → Lead
 after_making (WindowMade w) = Calls (sent w.0 WM_NCCREATE) (Greeting w.0)
 after_making (Refused code) = Ends (Refused code)
 after_making _ = Ends (Value 0)
 
 -- `create`: without a result the window is destroyed
-abbrev pub after_greeting : ℕ → ℕ → Next
-after_greeting w x = if x == 0 then dooms w false else Calls (sent w WM_CREATE) (Telling w)
+abbrev pub after_greeting : ℕ → ℕ → Lead
+after_greeting w x = if x == 0 then undoes w else Calls (sent w WM_CREATE) (Telling w)
 
 -- `create`: with minus one the window is destroyed, else it is the result
-abbrev pub kept_or_doomed : ℕ → ℕ → Next
-kept_or_doomed w x = if x == 18446744073709551615 then dooms w false else Ends (Value w)
+abbrev pub kept_or_undone : ℕ → ℕ → Lead
+kept_or_undone w x = if x == 18446744073709551615 then undoes w else Ends (Value w)
 
 -- `create`: the window was told
-abbrev pub after_telling : ℕ → Answer → ℕ → Next
-after_telling w (Refused code) x = dooms w false
-after_telling w _ x = kept_or_doomed w x
+abbrev pub after_telling : ℕ → Answer → ℕ → Lead
+after_telling w (Refused code) x = undoes w
+after_telling w _ x = kept_or_undone w x
 
 -- `destroy`: whether the windows are marked
-abbrev pub after_dooming : ℕ → Bool → Answer → Next
-after_dooming w alone (Refused code) = ends_with alone (Refused code)
-after_dooming w alone _ = unmakes w alone
+abbrev pub after_dooming : ℕ → Answer → Lead
+after_dooming w (Refused code) = Ends (Refused code)
+after_dooming w _ = unmakes w
 
 -- `destroy`: the step that comes
-abbrev pub after_unmaking : ℕ → Bool → Answer → Next
-after_unmaking w alone (Tell v) = Calls (sent v.0 WM_DESTROY) (Destroying w alone)
-after_unmaking w alone (Last v) = Calls (sent v.0 WM_NCDESTROY) (Parting w v.0 alone)
-after_unmaking w alone (Refused code) = ends_with alone (Refused code)
-after_unmaking w alone _ = ends_with alone (Value 1)
+abbrev pub after_unmaking : ℕ → Answer → Lead
+after_unmaking w (Tell v) = Calls (sent v.0 WM_DESTROY) (Destroying w)
+after_unmaking w (Last v) = Calls (sent v.0 WM_NCDESTROY) (Parting w v.0)
+after_unmaking w (Refused code) = Ends (Refused code)
+after_unmaking w _ = Ends (Value 1)
+
+-- the default procedure: its result, or the refusal of the compound inside of it
+abbrev pub after_default : ℕ → Answer → Lead
+after_default x (Refused code) = Ends (Refused code)
+after_default x _ = Ends (Value x)
 
 -- where an answer and its result lead
-abbrev pub compound_after : Compound → Answer → ℕ → Next
+abbrev pub compound_after : Place → Answer → ℕ → Lead
 compound_after Making a x = after_making a
 compound_after (Greeting w) a x = after_greeting w x
 compound_after (Telling w) a x = after_telling w a x
-compound_after (Dooming w alone) a x = after_dooming w alone a
-compound_after (Unmaking w alone) a x = after_unmaking w alone a
-compound_after (Destroying w alone) a x = unmakes w alone
-compound_after (Parting w v alone) a x = Calls (Drop v) (Dropping w alone)
-compound_after (Dropping w alone) a x = unmakes w alone
+compound_after Undoing a x = Ends (Value 0)
+compound_after (Dooming w) a x = after_dooming w a
+compound_after (Unmaking w) a x = after_unmaking w a
+compound_after (Destroying w) a x = unmakes w
+compound_after (Parting w v) a x = Calls (Drop v) (Dropping w)
+compound_after (Dropping w) a x = unmakes w
+compound_after (Defaulting y) a x = after_default y a

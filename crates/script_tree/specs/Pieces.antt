@@ -5,7 +5,7 @@ use Rattle.user_model.specs.declared.call.Call.{Call}
 use Rattle.user_model.specs.declared.entry.Answer.{Answer}
 use Rattle.script_tree.specs.declared.statement.Statement.{Statement}
 use Rattle.script_tree.specs.declared.frame.Run.{Run}
-use Rattle.script_tree.specs.declared.frame.Compound.{Compound}
+use Rattle.script_tree.specs.declared.frame.Place.{Place}
 use Rattle.script_tree.specs.declared.variables.Parameters.{Parameters}
 use Rattle.script_tree.specs.declared.variables.Variables.{Variables}
 
@@ -21,9 +21,9 @@ pub data Piece : Type 0 where
   Making : Call → Piece
   -- the same call once more, after the procedure of an attempt
   Again : Call → Piece
-  -- the answer is given, with the result of the procedure that ran for it
+  -- the answer is given, with the result of the procedure that ran for it, or without one
   Giving : Answer → Piece
-  -- the call of a statement sets r and err
+  -- a statement that began with that call sets r and err
   Settle : Call → Piece
   -- the `yield` of a `while` sets nothing
   Quiet : Piece
@@ -35,16 +35,12 @@ pub data Piece : Type 0 where
   Leaving : Run → Piece
   -- the `leave` of a frame, with its result
   Leaves : Frame → ℕ → Piece
-  -- the result of a procedure stays, whatever its `leave` answered
+  -- the result of a procedure stays, whatever its `leave` or the default procedure was answered
   Left : ℕ → Piece
   -- the parameters of the procedure around come back
   Restore : Parameters → Piece
-  -- a compound takes the answer to its call
-  Feed : Compound → Piece
-  -- the default procedure's result
-  Default : ℕ → Piece
-  -- the statement `default` sets r and err
-  Take : Piece
+  -- a compound takes the answer to its call, or that of the compound inside of it
+  Feed : Place → Piece
 
 -- what a piece hands to the next one
 pub data State : Type 0 where

@@ -21,20 +21,20 @@ use Rattle.script_tree.specs.declared.variables.Parameters.{Parameters}
 use Rattle.script_tree.specs.declared.variables.Variables.{Variables}
 use Rattle.script_tree.specs.declared.frame.Run.{Run}
 use Rattle.script_tree.specs.Tree.{Tree, body_of, procedure_of}
-use Rattle.script_tree.specs.Values.{value_of, computed, holds, assigned, call_of, creation_call, time_after, start, inside_of, resulting, received, settled}
-use Rattle.script_tree.specs.Compounds.{sent}
+use Rattle.script_tree.specs.Values.{value_of, computed, holds, assigned, call_of, creation_call, time_after, start, inside_of, received, settled}
+use Rattle.script_tree.specs.Compounds.{sent, default_result}
 use Rattle.script_tree.specs.Pieces.{State, Going, Returning, Given, Trace, End, Whole, Cut}
 use Rattle.script_tree.specs.Steps.{is_callback, is_last, parameters_from, parameters_of, run_of, result_of, variables_of}
 
 -- where a part of a program begins, and where it ends
-pub data Place : Type 0 where
+pub data Point : Type 0 where
   -- with the variables, the value of a `return` or the answer to a call
-  At : State → Place
+  At : State → Point
   -- the trace is cut before this call
-  CutBefore : Call → Place
+  CutBefore : Call → Point
 
 -- what a state becomes; a trace that is cut stays cut
-abbrev pub on : (State → State) → Place → Place
+abbrev pub on : (State → State) → Point → Point
 on f (At st) = At (f st)
 on f (CutBefore call) = CutBefore call
 
@@ -63,13 +63,14 @@ restoring p (Going v) = Going (inside_of v p)
 restoring p (Returning v x) = Returning (inside_of v p) x
 restoring p st = st
 
--- the result of the default procedure is that of the statement `default`
-abbrev pub taking : State → State
-taking (Returning v x) = Going (resulting v x 0)
-taking st = st
+-- the default procedure has this result, where what it makes isn't refused
+abbrev pub defaulting : ℕ → State → State
+defaulting x (Given v (Refused code) y) = Given v (Refused code) 0
+defaulting x (Given v a y) = Given v (Value x) 0
+defaulting x st = st
 
 -- a compound ends with an answer, and without a procedure's result
-abbrev pub ended : Variables → Answer → Place
+abbrev pub ended : Variables → Answer → Point
 ended v a = At (Given v a 0)
 
 -- a `create` whose window was destroyed ends with 0
@@ -151,7 +152,7 @@ pub data Part : Type 0 where
   Thread : ℕ → Part
 
 -- The part has that trace, from the place before it to the place after it.
-pub data Rows (s : Tree) : Part → Place → Trace → Place → Type 0 where
+pub data Rows (s : Tree) : Part → Point → Trace → Point → Type 0 where
   -- any call may be cut
   call_cut : {call : Call} {v : Variables} → Rows s (Calls call) (At (Going v)) [] (CutBefore call)
   -- after a cut all that follows is empty
@@ -159,7 +160,7 @@ pub data Rows (s : Tree) : Part → Place → Trace → Place → Type 0 where
   -- no statements: nothing
   body_over : {v : Variables} → Rows s (Body []) (At (Going v)) [] (At (Going v))
   -- statements: the trace of the first, and then that of the others
-  body : {line : Statement} {lines : List Statement} {v : Variables} {tr first second : Trace} {mid out : Place} → Rows s (Line line) (At (Going v)) first mid → Rows s (Body lines) mid second out → tr ≡ first ++ second → Rows s (Body (line ∷ lines)) (At (Going v)) tr out
+  body : {line : Statement} {lines : List Statement} {v : Variables} {tr first second : Trace} {mid out : Point} → Rows s (Line line) (At (Going v)) first mid → Rows s (Body lines) mid second out → tr ≡ first ++ second → Rows s (Body (line ∷ lines)) (At (Going v)) tr out
   -- after a `return` nothing of them follows
   body_left : {lines : List Statement} {v : Variables} {x : ℕ} → Rows s (Body lines) (At (Returning v x)) [] (At (Returning v x))
   -- `let` sets a variable
@@ -167,13 +168,13 @@ pub data Rows (s : Tree) : Part → Place → Trace → Place → Type 0 where
   -- `let` with an operator
   computes : {x : Letter} {e f : Operand} {op : Operator} {v : Variables} → Rows s (Line (Compute x e op f)) (At (Going v)) [] (At (Going (assigned v x (computed (value_of e v) op (value_of f v)))))
   -- `if` whose test holds: its body
-  if_holds : {t : Test} {k : _} {a : _} {v : Variables} {tr : Trace} {out : Place} → holds t v ≡ true → Rows s (Body (items-the_row-Statement _ a)) (At (Going v)) tr out → Rows s (Line (If' t k a)) (At (Going v)) tr out
+  if_holds : {t : Test} {k : _} {a : _} {v : Variables} {tr : Trace} {out : Point} → holds t v ≡ true → Rows s (Body (items-the_row-Statement _ a)) (At (Going v)) tr out → Rows s (Line (If' t k a)) (At (Going v)) tr out
   -- `if` whose test fails: nothing
   if_fails : {t : Test} {k : _} {a : _} {v : Variables} → holds t v ≡ false → Rows s (Line (If' t k a)) (At (Going v)) [] (At (Going v))
   -- `if` with `else`: the first body where the test holds
-  if_first : {t : Test} {k j : _} {a : _} {b : _} {v : Variables} {tr : Trace} {out : Place} → holds t v ≡ true → Rows s (Body (items-the_row-Statement _ a)) (At (Going v)) tr out → Rows s (Line (IfElse' t k a j b)) (At (Going v)) tr out
+  if_first : {t : Test} {k j : _} {a : _} {b : _} {v : Variables} {tr : Trace} {out : Point} → holds t v ≡ true → Rows s (Body (items-the_row-Statement _ a)) (At (Going v)) tr out → Rows s (Line (IfElse' t k a j b)) (At (Going v)) tr out
   -- and the second where it fails
-  if_second : {t : Test} {k j : _} {a : _} {b : _} {v : Variables} {tr : Trace} {out : Place} → holds t v ≡ false → Rows s (Body (items-the_row-Statement _ b)) (At (Going v)) tr out → Rows s (Line (IfElse' t k a j b)) (At (Going v)) tr out
+  if_second : {t : Test} {k j : _} {a : _} {b : _} {v : Variables} {tr : Trace} {out : Point} → holds t v ≡ false → Rows s (Body (items-the_row-Statement _ b)) (At (Going v)) tr out → Rows s (Line (IfElse' t k a j b)) (At (Going v)) tr out
   -- `while` whose test fails: nothing
   while_ends : {t : Test} {k : _} {a : _} {v : Variables} → holds t v ≡ false → Rows s (Line (While' t k a)) (At (Going v)) [] (At (Going v))
   -- `while` whose body comes to a `return`: that is all
@@ -181,67 +182,67 @@ pub data Rows (s : Tree) : Part → Place → Trace → Place → Type 0 where
   -- `while` whose body is cut: that is all
   while_cut : {t : Test} {k : _} {a : _} {v : Variables} {call : Call} {tr : Trace} → holds t v ≡ true → Rows s (Body (items-the_row-Statement _ a)) (At (Going v)) tr (CutBefore call) → Rows s (Line (While' t k a)) (At (Going v)) tr (CutBefore call)
   -- `while` whose body made an entry: that trace, and then that of the same `while`
-  while_again : {t : Test} {k : _} {a : _} {v v1 : Variables} {tr first second : Trace} {out : Place} → holds t v ≡ true → Rows s (Body (items-the_row-Statement _ a)) (At (Going v)) first (At (Going v1)) → first ≢ [] → Rows s (Line (While' t k a)) (At (Going v1)) second out → tr ≡ first ++ second → Rows s (Line (While' t k a)) (At (Going v)) tr out
+  while_again : {t : Test} {k : _} {a : _} {v v1 : Variables} {tr first second : Trace} {out : Point} → holds t v ≡ true → Rows s (Body (items-the_row-Statement _ a)) (At (Going v)) first (At (Going v1)) → first ≢ [] → Rows s (Line (While' t k a)) (At (Going v1)) second out → tr ≡ first ++ second → Rows s (Line (While' t k a)) (At (Going v)) tr out
   -- `while` whose body made none: `yield`, and then the same `while`
-  while_yields : {t : Test} {k : _} {a : _} {v v1 : Variables} {tr first second : Trace} {mid out : Place} → holds t v ≡ true → Rows s (Body (items-the_row-Statement _ a)) (At (Going v)) [] (At (Going v1)) → Rows s (Calls Yield) (At (Going v1)) first mid → Rows s (Line (While' t k a)) (on going mid) second out → tr ≡ first ++ second → Rows s (Line (While' t k a)) (At (Going v)) tr out
+  while_yields : {t : Test} {k : _} {a : _} {v v1 : Variables} {tr first second : Trace} {mid out : Point} → holds t v ≡ true → Rows s (Body (items-the_row-Statement _ a)) (At (Going v)) [] (At (Going v1)) → Rows s (Calls Yield) (At (Going v1)) first mid → Rows s (Line (While' t k a)) (on going mid) second out → tr ≡ first ++ second → Rows s (Line (While' t k a)) (At (Going v)) tr out
   -- `return` ends the statements with its value
   returns : {e : Operand} {v : Variables} → Rows s (Line (Return e)) (At (Going v)) [] (At (Returning v (value_of e v)))
   -- a statement that makes a call: that call, whose answer sets r and err
-  makes : {ask : CallStatement} {v : Variables} {tr : Trace} {got out : Place} → Rows s (Calls (call_of ask v)) (At (Going v)) tr got → out ≡ on (settling (call_of ask v)) got → Rows s (Line (CallOf ask)) (At (Going v)) tr out
+  makes : {ask : CallStatement} {v : Variables} {tr : Trace} {got out : Point} → Rows s (Calls (call_of ask v)) (At (Going v)) tr got → out ≡ on (settling (call_of ask v)) got → Rows s (Line (CallOf ask)) (At (Going v)) tr out
   -- `sleep`: the clock, and then the rest of the `sleep`
-  sleeps : {e : Operand} {v : Variables} {tr first second : Trace} {got out : Place} → Rows s (Calls Clock) (At (Going v)) first got → Rows s (Asleep (value_of e v)) got second out → tr ≡ first ++ second → Rows s (Line (Sleep e)) (At (Going v)) tr out
+  sleeps : {e : Operand} {v : Variables} {tr first second : Trace} {got out : Point} → Rows s (Calls Clock) (At (Going v)) first got → Rows s (Asleep (value_of e v)) got second out → tr ≡ first ++ second → Rows s (Line (Sleep e)) (At (Going v)) tr out
   -- a refused clock ends it
   asleep_refused : {ms x : ℕ} {v : Variables} {a : Answer} → is_refusal a ≡ true → Rows s (Asleep ms) (At (Given v a x)) [] (At (Going (settled v Clock a x)))
   -- else it sleeps until so many milliseconds after the clock
-  asleep : {ms x : ℕ} {v : Variables} {a : Answer} {tr : Trace} {got out : Place} → is_refusal a ≡ false → Rows s (Calls (SleepUntil (time_after x ms))) (At (Going (settled v Clock a x))) tr got → out ≡ on (settling (SleepUntil (time_after x ms))) got → Rows s (Asleep ms) (At (Given v a x)) tr out
-  -- `default`: the default procedure, whose result is r
-  defaults : {v : Variables} {tr : Trace} {got out : Place} → Rows s (DefaultFor v.parameters) (At (Going v)) tr got → out ≡ on taking got → Rows s (Line Default) (At (Going v)) tr out
+  asleep : {ms x : ℕ} {v : Variables} {a : Answer} {tr : Trace} {got out : Point} → is_refusal a ≡ false → Rows s (Calls (SleepUntil (time_after x ms))) (At (Going (settled v Clock a x))) tr got → out ≡ on (settling (SleepUntil (time_after x ms))) got → Rows s (Asleep ms) (At (Given v a x)) tr out
+  -- `default`: the default procedure, which sets r and err at its end: to its result and 0, or to 0 and the refusal
+  defaults : {v : Variables} {tr : Trace} {got out : Point} → Rows s (DefaultFor v.parameters) (At (Going v)) tr got → out ≡ on (settling (Doom v.parameters.hwnd)) got → Rows s (Line Default) (At (Going v)) tr out
   -- `destroy`: the destruction of the window, which sets r and err at its end
-  destroys : {e : Operand} {v : Variables} {tr : Trace} {got out : Place} → Rows s (Destruction (value_of e v)) (At (Going v)) tr got → out ≡ on (settling (Doom (value_of e v))) got → Rows s (Line (Destroy e)) (At (Going v)) tr out
+  destroys : {e : Operand} {v : Variables} {tr : Trace} {got out : Point} → Rows s (Destruction (value_of e v)) (At (Going v)) tr got → out ≡ on (settling (Doom (value_of e v))) got → Rows s (Line (Destroy e)) (At (Going v)) tr out
   -- `create`: `new_window`, and then the rest of the `create`, which sets r and err at its end
-  creates : {c : Creation} {v : Variables} {tr first second : Trace} {mid got out : Place} → Rows s (Calls (creation_call c v)) (At (Going v)) first mid → Rows s Created mid second got → tr ≡ first ++ second → out ≡ on (settling (creation_call c v)) got → Rows s (Line (Create c)) (At (Going v)) tr out
+  creates : {c : Creation} {v : Variables} {tr first second : Trace} {mid got out : Point} → Rows s (Calls (creation_call c v)) (At (Going v)) first mid → Rows s Created mid second got → tr ≡ first ++ second → out ≡ on (settling (creation_call c v)) got → Rows s (Line (Create c)) (At (Going v)) tr out
   -- an attempt that is told to wait, and then the same call
-  call_waits : {call : Call} {v : Variables} {tr : Trace} {out : Place} → Rows s (Calls call) (At (Going v)) tr out → Rows s (Calls call) (At (Going v)) ((call, Wait) ∷ tr) out
+  call_waits : {call : Call} {v : Variables} {tr : Trace} {out : Point} → Rows s (Calls call) (At (Going v)) tr out → Rows s (Calls call) (At (Going v)) ((call, Wait) ∷ tr) out
   -- an attempt that is entered: the procedure of the send, and then the same call
-  call_enters : {call : Call} {v : Variables} {sid : SendId} {proc_no number wparam lparam : ℕ} {w : Hwnd} {tr first second : Trace} {mid out : Place} → is_last call ≡ false → Rows s (Frame (entered sid proc_no w.0 number wparam lparam)) (At (Going v)) first mid → Rows s (Calls call) (on going mid) second out → tr ≡ first ++ second → Rows s (Calls call) (At (Going v)) ((call, Enter sid proc_no w number wparam lparam) ∷ tr) out
+  call_enters : {call : Call} {v : Variables} {sid : SendId} {proc_no number wparam lparam : ℕ} {w : Hwnd} {tr first second : Trace} {mid out : Point} → is_last call ≡ false → Rows s (Frame (entered sid proc_no w.0 number wparam lparam)) (At (Going v)) first mid → Rows s (Calls call) (on going mid) second out → tr ≡ first ++ second → Rows s (Calls call) (At (Going v)) ((call, Enter sid proc_no w number wparam lparam) ∷ tr) out
   -- an attempt that is called back: the callback procedure, and then the same call
-  call_back : {call : Call} {v : Variables} {sid : SendId} {proc_no number extra result : ℕ} {w : Hwnd} {tr first second : Trace} {mid out : Place} → is_last call ≡ false → leaves call ≡ false → Rows s (Frame (called_back proc_no w.0 number extra result)) (At (Going v)) first mid → Rows s (Calls call) (on going mid) second out → tr ≡ first ++ second → Rows s (Calls call) (At (Going v)) ((call, Callback sid proc_no w number extra result) ∷ tr) out
+  call_back : {call : Call} {v : Variables} {sid : SendId} {proc_no number extra result : ℕ} {w : Hwnd} {tr first second : Trace} {mid out : Point} → is_last call ≡ false → leaves call ≡ false → Rows s (Frame (called_back proc_no w.0 number extra result)) (At (Going v)) first mid → Rows s (Calls call) (on going mid) second out → tr ≡ first ++ second → Rows s (Calls call) (At (Going v)) ((call, Callback sid proc_no w number extra result) ∷ tr) out
   -- a `leave` that is called back: the callback procedure, and no second `leave`
-  leave_back : {call : Call} {v : Variables} {sid : SendId} {proc_no number extra result : ℕ} {w : Hwnd} {tr : Trace} {mid out : Place} → is_last call ≡ false → leaves call ≡ true → Rows s (Frame (called_back proc_no w.0 number extra result)) (At (Going v)) tr mid → out ≡ on (giving (Callback sid proc_no w number extra result)) mid → Rows s (Calls call) (At (Going v)) ((call, Callback sid proc_no w number extra result) ∷ tr) out
+  leave_back : {call : Call} {v : Variables} {sid : SendId} {proc_no number extra result : ℕ} {w : Hwnd} {tr : Trace} {mid out : Point} → is_last call ≡ false → leaves call ≡ true → Rows s (Frame (called_back proc_no w.0 number extra result)) (At (Going v)) tr mid → out ≡ on (giving (Callback sid proc_no w number extra result)) mid → Rows s (Calls call) (At (Going v)) ((call, Callback sid proc_no w number extra result) ∷ tr) out
   -- a send to an own window: its procedure, whose result is the send's
-  call_inside : {call : Call} {v : Variables} {sid : SendId} {proc_no : ℕ} {tr : Trace} {mid out : Place} → is_last call ≡ false → Rows s (Frame (run_of proc_no (parameters_of call) (InsideFrame sid))) (At (Going v)) tr mid → out ≡ on (giving (Inside sid proc_no)) mid → Rows s (Calls call) (At (Going v)) ((call, Inside sid proc_no) ∷ tr) out
+  call_inside : {call : Call} {v : Variables} {sid : SendId} {proc_no : ℕ} {tr : Trace} {mid out : Point} → is_last call ≡ false → Rows s (Frame (run_of proc_no (parameters_of call) (InsideFrame sid))) (At (Going v)) tr mid → out ≡ on (giving (Inside sid proc_no)) mid → Rows s (Calls call) (At (Going v)) ((call, Inside sid proc_no) ∷ tr) out
   -- a dispatched message: the procedure of its window, whose result is that of `dispatch`
-  call_calls : {call : Call} {v : Variables} {proc_no : ℕ} {tr : Trace} {mid out : Place} → is_last call ≡ false → Rows s (Frame (run_of proc_no (parameters_of call) CalledFrame)) (At (Going v)) tr mid → out ≡ on (giving (Called proc_no)) mid → Rows s (Calls call) (At (Going v)) ((call, Called proc_no) ∷ tr) out
+  call_calls : {call : Call} {v : Variables} {proc_no : ℕ} {tr : Trace} {mid out : Point} → is_last call ≡ false → Rows s (Frame (run_of proc_no (parameters_of call) CalledFrame)) (At (Going v)) tr mid → out ≡ on (giving (Called proc_no)) mid → Rows s (Calls call) (At (Going v)) ((call, Called proc_no) ∷ tr) out
   -- a send that waits for another thread: then the call `await`, whose answer is the send's
-  call_begins : {call : Call} {v : Variables} {sid : SendId} {tr : Trace} {out : Place} → waits call ≡ true → Rows s (Calls (Await sid.0)) (At (Going v)) tr out → Rows s (Calls call) (At (Going v)) ((call, Begun sid) ∷ tr) out
+  call_begins : {call : Call} {v : Variables} {sid : SendId} {tr : Trace} {out : Point} → waits call ≡ true → Rows s (Calls (Await sid.0)) (At (Going v)) tr out → Rows s (Calls call) (At (Going v)) ((call, Begun sid) ∷ tr) out
   -- any other answer ends the call, and a message that was got is the last one got
   call_ends : {call : Call} {v : Variables} {a : Answer} → is_final call a ≡ true → Rows s (Calls call) (At (Going v)) ((call, a) ∷ []) (At (Given (received v a) a (result_of a)))
   -- a procedure: its statements with its parameters, its exit, and then the parameters around it come back
-  frame : {run : Run} {v : Variables} {tr first second : Trace} {mid end out : Place} → Rows s (Body (procedure_of s run.procedure)) (At (Going (inside_of v run.parameters))) first mid → Rows s (Exit run) mid second end → tr ≡ first ++ second → out ≡ on (restoring v.parameters) end → Rows s (Frame run) (At (Going v)) tr out
+  frame : {run : Run} {v : Variables} {tr first second : Trace} {mid end out : Point} → Rows s (Body (procedure_of s run.procedure)) (At (Going (inside_of v run.parameters))) first mid → Rows s (Exit run) mid second end → tr ≡ first ++ second → out ≡ on (restoring v.parameters) end → Rows s (Frame run) (At (Going v)) tr out
   -- after `return`: `leave` with its value, which is the result whatever that is answered
-  exit_returned : {run : Run} {v : Variables} {x : ℕ} {tr : Trace} {got out : Place} → Rows s (Calls (Leave x)) (At (Going v)) tr got → out ≡ on (returning x) got → Rows s (Exit run) (At (Returning v x)) tr out
+  exit_returned : {run : Run} {v : Variables} {x : ℕ} {tr : Trace} {got out : Point} → Rows s (Calls (Leave x)) (At (Going v)) tr got → out ≡ on (returning x) got → Rows s (Exit run) (At (Returning v x)) tr out
   -- at the end of a callback procedure: `leave 0`
-  exit_callback : {run : Run} {v : Variables} {tr : Trace} {got out : Place} → is_callback run.frame ≡ true → Rows s (Calls (Leave 0)) (At (Going v)) tr got → out ≡ on (returning 0) got → Rows s (Exit run) (At (Going v)) tr out
-  -- at the end of any other: the default procedure, and then as after a `return` of its result
-  exit_default : {run : Run} {v : Variables} {tr first second : Trace} {mid out : Place} → is_callback run.frame ≡ false → Rows s (DefaultFor run.parameters) (At (Going v)) first mid → Rows s (Exit run) mid second out → tr ≡ first ++ second → Rows s (Exit run) (At (Going v)) tr out
-  -- the default procedure of WM_CLOSE: the destruction of the window, and the result 0
-  default_close : {p : Parameters} {v : Variables} {tr : Trace} {got out : Place} → p.number ≡ WM_CLOSE → Rows s (Destruction p.hwnd) (At (Going v)) tr got → out ≡ on (returning 0) got → Rows s (DefaultFor p) (At (Going v)) tr out
+  exit_callback : {run : Run} {v : Variables} {tr : Trace} {got out : Point} → is_callback run.frame ≡ true → Rows s (Calls (Leave 0)) (At (Going v)) tr got → out ≡ on (returning 0) got → Rows s (Exit run) (At (Going v)) tr out
+  -- at the end of any other: the default procedure, and then as after a `return` of its result, whatever it was answered
+  exit_default : {run : Run} {v : Variables} {tr first second : Trace} {mid out : Point} → is_callback run.frame ≡ false → Rows s (DefaultFor run.parameters) (At (Going v)) first mid → Rows s (Exit run) (on (returning (default_result run.parameters)) mid) second out → tr ≡ first ++ second → Rows s (Exit run) (At (Going v)) tr out
+  -- the default procedure of WM_CLOSE: the destruction of the window, and the result 0 or the refusal
+  default_close : {p : Parameters} {v : Variables} {tr : Trace} {got out : Point} → p.number ≡ WM_CLOSE → Rows s (Destruction p.hwnd) (At (Going v)) tr got → out ≡ on (defaulting 0) got → Rows s (DefaultFor p) (At (Going v)) tr out
   -- of WM_NCCREATE: nothing, and the result 1
-  default_greeting : {p : Parameters} {v : Variables} → p.number ≡ WM_NCCREATE → Rows s (DefaultFor p) (At (Going v)) [] (At (Returning v 1))
+  default_greeting : {p : Parameters} {v : Variables} → p.number ≡ WM_NCCREATE → Rows s (DefaultFor p) (At (Going v)) [] (ended v (Value 1))
   -- of all other messages: nothing, and the result 0
-  default_other : {p : Parameters} {v : Variables} → p.number ≢ WM_CLOSE → p.number ≢ WM_NCCREATE → Rows s (DefaultFor p) (At (Going v)) [] (At (Returning v 0))
+  default_other : {p : Parameters} {v : Variables} → p.number ≢ WM_CLOSE → p.number ≢ WM_NCCREATE → Rows s (DefaultFor p) (At (Going v)) [] (ended v (Value 0))
   -- a destruction: `doom`, and then the rest
-  destruction : {w : ℕ} {v : Variables} {tr first second : Trace} {got out : Place} → Rows s (Calls (Doom w)) (At (Going v)) first got → Rows s (Doomed w) got second out → tr ≡ first ++ second → Rows s (Destruction w) (At (Going v)) tr out
+  destruction : {w : ℕ} {v : Variables} {tr first second : Trace} {got out : Point} → Rows s (Calls (Doom w)) (At (Going v)) first got → Rows s (Doomed w) got second out → tr ≡ first ++ second → Rows s (Destruction w) (At (Going v)) tr out
   -- a refused `doom` ends it
   doom_refused : {w x : ℕ} {v : Variables} {a : Answer} → is_refusal a ≡ true → Rows s (Doomed w) (At (Given v a x)) [] (ended v a)
   -- else `unmake` again and again
-  doomed : {w x : ℕ} {v : Variables} {a : Answer} {tr : Trace} {out : Place} → is_refusal a ≡ false → Rows s (Unmaking w) (At (Going v)) tr out → Rows s (Doomed w) (At (Given v a x)) tr out
+  doomed : {w x : ℕ} {v : Variables} {a : Answer} {tr : Trace} {out : Point} → is_refusal a ≡ false → Rows s (Unmaking w) (At (Going v)) tr out → Rows s (Doomed w) (At (Given v a x)) tr out
   -- one `unmake`, and what its answer asks for
-  unmaking : {w : ℕ} {v : Variables} {tr first second : Trace} {got out : Place} → Rows s (Calls (Unmake w)) (At (Going v)) first got → Rows s (Unmade w) got second out → tr ≡ first ++ second → Rows s (Unmaking w) (At (Going v)) tr out
+  unmaking : {w : ℕ} {v : Variables} {tr first second : Trace} {got out : Point} → Rows s (Calls (Unmake w)) (At (Going v)) first got → Rows s (Unmade w) got second out → tr ≡ first ++ second → Rows s (Unmaking w) (At (Going v)) tr out
   -- a window is told that it is destroyed, and then the next `unmake`
-  unmade_tell : {w x : ℕ} {told : Hwnd} {v : Variables} {tr first second : Trace} {mid out : Place} → Rows s (Calls (sent told.0 WM_DESTROY)) (At (Going v)) first mid → Rows s (Unmaking w) (on going mid) second out → tr ≡ first ++ second → Rows s (Unmade w) (At (Given v (Tell told) x)) tr out
+  unmade_tell : {w x : ℕ} {told : Hwnd} {v : Variables} {tr first second : Trace} {mid out : Point} → Rows s (Calls (sent told.0 WM_DESTROY)) (At (Going v)) first mid → Rows s (Unmaking w) (on going mid) second out → tr ≡ first ++ second → Rows s (Unmade w) (At (Given v (Tell told) x)) tr out
   -- a window gets its last message and is dropped, and then the next `unmake`
-  unmade_last : {w x : ℕ} {part : Hwnd} {v : Variables} {tr first second third : Trace} {mid after out : Place} → Rows s (Calls (sent part.0 WM_NCDESTROY)) (At (Going v)) first mid → Rows s (Calls (Drop part.0)) (on going mid) second after → Rows s (Unmaking w) (on going after) third out → tr ≡ first ++ (second ++ third) → Rows s (Unmade w) (At (Given v (Last part) x)) tr out
+  unmade_last : {w x : ℕ} {part : Hwnd} {v : Variables} {tr first second third : Trace} {mid after out : Point} → Rows s (Calls (sent part.0 WM_NCDESTROY)) (At (Going v)) first mid → Rows s (Calls (Drop part.0)) (on going mid) second after → Rows s (Unmaking w) (on going after) third out → tr ≡ first ++ (second ++ third) → Rows s (Unmade w) (At (Given v (Last part) x)) tr out
   -- a refused `unmake` ends it
   unmade_refused : {w x : ℕ} {v : Variables} {a : Answer} → is_refusal a ≡ true → Rows s (Unmade w) (At (Given v a x)) [] (ended v a)
   -- with `gone`, and with an answer that isn't one of `unmake`, it ends with 1
@@ -251,25 +252,25 @@ pub data Rows (s : Tree) : Part → Place → Trace → Place → Type 0 where
   -- with an answer that isn't one of `new_window` it ends with 0
   create_none : {x : ℕ} {v : Variables} {a : Answer} → is_made a ≡ false → Rows s Created (At (Given v a x)) [] (ended v (Value 0))
   -- the new window gets WM_NCCREATE
-  created : {x : ℕ} {w : Hwnd} {v : Variables} {tr first second : Trace} {mid out : Place} → Rows s (Calls (sent w.0 WM_NCCREATE)) (At (Going v)) first mid → Rows s (Greeted w.0) mid second out → tr ≡ first ++ second → Rows s Created (At (Given v (WindowMade w) x)) tr out
+  created : {x : ℕ} {w : Hwnd} {v : Variables} {tr first second : Trace} {mid out : Point} → Rows s (Calls (sent w.0 WM_NCCREATE)) (At (Going v)) first mid → Rows s (Greeted w.0) mid second out → tr ≡ first ++ second → Rows s Created (At (Given v (WindowMade w) x)) tr out
   -- where its result is 0, as where it is refused, the window is destroyed
-  greeted_no : {w x : ℕ} {v : Variables} {a : Answer} {tr : Trace} {got out : Place} → x ≡ 0 → Rows s (Destruction w) (At (Going v)) tr got → out ≡ on undone got → Rows s (Greeted w) (At (Given v a x)) tr out
+  greeted_no : {w x : ℕ} {v : Variables} {a : Answer} {tr : Trace} {got out : Point} → x ≡ 0 → Rows s (Destruction w) (At (Going v)) tr got → out ≡ on undone got → Rows s (Greeted w) (At (Given v a x)) tr out
   -- else it gets WM_CREATE
-  greeted : {w x : ℕ} {v : Variables} {a : Answer} {tr first second : Trace} {mid out : Place} → x ≢ 0 → Rows s (Calls (sent w WM_CREATE)) (At (Going v)) first mid → Rows s (Told w) mid second out → tr ≡ first ++ second → Rows s (Greeted w) (At (Given v a x)) tr out
+  greeted : {w x : ℕ} {v : Variables} {a : Answer} {tr first second : Trace} {mid out : Point} → x ≢ 0 → Rows s (Calls (sent w WM_CREATE)) (At (Going v)) first mid → Rows s (Told w) mid second out → tr ≡ first ++ second → Rows s (Greeted w) (At (Given v a x)) tr out
   -- where that is refused the window is destroyed
-  told_refused : {w x : ℕ} {v : Variables} {a : Answer} {tr : Trace} {got out : Place} → is_refusal a ≡ true → Rows s (Destruction w) (At (Going v)) tr got → out ≡ on undone got → Rows s (Told w) (At (Given v a x)) tr out
+  told_refused : {w x : ℕ} {v : Variables} {a : Answer} {tr : Trace} {got out : Point} → is_refusal a ≡ true → Rows s (Destruction w) (At (Going v)) tr got → out ≡ on undone got → Rows s (Told w) (At (Given v a x)) tr out
   -- where its result is minus one too
-  told_no : {w x : ℕ} {v : Variables} {a : Answer} {tr : Trace} {got out : Place} → is_refusal a ≡ false → x ≡ 18446744073709551615 → Rows s (Destruction w) (At (Going v)) tr got → out ≡ on undone got → Rows s (Told w) (At (Given v a x)) tr out
+  told_no : {w x : ℕ} {v : Variables} {a : Answer} {tr : Trace} {got out : Point} → is_refusal a ≡ false → x ≡ 18446744073709551615 → Rows s (Destruction w) (At (Going v)) tr got → out ≡ on undone got → Rows s (Told w) (At (Given v a x)) tr out
   -- else the window is the result
   told : {w x : ℕ} {v : Variables} {a : Answer} → is_refusal a ≡ false → x ≢ 18446744073709551615 → Rows s (Told w) (At (Given v a x)) [] (ended v (Value w))
   -- a thread: its statements from variables of zeros on, and then `end_thread`
-  thread : {t : ℕ} {tr first second : Trace} {mid out : Place} → Rows s (Body (body_of s t)) (At (Going start)) first mid → Rows s (Calls EndThread) (on going mid) second out → tr ≡ first ++ second → Rows s (Thread t) (At (Going start)) tr out
+  thread : {t : ℕ} {tr first second : Trace} {mid out : Point} → Rows s (Body (body_of s t)) (At (Going start)) first mid → Rows s (Calls EndThread) (on going mid) second out → tr ≡ first ++ second → Rows s (Thread t) (At (Going start)) tr out
 
 -- how a trace ends that comes to that place
-abbrev pub end_of : Place → End
+abbrev pub end_of : Point → End
 end_of (At st) = Whole
 end_of (CutBefore call) = Cut call
 
 -- the trace is one of the thread by the rows, whole or cut before a call
 abbrev pub ByRows : Tree → ℕ → Trace → End → Type 0
-ByRows s t tr e = (out : Place) × Rows s (Thread t) (At (Going start)) tr out × (e ≡ end_of out)
+ByRows s t tr e = (out : Point) × Rows s (Thread t) (At (Going start)) tr out × (e ≡ end_of out)

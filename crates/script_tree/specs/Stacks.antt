@@ -8,7 +8,7 @@ use Rattle.user_model.specs.declared.entry.Answer.{Answer}
 use Rattle.user_model.specs.declared.entry.Answer.TheVariants.{Wait, Called, Inside, Begun, Left as LeftOf, Enter, Callback, Done, Ended}
 use Rattle.user_model.specs.Stacks.{leaves, stacked}
 use Rattle.script_tree.specs.Steps.{is_last}
-use Rattle.script_tree.specs.Pieces.{Piece, Lines, One, PassEnd, Making, Again, Giving, Settle, Quiet, Sleeping, Running, Leaving, Leaves, Left, Restore, Feed, Default, Take, State, Going, Returning, Given, Trace}
+use Rattle.script_tree.specs.Pieces.{Piece, Lines, One, PassEnd, Making, Again, Giving, Settle, Quiet, Sleeping, Running, Leaving, Leaves, Left, Restore, Feed, State, Going, Returning, Given, Trace}
 
 -- the stack after a trace that begins with these frames
 abbrev pub stack_after : List Frame → Trace → List Frame
@@ -128,6 +128,7 @@ Suits (PassEnd loop began ∷ ps) Goes = AwaitsNone (frames_in ps) × Suits ps G
 Suits (PassEnd loop began ∷ ps) Returns = Suits ps Returns
 Suits (Making call ∷ ps) k = MakingSuits call k (frames_in ps) (Suits ps Gives)
 Suits (Again call ∷ ps) Returns = AgainSuits call (frames_in ps) (Suits ps Gives)
+Suits (Giving a ∷ ps) Goes = Suits ps Gives
 Suits (Giving a ∷ ps) Returns = Suits ps Gives
 Suits (Settle call ∷ ps) Gives = Suits ps Goes
 Suits (Quiet ∷ ps) Gives = Suits ps Goes
@@ -139,7 +140,4 @@ Suits (Leaves frame x ∷ ps) Goes = IsProcedure frame × Suits ps Gives
 Suits (Left x ∷ ps) Gives = Suits ps Returns
 Suits (Restore p ∷ ps) Returns = Suits ps Returns
 Suits (Feed q ∷ ps) Gives = AwaitsNone (frames_in ps) × Suits ps Gives
-Suits (Default x ∷ ps) Goes = Suits ps Returns
-Suits (Default x ∷ ps) Gives = Suits ps Returns
-Suits (Take ∷ ps) Returns = Suits ps Goes
 Suits (p ∷ ps) k = ⊥

@@ -1,37 +1,42 @@
 -- What each piece of a program does, one line for each.
-use Rattle.std.specs.Prelude.{ℕ, ◌==◌, Bool, true, false, if◌then◌else◌, List, [], ◌∷◌, ◌++◌}
-use Rattle.script_tree.specs.declared.messages.TheConstants.{WM_CLOSE, WM_NCCREATE}
+use Rattle.std.specs.Prelude.{ℕ, ◌==◌, Bool, true, false, if◌then◌else◌, List, [], ◌∷◌, Option, Some, None}
 use Rattle.win_num.specs.declared.send.Frame.{Frame}
 use Rattle.win_num.specs.declared.send.Frame.TheVariants.{Entered, Inside as InsideFrame, Called as CalledFrame, CallbackRun}
 use Rattle.user_model.specs.declared.call.Call.{Call}
 use Rattle.user_model.specs.declared.call.Call.TheVariants.{Dispatch, Send, SendTimeout, SendNotify, SendCallback, Await, Leave, Doom, Clock, SleepUntil, Yield, EndThread}
 use Rattle.user_model.specs.declared.entry.Answer.{Answer}
-use Rattle.user_model.specs.declared.entry.Answer.TheVariants.{Wait, Value, Called, Inside, Begun, Enter, Callback, Done, Refused}
+use Rattle.user_model.specs.declared.entry.Answer.TheVariants.{Okay, Ended, Nothing, Wait, Stuck, Gone, Value, Window as WindowMade, Posted, Called, Inside, Begun, Left as LeftOf, Tell, Last, Advanced, Busy, Enter, Callback, Done, Got, Refused}
 use Rattle.user_model.specs.Stacks.{leaves, waits}
 use Rattle.script_tree.specs.declared.statement.Statement.{Statement, items-the_row-Statement}
 use Rattle.script_tree.specs.declared.statement.Statement.TheVariants.{Let, Compute, If', IfElse', While', Return, Call as CallOf, Sleep, Create, Destroy, Default as DefaultOf}
 use Rattle.script_tree.specs.declared.variables.Parameters.{Parameters}
 use Rattle.script_tree.specs.declared.variables.Variables.{Variables}
 use Rattle.script_tree.specs.declared.frame.Run.{Run}
-use Rattle.script_tree.specs.declared.frame.Compound.TheVariants.{Making as MakingWindow, Dooming}
-use Rattle.script_tree.specs.declared.frame.Next.{Next}
-use Rattle.script_tree.specs.declared.frame.Next.TheVariants.{Calls, Ends}
+use Rattle.script_tree.specs.declared.frame.Begin.{Begin}
+use Rattle.script_tree.specs.declared.frame.Place.TheVariants.{Defaulting}
+use Rattle.script_tree.specs.declared.frame.Lead.{Lead}
+use Rattle.script_tree.specs.declared.frame.Lead.TheVariants.{Calls, Runs, Ends}
 use Rattle.script_tree.specs.Tree.{Tree, procedure_of}
-use Rattle.script_tree.specs.Values.{value_of, computed, holds, assigned, call_of, creation_call, time_after, no_parameters, inside_of, resulting, received, settled}
-use Rattle.script_tree.specs.Compounds.{compound_after}
-use Rattle.script_tree.specs.Pieces.{Piece, Lines, One, PassEnd, Making, Again, Giving, Settle, Quiet, Sleeping, Running, Leaving, Leaves, Left, Restore, Feed, Default, Take, State, Going, Returning, Given, Step, Becomes, Asks}
+use Rattle.script_tree.specs.Values.{value_of, computed, holds, assigned, call_of, creation_call, time_after, no_parameters, inside_of, received, settled}
+use Rattle.script_tree.specs.Compounds.{creation, destruction, default_begin, default_result, compound_after}
+use Rattle.script_tree.specs.Pieces.{Piece, Lines, One, PassEnd, Making, Again, Giving, Settle, Quiet, Sleeping, Running, Leaving, Leaves, Left, Restore, Feed, State, Going, Returning, Given, Step, Becomes, Asks}
 
 -- nothing more: the state goes to the next piece
 abbrev pub passes : State → Step
 passes st = Becomes [] st
 
--- the pieces of the default procedure
-abbrev pub default_pieces : Parameters → List Piece
-default_pieces p = if p.number == WM_CLOSE then Making (Doom p.hwnd) ∷ Feed (Dooming p.hwnd true) ∷ [] else []
+-- a compound begins, and behind its end these pieces are left
+abbrev pub begun_over : Begin → List Piece → List Piece
+begun_over b ps = Making b.call ∷ Feed b.place ∷ ps
 
--- its result
-abbrev pub default_result : Parameters → ℕ
-default_result p = if p.number == WM_NCCREATE then 1 else 0
+-- the pieces of the default procedure with the compound inside of it, if there is one, and that result
+abbrev pub default_over : Option Begin → ℕ → List Piece → List Piece
+default_over (Some b) x ps = begun_over b (Feed (Defaulting x) ∷ ps)
+default_over None x ps = Giving (Value x) ∷ ps
+
+-- the pieces of the default procedure, and those behind its end
+abbrev pub default_pieces : Parameters → List Piece → List Piece
+default_pieces p ps = default_over (default_begin p) (default_result p) ps
 
 -- a call of a statement, which sets r and err
 abbrev pub makes : Call → Variables → Step
@@ -47,18 +52,18 @@ statement (While' t k body) v n = if holds t v then Becomes (Lines (items-the_ro
 statement (Return e) v n = passes (Returning v (value_of e v))
 statement (CallOf ask) v n = makes (call_of ask v) v
 statement (Sleep e) v n = Becomes (Making Clock ∷ Sleeping (value_of e v) ∷ []) (Going v)
-statement (Create c) v n = Becomes (Making (creation_call c v) ∷ Feed MakingWindow ∷ Settle (creation_call c v) ∷ []) (Going v)
-statement (Destroy e) v n = Becomes (Making (Doom (value_of e v)) ∷ Feed (Dooming (value_of e v) true) ∷ Settle (Doom (value_of e v)) ∷ []) (Going v)
-statement DefaultOf v n = Becomes (default_pieces v.parameters ++ Default (default_result v.parameters) ∷ Take ∷ []) (Going v)
+statement (Create c) v n = Becomes (begun_over (creation (creation_call c v)) (Settle (creation_call c v) ∷ [])) (Going v)
+statement (Destroy e) v n = Becomes (begun_over (destruction (value_of e v)) (Settle (Doom (value_of e v)) ∷ [])) (Going v)
+statement DefaultOf v n = Becomes (default_pieces v.parameters (Settle (Doom v.parameters.hwnd) ∷ [])) (Going v)
 
 -- whether the frame is that of a callback procedure
 abbrev pub is_callback : Frame → Bool
 is_callback CallbackRun = true
 is_callback _ = false
 
--- the end of a procedure's statements: a callback gives 0, any other what the default procedure gives
+-- the end of a procedure's statements: a callback gives 0, any other the default procedure's result, whatever that was answered
 abbrev pub leaving : Run → Variables → Step
-leaving run v = if is_callback run.frame then Becomes (Leaves run.frame 0 ∷ Left 0 ∷ []) (Going v) else Becomes (default_pieces run.parameters ++ Default (default_result run.parameters) ∷ Leaving run ∷ []) (Going v)
+leaving run v = if is_callback run.frame then Becomes (Leaves run.frame 0 ∷ Left 0 ∷ []) (Going v) else Becomes (default_pieces run.parameters (Left (default_result run.parameters) ∷ Leaving run ∷ [])) (Going v)
 
 -- what a piece does that gets the variables alone, after so many entries of the thread
 abbrev pub begins : Tree → Piece → Variables → ℕ → Step
@@ -67,11 +72,11 @@ begins s (Lines (line ∷ lines)) v n = Becomes (One line ∷ Lines lines ∷ []
 begins s (One line) v n = statement line v n
 begins s (PassEnd loop began) v n = if n == began then Becomes (Making Yield ∷ Quiet ∷ One loop ∷ []) (Going v) else Becomes (One loop ∷ []) (Going v)
 begins s (Making call) v n = Asks call
+begins s (Giving a) v n = passes (Given v a 0)
 begins s (Running run) v n = Becomes (Lines (procedure_of s run.procedure) ∷ Leaving run ∷ Restore v.parameters ∷ []) (Going (inside_of v run.parameters))
 begins s (Leaving run) v n = leaving run v
 begins s (Leaves frame x) v n = Asks (Leave x)
 begins s (Restore p) v n = passes (Going (inside_of v p))
-begins s (Default x) v n = passes (Returning v x)
 begins s p v n = passes (Going v)
 
 -- what a piece does that gets the value of a `return` or the result of a procedure; a thread that returns comes to its end
@@ -81,12 +86,12 @@ returns_to (Again call) v x = Becomes (Making call ∷ []) (Going v)
 returns_to (Giving a) v x = passes (Given v a x)
 returns_to (Leaving run) v x = Becomes (Leaves run.frame x ∷ Left x ∷ []) (Going v)
 returns_to (Restore p) v x = passes (Returning (inside_of v p) x)
-returns_to Take v x = passes (Going (resulting v x 0))
 returns_to p v x = passes (Returning v x)
 
 -- what a compound does next
-abbrev pub goes_on : Variables → Next → Step
+abbrev pub goes_on : Variables → Lead → Step
 goes_on v (Calls call q) = Becomes (Making call ∷ Feed q ∷ []) (Going v)
+goes_on v (Runs b q) = Becomes (begun_over b (Feed q ∷ [])) (Going v)
 goes_on v (Ends a) = passes (Given v a 0)
 
 -- a `sleep` whose `clock` answered so: a refusal ends it
@@ -101,7 +106,6 @@ takes Quiet v a x = passes (Going v)
 takes (Sleeping ms) v a x = sleeps ms (settled v Clock a x) a x
 takes (Left result) v a x = passes (Returning v result)
 takes (Feed q) v a x = goes_on v (compound_after q a x)
-takes (Default result) v a x = passes (Returning v result)
 takes p v a x = passes (Given v a x)
 
 -- what a piece of that script does
@@ -131,7 +135,26 @@ run_of proc_no p frame = record { procedure = proc_no; parameters = p; frame = f
 abbrev pub result_of : Answer → ℕ
 result_of (Value n) = n
 result_of (Done n cause) = n
-result_of _ = 0
+result_of Okay = 0
+result_of Ended = 0
+result_of Nothing = 0
+result_of Wait = 0
+result_of Stuck = 0
+result_of Gone = 0
+result_of (WindowMade w) = 0
+result_of (Posted number) = 0
+result_of (Called proc_no) = 0
+result_of (Inside s proc_no) = 0
+result_of (Begun s) = 0
+result_of (LeftOf s) = 0
+result_of (Tell w) = 0
+result_of (Last w) = 0
+result_of (Advanced time) = 0
+result_of (Busy thread) = 0
+result_of (Enter s proc_no w number wparam lparam) = 0
+result_of (Callback s proc_no w number extra result) = 0
+result_of (Got origin number msg) = 0
+result_of (Refused code) = 0
 
 -- whether the call is the last of a thread
 abbrev pub is_last : Call → Bool

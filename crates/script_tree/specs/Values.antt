@@ -7,7 +7,7 @@ use Rattle.name_table.specs.Constants.{constant_values}
 use Rattle.user_model.specs.declared.call.Call.{Call}
 use Rattle.user_model.specs.declared.call.Call.TheVariants.{Peek, Get, Post, PostThread, PostQuit, Dispatch, Send, SendTimeout, SendNotify, SendCallback, Reply, InSend, Message as MessageCall, Register, Unregister, NewWindow, NextTop, IsWindow, Parent, Clock, Yield}
 use Rattle.user_model.specs.declared.entry.Answer.{Answer}
-use Rattle.user_model.specs.declared.entry.Answer.TheVariants.{Okay, Nothing, Value, Window as WindowAnswer, Called, Inside, Done, Got, Refused}
+use Rattle.user_model.specs.declared.entry.Answer.TheVariants.{Okay, Ended, Nothing, Wait, Stuck, Gone, Value, Window as WindowAnswer, Posted, Called, Inside, Begun, Left, Tell, Last, Advanced, Busy, Enter, Callback, Done, Got, Refused}
 use Rattle.win_num.specs.declared.send.Cause.{Cause}
 use Rattle.win_num.specs.declared.send.Cause.TheVariants.{Loss, Timeout}
 use Rattle.script_tree.specs.declared.operand.Letter.{Letter}
@@ -212,4 +212,16 @@ settled v call Nothing x = resulting v 0 0
 settled v call (Called proc_no) x = resulting v x 0
 settled v call (Inside s proc_no) x = resulting v (inside_result call x) 0
 settled v call Okay x = resulting v (okay_result call) 0
-settled v call _ x = resulting v 1 0
+settled v call Ended x = resulting v 1 0
+settled v call Wait x = resulting v 1 0
+settled v call Stuck x = resulting v 1 0
+settled v call Gone x = resulting v 1 0
+settled v call (Posted number) x = resulting v 1 0
+settled v call (Begun s) x = resulting v 1 0
+settled v call (Left s) x = resulting v 1 0
+settled v call (Tell w) x = resulting v 1 0
+settled v call (Last w) x = resulting v 1 0
+settled v call (Advanced time) x = resulting v 1 0
+settled v call (Busy thread) x = resulting v 1 0
+settled v call (Enter s proc_no w number p q) x = resulting v 1 0
+settled v call (Callback s proc_no w number extra result) x = resulting v 1 0

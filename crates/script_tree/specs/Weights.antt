@@ -3,7 +3,7 @@ use Rattle.std.specs.Prelude.{ℕ, ◌+◌, ◌==◌, max, List, [], ◌∷◌, 
 use Rattle.script_tree.specs.declared.statement.Statement.{Statement, Row_of-Statement, end_of-Statement, more_of-Statement}
 use Rattle.script_tree.specs.declared.statement.Statement.TheVariants.{If', IfElse', While'}
 use Rattle.script_tree.specs.Tree.{Tree, procedure_of}
-use Rattle.script_tree.specs.Pieces.{Piece, Lines, One, PassEnd, Making, Again, Giving, Settle, Quiet, Sleeping, Running, Leaving, Leaves, Left, Restore, Feed, Default, Take, State, Going, Returning, Given}
+use Rattle.script_tree.specs.Pieces.{Piece, Lines, One, PassEnd, Making, Again, Giving, Settle, Quiet, Sleeping, Running, Leaving, Leaves, Left, Restore, Feed, State, Going, Returning, Given}
 
 abbrev mutual
   -- the weight of a statement
@@ -39,7 +39,7 @@ cost s n (One line) c = cost_of (1 + weight line + max c.going c.returning) (1 +
 cost s n (PassEnd loop began) c = cost_of (if n == began then 1 else 2 + weight loop + max c.going c.returning) (1 + c.returning) (1 + c.given)
 cost s n (Making call) c = cost_of 0 0 (1 + c.given)
 cost s n (Again call) c = cost_of (1 + c.going) 1 (1 + c.given)
-cost s n (Giving a) c = cost_of (1 + c.going) (1 + c.given) (1 + c.given)
+cost s n (Giving a) c = cost_of (1 + c.given) (1 + c.given) (1 + c.given)
 cost s n (Settle call) c = cost_of (1 + c.going) (1 + c.returning) (1 + c.going)
 cost s n Quiet c = cost_of (1 + c.going) (1 + c.returning) (1 + c.going)
 cost s n (Sleeping ms) c = cost_of (1 + c.going) (1 + c.returning) (1 + c.going)
@@ -49,8 +49,6 @@ cost s n (Leaves frame x) c = cost_of 0 (1 + c.returning) (1 + c.given)
 cost s n (Left x) c = cost_of (1 + c.going) (1 + c.returning) (1 + c.returning)
 cost s n (Restore p) c = cost_of (1 + c.going) (1 + c.returning) (1 + c.given)
 cost s n (Feed q) c = cost_of (1 + c.going) (1 + c.returning) (1 + c.given)
-cost s n (Default x) c = cost_of (1 + c.returning) (1 + c.returning) (1 + c.returning)
-cost s n Take c = cost_of (1 + c.going) (1 + c.going) (1 + c.given)
 
 -- the cost of pieces
 abbrev pub costs : Tree → ℕ → List Piece → Cost

@@ -1,29 +1,78 @@
-//! Where compound statements go on.
+//! How compound statements begin, and where they go on.
 
 ghost use Rattle.std.specs.Prelude.{◌≡◌};
-ghost use Rattle.script_tree.specs.Compounds.{sent as sent_of, dooms as dooms_of, unmakes as unmakes_of, ends_with, compound_after, after_making as making_leads, after_greeting as greeting_leads, after_telling as telling_leads, after_dooming as dooming_leads, after_unmaking as unmaking_leads};
+ghost use Rattle.script_tree.specs.Compounds.{sent as sent_of, creation as creation_of, destruction as destruction_of, default_begin, default_result as default_of, undoes as undoes_of, unmakes as unmakes_of, compound_after, after_making as making_leads, after_greeting as greeting_leads, after_telling as telling_leads, after_dooming as dooming_leads, after_unmaking as unmaking_leads, after_default as default_leads};
 
-use crate::frame::{Compound, Next};
-use crate::messages::{WM_CREATE, WM_DESTROY, WM_NCCREATE, WM_NCDESTROY};
+use crate::frame::{Begin, Lead, Place};
+use crate::messages::{WM_CLOSE, WM_CREATE, WM_DESTROY, WM_NCCREATE, WM_NCDESTROY};
+use crate::variables::Parameters;
 use user_model::{Answer, Call};
 use win_num::Hwnd;
 
-impl Compound {
-    /// What it does after its call was answered so, with this result of the procedure that ran for it.
-    pub fn after(self, answer: &Answer, value: u64) -> Next
+impl Begin {
+    /// `create`, with the call that makes the window.
+    pub fn creation(call: Call) -> Begin
+        ensures { result ≡ creation_of call }
+    {
+        Begin {
+            call,
+            place: Place::Making,
+        }
+    }
+
+    /// `destroy` of the window of this number.
+    pub fn destruction(window: u64) -> Begin
+        ensures { result ≡ destruction_of window }
+    {
+        Begin {
+            call: Call::Doom(window),
+            place: Place::Dooming(window),
+        }
+    }
+}
+
+impl Parameters {
+    /// The compound inside of the default procedure for this message, if there is one: it destroys a window
+    /// that is to close (Microsoft, WM_CLOSE message).
+    pub fn default_begin(&self) -> Option<Begin>
+        ensures { result ≡ default_begin self.now }
+    {
+        if self.number == u64::from(WM_CLOSE) {
+            Some(Begin::destruction(self.hwnd))
+        } else {
+            None
+        }
+    }
+
+    /// The result of the default procedure for this message (Microsoft, WM_NCCREATE message).
+    pub fn default_result(&self) -> u64
+        ensures { result ≡ default_of self.now }
+    {
+        if self.number == u64::from(WM_NCCREATE) {
+            1
+        } else {
+            0
+        }
+    }
+}
+
+impl Place {
+    /// What the compound does after its call, or the compound inside of it, was answered so, with this
+    /// result of the procedure that ran for it.
+    pub fn after(self, answer: &Answer, value: u64) -> Lead
         ensures { result ≡ compound_after self answer.now value }
     {
         match self {
-            Compound::Making => after_making(answer),
-            Compound::Greeting(window) => after_greeting(window, value),
-            Compound::Telling(window) => after_telling(window, answer, value),
-            Compound::Dooming(window, alone) => after_dooming(window, alone, answer),
-            Compound::Unmaking(window, alone) => after_unmaking(window, alone, answer),
-            Compound::Destroying(window, alone) => unmakes(window, alone),
-            Compound::Parting(window, part, alone) => {
-                Next::Calls(Call::Drop(part), Compound::Dropping(window, alone))
-            }
-            Compound::Dropping(window, alone) => unmakes(window, alone),
+            Place::Making => after_making(answer),
+            Place::Greeting(window) => after_greeting(window, value),
+            Place::Telling(window) => after_telling(window, answer, value),
+            Place::Undoing => Lead::Ends(Answer::Value(0)),
+            Place::Dooming(window) => after_dooming(window, answer),
+            Place::Unmaking(window) => after_unmaking(window, answer),
+            Place::Destroying(window) => unmakes(window),
+            Place::Parting(window, part) => Lead::Calls(Call::Drop(part), Place::Dropping(window)),
+            Place::Dropping(window) => unmakes(window),
+            Place::Defaulting(result) => after_default(result, answer),
         }
     }
 }
@@ -34,91 +83,95 @@ fn sent(window: u64, number: u32) -> Call
     Call::Send(window, u64::from(number), 0, 0)
 }
 
-fn dooms(window: u64, alone: bool) -> Next
-    ensures { result ≡ dooms_of window alone }
+/// The new window is destroyed.
+fn undoes(window: u64) -> Lead
+    ensures { result ≡ undoes_of window }
 {
-    Next::Calls(Call::Doom(window), Compound::Dooming(window, alone))
+    Lead::Runs(Begin::destruction(window), Place::Undoing)
 }
 
-fn unmakes(window: u64, alone: bool) -> Next
-    ensures { result ≡ unmakes_of window alone }
+/// The next step of a destruction.
+fn unmakes(window: u64) -> Lead
+    ensures { result ≡ unmakes_of window }
 {
-    Next::Calls(Call::Unmake(window), Compound::Unmaking(window, alone))
+    Lead::Calls(Call::Unmake(window), Place::Unmaking(window))
 }
 
-fn ends(alone: bool, answer: Answer) -> Next
-    ensures { result ≡ ends_with alone answer }
-{
-    if alone {
-        Next::Ends(answer)
-    } else {
-        Next::Ends(Answer::Value(0))
-    }
-}
-
-fn after_making(answer: &Answer) -> Next
+/// Whether a window was made.
+fn after_making(answer: &Answer) -> Lead
     ensures { result ≡ making_leads answer.now }
 {
     match answer {
         Answer::Window(Hwnd(window)) => {
             let window = u64::from(*window);
-            Next::Calls(sent(window, WM_NCCREATE), Compound::Greeting(window))
+            Lead::Calls(sent(window, WM_NCCREATE), Place::Greeting(window))
         }
-        Answer::Refused(code) => Next::Ends(Answer::Refused(*code)),
-        _ => Next::Ends(Answer::Value(0)),
+        Answer::Refused(code) => Lead::Ends(Answer::Refused(*code)),
+        _ => Lead::Ends(Answer::Value(0)),
     }
 }
 
-fn after_greeting(window: u64, value: u64) -> Next
+/// Whether the new window may be.
+fn after_greeting(window: u64, value: u64) -> Lead
     ensures { result ≡ greeting_leads window value }
 {
     if value == 0 {
-        dooms(window, false)
+        undoes(window)
     } else {
-        Next::Calls(sent(window, WM_CREATE), Compound::Telling(window))
+        Lead::Calls(sent(window, WM_CREATE), Place::Telling(window))
     }
 }
 
-fn after_telling(window: u64, answer: &Answer, value: u64) -> Next
+/// Whether the new window stays.
+fn after_telling(window: u64, answer: &Answer, value: u64) -> Lead
     ensures { result ≡ telling_leads window answer.now value }
 {
     match answer {
-        Answer::Refused(_) => dooms(window, false),
+        Answer::Refused(_) => undoes(window),
         _ => {
             if value == 18446744073709551615 {
-                dooms(window, false)
+                undoes(window)
             } else {
-                Next::Ends(Answer::Value(window))
+                Lead::Ends(Answer::Value(window))
             }
         }
     }
 }
 
-fn after_dooming(window: u64, alone: bool, answer: &Answer) -> Next
-    ensures { result ≡ dooming_leads window alone answer.now }
+/// Whether the windows are marked.
+fn after_dooming(window: u64, answer: &Answer) -> Lead
+    ensures { result ≡ dooming_leads window answer.now }
 {
     match answer {
-        Answer::Refused(code) => ends(alone, Answer::Refused(*code)),
-        _ => unmakes(window, alone),
+        Answer::Refused(code) => Lead::Ends(Answer::Refused(*code)),
+        _ => unmakes(window),
     }
 }
 
-fn after_unmaking(window: u64, alone: bool, answer: &Answer) -> Next
-    ensures { result ≡ unmaking_leads window alone answer.now }
+/// The step that comes.
+fn after_unmaking(window: u64, answer: &Answer) -> Lead
+    ensures { result ≡ unmaking_leads window answer.now }
 {
     match answer {
-        Answer::Tell(told) => Next::Calls(
+        Answer::Tell(told) => Lead::Calls(
             sent(u64::from(told.0), WM_DESTROY),
-            Compound::Destroying(window, alone),
+            Place::Destroying(window),
         ),
         Answer::Last(part) => {
             let part = u64::from(part.0);
-            Next::Calls(
-                sent(part, WM_NCDESTROY),
-                Compound::Parting(window, part, alone),
-            )
+            Lead::Calls(sent(part, WM_NCDESTROY), Place::Parting(window, part))
         }
-        Answer::Refused(code) => ends(alone, Answer::Refused(*code)),
-        _ => ends(alone, Answer::Value(1)),
+        Answer::Refused(code) => Lead::Ends(Answer::Refused(*code)),
+        _ => Lead::Ends(Answer::Value(1)),
+    }
+}
+
+/// The default procedure's result, or the refusal of the compound inside of it.
+fn after_default(value: u64, answer: &Answer) -> Lead
+    ensures { result ≡ default_leads value answer.now }
+{
+    match answer {
+        Answer::Refused(refusal) => Lead::Ends(Answer::Refused(*refusal)),
+        _ => Lead::Ends(Answer::Value(value)),
     }
 }

@@ -14,32 +14,47 @@ pub struct Run {
     pub frame: Frame,
 }
 
-/// A compound statement at the place of one of its calls. Its windows are named by their numbers.
+/// Where a compound statement stands: behind one of its calls, or behind the end of a compound inside of
+/// it. Windows are named by their numbers.
 #[derive(Clone, Copy)]
-pub enum Compound {
+pub enum Place {
     /// `create`: the window is being made.
     Making,
     /// `create`: the window is told that it is being made (Microsoft, WM_NCCREATE message).
     Greeting(u64),
     /// `create`: the window is told that it was made (Microsoft, WM_CREATE message).
     Telling(u64),
-    /// `destroy`, which is a statement's own or part of `create`: the window is being marked.
-    Dooming(u64, bool),
+    /// `create`: the new window is destroyed by a compound inside of it.
+    Undoing,
+    /// `destroy`: the window and all that goes with it are being marked.
+    Dooming(u64),
     /// `destroy`: its next step is asked for.
-    Unmaking(u64, bool),
+    Unmaking(u64),
     /// `destroy`: a window is told that it is destroyed (Microsoft, WM_DESTROY message).
-    Destroying(u64, bool),
+    Destroying(u64),
     /// `destroy`: the second window gets its last message (Microsoft, WM_NCDESTROY message).
-    Parting(u64, u64, bool),
+    Parting(u64, u64),
     /// `destroy`: a window is taken away.
-    Dropping(u64, bool),
+    Dropping(u64),
+    /// The default procedure, which has this result where nothing is refused: the compound inside of it
+    /// runs (Microsoft, DefWindowProc function).
+    Defaulting(u64),
+}
+
+/// How a compound begins: its first call, and its place behind it.
+#[derive(Clone, Copy)]
+pub struct Begin {
+    pub call: Call,
+    pub place: Place,
 }
 
 /// What a compound does next.
 #[derive(Clone, Copy)]
-pub enum Next {
+pub enum Lead {
     /// It makes this call, and is then at this place.
-    Calls(Call, Compound),
-    /// It ends; this sets `r` and `err`.
+    Calls(Call, Place),
+    /// Another compound begins inside of it; at the end of that it is at this place.
+    Runs(Begin, Place),
+    /// It ends; this sets `r` and `err`, or goes to the place of the compound around it.
     Ends(Answer),
 }

@@ -2,6 +2,7 @@
 //! traces of a thread's program.
 #![tactic(auto)]
 
+mod answers;
 mod compound;
 mod frame;
 mod laws;
@@ -12,8 +13,12 @@ mod statement;
 mod values;
 mod variables;
 
-pub use frame::{Compound, Next, Run};
-pub use laws::{calls_come_in_turn, calls_fit_the_stack, ends_once, one_next_call, traces_agree};
+pub use answers::result_of;
+pub use frame::{Begin, Lead, Place, Run};
+pub use laws::{
+    calls_come_in_turn, calls_fit_the_stack, ends_once, one_next_call, rows_are_the_table,
+    traces_agree,
+};
 pub use operand::{Comparison, Letter, Operand, Operator, Test, Variable};
 pub use script::{Body, Name, Procedure, Script};
 pub use statement::{CallStatement, Creation, Statement};

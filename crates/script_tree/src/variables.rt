@@ -165,7 +165,11 @@ impl Variables {
             Answer::Called(_) => (value, 0),
             Answer::Inside(_, _) => (inside(call, value), 0),
             Answer::Okay => (okay(call), 0),
-            _ => (1, 0),
+            Answer::Ended | Answer::Wait | Answer::Stuck | Answer::Gone => (1, 0),
+            Answer::Posted(_) | Answer::Begun(_) | Answer::Left(_) => (1, 0),
+            Answer::Tell(_) | Answer::Last(_) => (1, 0),
+            Answer::Advanced(_) | Answer::Busy(_) => (1, 0),
+            Answer::Enter { .. } | Answer::Callback { .. } => (1, 0),
         };
         self.last_result = last_result;
         self.last_error = last_error;

@@ -51,6 +51,13 @@ const SENDS: &[u8] =
 const SENDS_LOG: &[u8] =
     b"log 1\n1 register box echo 0 = value 1\n2 get 0 0 0 = wait\n1 new_window box first 0 0 0 0 0 1 1 = window 16\n1 send 16 WM_NCCREATE 0 0 = inside 1 echo\n1 leave 1 = left 1\n1 send 16 WM_CREATE 0 0 = inside 2 echo\n1 leave 0 = left 2\n1 post_thread 2 WM_USER 16 0 = posted 1\n2 get 0 0 0 = got posted 1 0 WM_USER 16 0 0 0 0\n1 get 0 0 0 = wait\n2 send 16 WM_USER 5 0 = begun 3\n1 get 0 0 0 = enter 3 echo 16 WM_USER 5 0\n2 await 3 = wait\n1 leave 5 = left 3\n2 await 3 = done 5 proc\n1 get 0 0 0 = wait\n2 post_thread 1 WM_QUIT 5 0 = posted 2\n1 get 0 0 0 = got posted 2 0 WM_QUIT 5 0 0 0 0\n2 end_thread = ended\n1 end_thread = ended\nend done\nsends begun 3 entered 3 proc 3 reply 0 loss 0 timeout 0 open 0\n";
 
+/// A procedure that destroys its window and then closes it by default: the window is gone.
+const CLOSES: &[u8] =
+    b"user 1\nscreen 8 4\nbudget 100\norder\nproc closer\nif msg = WM_CLOSE\ndestroy hwnd\ndefault\npost_thread 1 WM_USER r err\nend\nend\nthread\nregister box closer 0\ncreate box first 0 0 0 0 0 1 1\nsend r WM_CLOSE 0 0\nend\n";
+
+const CLOSES_LOG: &[u8] =
+    b"log 1\n1 register box closer 0 = value 1\n1 new_window box first 0 0 0 0 0 1 1 = window 16\n1 send 16 WM_NCCREATE 0 0 = inside 1 closer\n1 leave 1 = left 1\n1 send 16 WM_CREATE 0 0 = inside 2 closer\n1 leave 0 = left 2\n1 send 16 WM_CLOSE 0 0 = inside 3 closer\n1 doom 16 = ok\n1 unmake 16 = tell 16\n1 send 16 WM_DESTROY 0 0 = inside 4 closer\n1 leave 0 = left 4\n1 unmake 16 = last 16\n1 send 16 WM_NCDESTROY 0 0 = inside 5 closer\n1 leave 0 = left 5\n1 drop 16 = ok\n1 unmake 16 = gone\n1 doom 16 = refused 1400\n1 post_thread 1 WM_USER 0 1400 = posted 1\n1 doom 16 = refused 1400\n1 leave 0 = left 3\n1 end_thread = ended\nend done\nsends begun 5 entered 5 proc 5 reply 0 loss 0 timeout 0 open 0\n";
+
 /// A loop without calls.
 const LOOPS: &[u8] = b"user 1\nscreen 8 4\nbudget 3\norder\nthread\nwhile 1 = 1\nend\nend\n";
 
@@ -89,13 +96,14 @@ fn call(
 #[test]
 fn runs(rt: HostRuntime) -> Result<(), Fail> {
     let alloc: Global = rt.alloc();
-    let cases: [(&[u8], &[u8], Status, u8); 8] = [
+    let cases: [(&[u8], &[u8], Status, u8); 9] = [
         (ONE_END, ONE_END_LOG, Status::Done, 0),
         (POSTS, POSTS_LOG, Status::Done, 0),
         (WAITS, WAITS_LOG, Status::Stuck, 4),
         (REFUSALS, REFUSALS_LOG, Status::Done, 0),
         (ORDERED, ORDERED_LOG, Status::Done, 0),
         (SENDS, SENDS_LOG, Status::Done, 0),
+        (CLOSES, CLOSES_LOG, Status::Done, 0),
         (LOOPS, LOOPS_LOG, Status::Spent, 5),
         (b"user 1\n", b"refused 0 later\n", Status::Script, 3),
     ];

@@ -5,24 +5,24 @@ use Rattle.user_model.specs.declared.call.Call.{Call}
 use Rattle.user_model.specs.declared.call.Call.TheVariants.{Doom, Await, Tick, Advance}
 use Rattle.user_model.specs.declared.entry.Answer.{Answer}
 use Rattle.user_model.specs.declared.entry.Answer.TheVariants.{Wait, Enter, Callback, Begun, Tell, Last, Window, Refused}
-use Rattle.script_tree.specs.declared.messages.TheConstants.{WM_CLOSE}
 use Rattle.script_tree.specs.declared.statement.CallStatement.{CallStatement}
 use Rattle.script_tree.specs.declared.statement.CallStatement.TheVariants.{Yield}
 use Rattle.script_tree.specs.declared.statement.Statement.{Statement}
 use Rattle.script_tree.specs.declared.statement.Statement.TheVariants.{Let, Compute, If', IfElse', While', Return, Call as CallOf, Sleep, Create, Destroy, Default as DefaultOf}
 use Rattle.script_tree.specs.declared.frame.Run.{Run}
-use Rattle.script_tree.specs.declared.frame.Compound.{Compound}
-use Rattle.script_tree.specs.declared.frame.Compound.TheVariants.{Making as MakingWindow, Greeting, Telling, Dooming, Unmaking, Destroying, Parting, Dropping}
-use Rattle.script_tree.specs.declared.frame.Next.{Next}
-use Rattle.script_tree.specs.declared.frame.Next.TheVariants.{Calls, Ends}
+use Rattle.script_tree.specs.declared.frame.Place.{Place}
+use Rattle.script_tree.specs.declared.frame.Place.TheVariants.{Making as MakingWindow, Greeting, Telling, Undoing, Dooming, Unmaking, Destroying, Parting, Dropping, Defaulting}
+use Rattle.script_tree.specs.declared.frame.Lead.{Lead}
+use Rattle.script_tree.specs.declared.frame.Lead.TheVariants.{Calls, Runs, Ends}
 use Rattle.script_tree.specs.declared.variables.Variables.{Variables}
 use Rattle.user_model.specs.Stacks.{leaves, waits}
 use Rattle.script_tree.specs.Tree.{Tree}
 use Rattle.script_tree.specs.Values.{holds, call_of}
-use Rattle.script_tree.specs.Compounds.{compound_after, after_making, after_telling, after_dooming, after_unmaking}
-use Rattle.script_tree.specs.Pieces.{Piece, Lines, One, PassEnd, Making, Again, Giving, Sleeping, Running, Leaving, Leaves, Feed, Default, Take, State, Going, Returning, Given, Step, Becomes, Asks, Trace, End, Cut}
+use Rattle.script_tree.specs.Compounds.{default_result, compound_after, after_making, after_telling, after_dooming, after_unmaking, after_default}
+use Rattle.script_tree.specs.Pieces.{Piece, Lines, One, PassEnd, Making, Again, Giving, Settle, Sleeping, Running, Leaving, Leaves, Left, Feed, State, Going, Returning, Given, Step, Becomes, Asks, Trace, End, Cut}
 use Rattle.script_tree.specs.Steps.{step, statement, begins, returns_to, takes, goes_on, sleeps, is_callback, is_last, following, follows}
 use Rattle.script_tree.specs.Traces.{Makes, over, silent, entry, cut, IsTrace}
+use Rattle.script_tree.proofs.Defaults.{default_either}
 
 -- a call of the clock
 abbrev pub is_of_clock : Call → Bool
@@ -42,43 +42,50 @@ abbrev FreeStep : List Piece → Step → Type 0
 FreeStep left (Becomes ps st) = Free (ps ++ left)
 FreeStep left (Asks call) = (is_of_clock call ≡ false) × Free left
 
-abbrev FreeNext : Next → Type 0
-FreeNext (Calls call q) = is_of_clock call ≡ false
-FreeNext (Ends a) = Unit {0}
+abbrev FreeLead : Lead → Type 0
+FreeLead (Calls call q) = is_of_clock call ≡ false
+FreeLead (Runs b q) = is_of_clock b.call ≡ false
+FreeLead (Ends a) = Unit {0}
 
 -- ---- compounds and statements
 
-one_of : (b : Bool) (x y : Next) → FreeNext x → FreeNext y → FreeNext (if b then x else y)
+one_of : (b : Bool) (x y : Lead) → FreeLead x → FreeLead y → FreeLead (if b then x else y)
 one_of true x y f g = f
 one_of false x y f g = g
 
-free_making : (a : Answer) → FreeNext (after_making a)
+free_making : (a : Answer) → FreeLead (after_making a)
 free_making (Window w) = refl
 free_making a = tt
 
-free_telling : (w : ℕ) (a : Answer) (x : ℕ) → FreeNext (after_telling w a x)
+free_telling : (w : ℕ) (a : Answer) (x : ℕ) → FreeLead (after_telling w a x)
 free_telling w (Refused code) x = refl
 free_telling w a x = one_of (x == 18446744073709551615) _ _ refl tt
 
-free_dooming : (w : ℕ) (alone : Bool) (a : Answer) → FreeNext (after_dooming w alone a)
-free_dooming w alone (Refused code) = one_of alone _ _ tt tt
-free_dooming w alone a = refl
+free_dooming : (w : ℕ) (a : Answer) → FreeLead (after_dooming w a)
+free_dooming w (Refused code) = tt
+free_dooming w a = refl
 
-free_unmaking : (w : ℕ) (alone : Bool) (a : Answer) → FreeNext (after_unmaking w alone a)
-free_unmaking w alone (Tell v) = refl
-free_unmaking w alone (Last v) = refl
-free_unmaking w alone (Refused code) = one_of alone _ _ tt tt
-free_unmaking w alone a = one_of alone _ _ tt tt
+free_unmaking : (w : ℕ) (a : Answer) → FreeLead (after_unmaking w a)
+free_unmaking w (Tell v) = refl
+free_unmaking w (Last v) = refl
+free_unmaking w (Refused code) = tt
+free_unmaking w a = tt
 
-free_compound : (q : Compound) (a : Answer) (x : ℕ) → FreeNext (compound_after q a x)
+free_default : (x : ℕ) (a : Answer) → FreeLead (after_default x a)
+free_default x (Refused code) = tt
+free_default x a = tt
+
+free_compound : (q : Place) (a : Answer) (x : ℕ) → FreeLead (compound_after q a x)
 free_compound MakingWindow a x = free_making a
 free_compound (Greeting w) a x = one_of (x == 0) _ _ refl refl
 free_compound (Telling w) a x = free_telling w a x
-free_compound (Dooming w alone) a x = free_dooming w alone a
-free_compound (Unmaking w alone) a x = free_unmaking w alone a
-free_compound (Destroying w alone) a x = refl
-free_compound (Parting w v alone) a x = refl
-free_compound (Dropping w alone) a x = refl
+free_compound Undoing a x = tt
+free_compound (Dooming w) a x = free_dooming w a
+free_compound (Unmaking w) a x = free_unmaking w a
+free_compound (Destroying w) a x = refl
+free_compound (Parting w v) a x = refl
+free_compound (Dropping w) a x = refl
+free_compound (Defaulting y) a x = free_default y a
 
 free_call : (ask : CallStatement) (v : Variables) → is_of_clock (call_of ask v) ≡ false
 free_call Yield v = refl
@@ -91,19 +98,11 @@ module _ (s : Tree) (n : ℕ) (left : List Piece) (h : Free left) where
   either true x y f g = f
   either false x y f g = g
 
-  free_default : (b : Bool) (w : ℕ) (q : Compound) (x : ℕ) (st : State) → FreeStep left (Becomes ((if b then Making (Doom w) ∷ Feed q ∷ [] else []) ++ Default x ∷ Take ∷ []) st)
-  free_default true w q x st = (refl, h)
-  free_default false w q x st = h
-
-  free_leaving : (b : Bool) (w : ℕ) (q : Compound) (x : ℕ) (run : Run) (st : State) → FreeStep left (Becomes ((if b then Making (Doom w) ∷ Feed q ∷ [] else []) ++ Default x ∷ Leaving run ∷ []) st)
-  free_leaving true w q x run st = (refl, h)
-  free_leaving false w q x run st = h
-
   free_statement : (line : Statement) (v : Variables) → FreeStep left (statement line v n)
   free_statement (If' t k a) v = either (holds t v) _ _ h h
   free_statement (While' t k a) v = either (holds t v) _ _ h h
   free_statement (CallOf ask) v = (free_call ask v, h)
-  free_statement DefaultOf v = free_default (v.parameters.number == WM_CLOSE) _ _ _ (Going v)
+  free_statement DefaultOf v = default_either (λ qs. FreeStep left (Becomes qs (Going v))) v.parameters (Settle (Doom v.parameters.hwnd) ∷ []) (λ e. (refl, h)) (λ e. h)
   free_statement (Let x e) v = h
   free_statement (Compute x e op f) v = h
   free_statement (IfElse' t k a j b) v = h
@@ -112,9 +111,10 @@ module _ (s : Tree) (n : ℕ) (left : List Piece) (h : Free left) where
   free_statement (Create c) v = (refl, h)
   free_statement (Destroy e) v = (refl, h)
 
-  free_next : (v : Variables) (next : Next) → FreeNext next → FreeStep left (goes_on v next)
-  free_next v (Calls call q) f = (f, h)
-  free_next v (Ends a) f = h
+  free_lead : (v : Variables) (next : Lead) → FreeLead next → FreeStep left (goes_on v next)
+  free_lead v (Calls call q) f = (f, h)
+  free_lead v (Runs b q) f = (f, h)
+  free_lead v (Ends a) f = h
 
   free_sleep : (ms : ℕ) (v : Variables) (a : Answer) (x : ℕ) → FreeStep left (sleeps ms v a x)
   free_sleep ms v (Refused code) x = h
@@ -127,7 +127,7 @@ module _ (s : Tree) (n : ℕ) (left : List Piece) (h : Free left) where
   free_begins (PassEnd loop began) v k = either (n == began) _ _ (refl, h) h
   free_begins (Making call) v k = k
   free_begins (Running run) v k = h
-  free_begins (Leaving run) v k = either (is_callback run.frame) _ _ h (free_leaving (run.parameters.number == WM_CLOSE) _ _ _ run (Going v))
+  free_begins (Leaving run) v k = either (is_callback run.frame) _ _ h (default_either (λ qs. FreeStep left (Becomes qs (Going v))) run.parameters (Left (default_result run.parameters) ∷ Leaving run ∷ []) (λ e. (refl, h)) (λ e. h))
   free_begins (Leaves frame x) v k = (refl, h)
   free_begins p v k = h
 
@@ -138,7 +138,7 @@ module _ (s : Tree) (n : ℕ) (left : List Piece) (h : Free left) where
 
   free_takes : (p : Piece) (v : Variables) (a : Answer) (x : ℕ) → FreeStep left (takes p v a x)
   free_takes (Sleeping ms) v a x = free_sleep ms _ a x
-  free_takes (Feed q) v a x = free_next v (compound_after q a x) (free_compound q a x)
+  free_takes (Feed q) v a x = free_lead v (compound_after q a x) (free_compound q a x)
   free_takes p v a x = h
 
   free_step : (p : Piece) (st : State) → Free (p ∷ left) → FreeStep left (step s p st n)

@@ -1,75 +1,114 @@
 -- Where the table leads from the pieces that a stage stands for.
-use Rattle.std.proofs.Common.{◌≡◌, ℕ, Bool, true, false, List, [], ◌∷◌, ◌++◌, Option, Some, None, refl, sym, ap, ◌∙◌, subst, lit<}
-use Rattle.std.specs.Prelude.{if◌then◌else◌, ◌==◌, ℤ}
+use Rattle.std.proofs.Common.{◌≡◌, ℕ, Bool, true, false, List, [], ◌∷◌, ◌++◌, Option, Some, None, refl, sym, ap, ◌∙◌, subst, lit<, arith}
+use Rattle.std.specs.Prelude.{if◌then◌else◌, ◌==◌}
 use Rattle.win_num.specs.declared.message.Hwnd.{Hwnd}
 use Rattle.win_num.specs.declared.send.SendId.{SendId}
 use Rattle.win_num.specs.declared.send.Frame.TheVariants.{Entered, Inside as InsideFrame, Called as CalledFrame, CallbackRun}
 use Rattle.user_model.specs.Stacks.{waits, leaves}
 use Rattle.user_model.specs.declared.call.Call.{Call}
-use Rattle.user_model.specs.declared.call.Call.TheVariants.{Leave, Await, Doom}
+use Rattle.user_model.specs.declared.call.Call.TheVariants.{Leave, Await}
 use Rattle.user_model.specs.declared.entry.Answer.{Answer}
-use Rattle.user_model.specs.declared.entry.Answer.TheVariants.{Wait, Window, Tell, Last, Enter, Callback, Inside, Called, Begun, Refused}
+use Rattle.user_model.specs.declared.entry.Answer.TheVariants.{Wait, Window, Tell, Last, Enter, Callback, Inside, Called, Begun, Refused, Value}
+use Rattle.script_tree.specs.declared.frame.Begin.{Begin}
 use Rattle.script_tree.specs.declared.frame.Run.{Run}
-use Rattle.script_tree.specs.declared.frame.Compound.{Compound as Place}
-use Rattle.script_tree.specs.declared.frame.Compound.TheVariants.{Making as MakingWindow, Greeting, Telling, Dooming, Unmaking, Destroying, Parting, Dropping}
-use Rattle.script_tree.specs.declared.frame.Next.{Next as Lead}
-use Rattle.script_tree.specs.declared.frame.Next.TheVariants.{Calls, Ends}
+use Rattle.script_tree.specs.declared.frame.Place.{Place}
+use Rattle.script_tree.specs.declared.frame.Place.TheVariants.{Making as MakingWindow, Greeting, Telling, Undoing, Dooming, Unmaking, Destroying, Parting, Dropping, Defaulting}
+use Rattle.script_tree.specs.declared.frame.Lead.{Lead}
+use Rattle.script_tree.specs.declared.frame.Lead.TheVariants.{Calls, Runs, Ends}
 use Rattle.script_tree.specs.declared.variables.Parameters.{Parameters}
 use Rattle.script_tree.specs.declared.variables.Variables.{Variables}
-use Rattle.script_tree.specs.Compounds.{compound_after}
+use Rattle.script_tree.specs.Compounds.{destruction, default_begin, default_result, compound_after}
 use Rattle.script_tree.specs.Values.{settled, received, inside_of}
 use Rattle.script_tree.specs.Tree.{Tree}
-use Rattle.script_tree.specs.Pieces.{Piece, Making, Again, Giving, Settle, Running, Leaving, Leaves, Left, Restore, Feed, Default, Take, State, Going, Returning, Given, Becomes}
-use Rattle.script_tree.specs.Steps.{step, follows, following, answered, after_answer, given, result_of, is_last, goes_on, run_of, parameters_from, parameters_of}
+use Rattle.script_tree.specs.Pieces.{Piece, Making, Again, Giving, Settle, Running, Leaving, Leaves, Left, Restore, Feed, State, Going, Returning, Given, Becomes}
+use Rattle.script_tree.specs.Steps.{step, follows, following, answered, after_answer, given, result_of, is_last, goes_on, begun_over, default_over, default_pieces, run_of, parameters_from, parameters_of}
 use Rattle.win_calls.specs.declared.compound.Compound.{Compound}
 use Rattle.win_calls.specs.declared.compound.Compound.TheVariants.{Create, Destroy, Default as DefaultOf}
-use Rattle.script_tree.specs.declared.messages.TheConstants.{WM_CLOSE, WM_NCCREATE}
+use Rattle.script_tree.specs.declared.messages.TheConstants.{WM_CLOSE}
 use Rattle.win_calls.specs.declared.compound.Got.{Got}
 use Rattle.win_calls.specs.declared.compound.Got.TheVariants.{Start, Answered, Returned}
 use Rattle.win_calls.specs.declared.compound.Next.{Next}
 use Rattle.win_calls.specs.declared.compound.Next.TheVariants.{Make, Run as RunOf, Done}
-use Rattle.win_calls.specs.declared.stage.Ending.TheVariants.{Settles, Gives}
+use Rattle.win_calls.specs.declared.stage.Around.{Around}
+use Rattle.win_calls.specs.declared.stage.Around.TheVariants.{Nobody, One, Two}
 use Rattle.win_calls.specs.declared.stage.Turn.{Turn}
 use Rattle.win_calls.specs.declared.stage.Then.{Then}
 use Rattle.win_calls.specs.declared.stage.Then.TheVariants.{Again as AgainThen, Giving as GivingThen}
 use Rattle.win_calls.specs.declared.stage.Stage.{Stage}
 use Rattle.win_calls.specs.declared.stage.Stage.TheVariants.{Asked, Running as RunningStage, Leaving as LeavingStage, Over}
 use Rattle.win_calls.specs.declared.stage.Step.{Step}
-use Rattle.win_calls.specs.Table.{silent, calls, runs, over, IsNoRun, runs_first, asked_of, begun, begun_with, first_call}
-use Rattle.win_calls.specs.States.{Suits, IsTurn, IsSentTo, IsPlaceOf, EntersNot, Awaits, Accepts, IsRun, told, end_pieces, behind, then_piece, then_of, Hands, first, more, Below, is_first, is_later, is_asked, is_running, is_leaving, is_over, Leads}
+use Rattle.win_calls.specs.Table.{silent, calls, runs, over, IsNoRun, runs_first, asked_of, begun, first_call}
+use Rattle.win_calls.specs.States.{Suits, IsTurn, IsSentTo, IsPlaceOf, IsOuter, IsInside, within, first_turn, EntersNot, Awaits, Accepts, IsRun, told, around_pieces, behind, then_piece, then_of, Hands, first, more, Below, is_first, is_later, is_asked, is_running, is_leaving, is_over, Leads}
+
+-- one compound more may be around
+abbrev pub HasRoom : Around → Type 0
+HasRoom Nobody = Unit {0}
+HasRoom (One a) = Unit {0}
+HasRoom (Two a b) = ⊥
 
 -- what a turn needs of the next call and its place
-abbrev pub LeadSuits : Hwnd → Lead → Type 0
-LeadSuits window (Calls call q) = Suits window call q
-LeadSuits window (Ends a) = Unit {0}
+abbrev pub LeadSuits : Hwnd → Around → Lead → Type 0
+LeadSuits window around (Calls call q) = Suits window call q around
+LeadSuits window around (Runs b q) = Suits window b.call b.place (within q around) × HasRoom around
+LeadSuits window around (Ends a) = Unit {0}
 
-either : (b : Bool) (window : Hwnd) (x y : Lead) → LeadSuits window x → LeadSuits window y → LeadSuits window (if b then x else y)
-either true window x y f g = f
-either false window x y f g = g
+either : (b : Bool) (window : Hwnd) (around : Around) (x y : Lead) → LeadSuits window around x → LeadSuits window around y → LeadSuits window around (if b then x else y)
+either true window around x y f g = f
+either false window around x y f g = g
 
-pub plain : {window : Hwnd} {call : Call} {q : Place} → IsSentTo window call → IsPlaceOf window q → leaves call ≡ false → is_last call ≡ false → Suits window call q
-plain a b c d = record { sent = a; leads = b; stays = c; goes_on = d }
+pub plain : {window : Hwnd} {call : Call} {q : Place} {around : Around} → IsSentTo window call → IsPlaceOf window q → leaves call ≡ false → is_last call ≡ false → IsInside q around → Suits window call q around
+plain a b c d e = record { sent = a; leads = b; stays = c; goes_on = d; inside = e }
+
+-- a destruction inside of a `create`
+undoing_inside : (w : ℕ) (around : Around) → IsInside (Greeting w) around → IsInside (Dooming w) (within Undoing around)
+undoing_inside w Nobody h = (omega arith, tt)
+undoing_inside w (One a) h = (omega arith, tt, h.1)
+undoing_inside w (Two a b) h = absurd (omega (arith, h.0))
+
+undoing_room : (w : ℕ) (around : Around) → IsInside (Greeting w) around → HasRoom around
+undoing_room w Nobody h = tt
+undoing_room w (One a) h = tt
+undoing_room w (Two a b) h = absurd (omega (arith, h.0))
+
+undoing : (w : ℕ) (window : Hwnd) (around : Around) → IsInside (Greeting w) around → LeadSuits window around (Runs (destruction w) Undoing)
+undoing w window around h = (plain tt tt refl refl (undoing_inside w around h), undoing_room w around h)
 
 -- where a place leads suits the window that is told next
-pub lead_suits : (q : Place) (a : Answer) (x : ℕ) (window : Hwnd) → IsPlaceOf window q → LeadSuits (told q a window) (compound_after q a x)
-lead_suits MakingWindow (Window w) x window h = plain (refl, lit< tt) refl refl refl
-lead_suits MakingWindow (Refused code) x window h = tt
-lead_suits MakingWindow a x window h = tt
-lead_suits (Greeting w) a x window h = either (x == 0) window _ _ (plain tt tt refl refl) (plain (h, lit< tt) tt refl refl)
-lead_suits (Telling w) (Refused code) x window h = plain tt tt refl refl
-lead_suits (Telling w) a x window h = either (x == 18446744073709551615) window _ _ (plain tt tt refl refl) tt
-lead_suits (Dooming w true) (Refused code) x window h = tt
-lead_suits (Dooming w false) (Refused code) x window h = tt
-lead_suits (Dooming w alone) a x window h = plain tt tt refl refl
-lead_suits (Unmaking w alone) (Tell v) x window h = plain (refl, lit< tt) tt refl refl
-lead_suits (Unmaking w alone) (Last v) x window h = plain (refl, lit< tt) tt refl refl
-lead_suits (Unmaking w true) (Refused code) x window h = tt
-lead_suits (Unmaking w false) (Refused code) x window h = tt
-lead_suits (Unmaking w true) a x window h = tt
-lead_suits (Unmaking w false) a x window h = tt
-lead_suits (Destroying w alone) a x window h = plain tt tt refl refl
-lead_suits (Parting w v alone) a x window h = plain tt tt refl refl
-lead_suits (Dropping w alone) a x window h = plain tt tt refl refl
+pub lead_suits : (q : Place) (a : Answer) (x : ℕ) (window : Hwnd) (around : Around) → IsPlaceOf window q → IsInside q around → LeadSuits (told q a window) around (compound_after q a x)
+lead_suits MakingWindow (Window w) x window around h i = plain (refl, lit< tt) refl refl refl i
+lead_suits MakingWindow (Refused code) x window around h i = tt
+lead_suits MakingWindow a x window around h i = tt
+lead_suits (Greeting w) a x window around h i = either (x == 0) window around _ _ (undoing w window around i) (plain (h, lit< tt) tt refl refl i)
+lead_suits (Telling w) (Refused code) x window around h i = undoing w window around i
+lead_suits (Telling w) a x window around h i = either (x == 18446744073709551615) window around _ _ (undoing w window around i) tt
+lead_suits Undoing a x window around h i = tt
+lead_suits (Dooming w) (Refused code) x window around h i = tt
+lead_suits (Dooming w) a x window around h i = plain tt tt refl refl i
+lead_suits (Unmaking w) (Tell v) x window around h i = plain (refl, lit< tt) tt refl refl i
+lead_suits (Unmaking w) (Last v) x window around h i = plain (refl, lit< tt) tt refl refl i
+lead_suits (Unmaking w) (Refused code) x window around h i = tt
+lead_suits (Unmaking w) a x window around h i = tt
+lead_suits (Destroying w) a x window around h i = plain tt tt refl refl i
+lead_suits (Parting w v) a x window around h i = plain tt tt refl refl i
+lead_suits (Dropping w) a x window around h i = plain tt tt refl refl i
+lead_suits (Defaulting y) (Refused code) x window around h i = tt
+lead_suits (Defaulting y) a x window around h i = tt
+
+-- a place around another suits any window, alone and inside of one more
+outer_place : (q : Place) (window : Hwnd) → IsOuter q → IsPlaceOf window q
+outer_place Undoing window h = tt
+outer_place (Defaulting x) window h = tt
+outer_place q window h = absurd h
+
+outer_alone : (q : Place) → IsOuter q → IsInside q Nobody
+outer_alone Undoing h = omega arith
+outer_alone (Defaulting x) h = omega arith
+outer_alone q h = absurd h
+
+outer_inside : (q a : Place) → IsOuter q → IsOuter a → IsInside q (One a)
+outer_inside Undoing a h k = (omega arith, k)
+outer_inside (Defaulting x) a h k = (omega arith, k)
+outer_inside q a h k = absurd h
 
 -- what is asked for at a stage is what it accepts
 pub asked_accepts : (turn : Turn) (g : Got) → Awaits (Make turn.call) g → Accepts (Asked turn) g
@@ -153,34 +192,35 @@ begun_runs_none : (b : Bool) (next : Next) (sn : SendId) → Some next ≡ runs_
 begun_runs_none true next sn e = absurd cc
 begun_runs_none false next sn e = absurd cc
 
--- the pieces of a compound begin with its first call
-pub begins_create : {class title parent style extended : ℕ} {left top right bottom : ℤ} (c : Compound) (call : Call) → c ≡ Create class title parent style extended left top right bottom → call ≡ first_call c → begun c ≡ Making call ∷ Feed MakingWindow ∷ Settle call ∷ []
-begins_create c call e f = ap begun e ∙ ap (λ x. begun_with x (Feed MakingWindow)) (sym (f ∙ ap first_call e))
+-- the pieces with one compound more around
+inside_pieces : (q : Place) (around : Around) (ps : List Piece) → HasRoom around → around_pieces (within q around) ps ≡ Feed q ∷ around_pieces around ps
+inside_pieces q Nobody ps h = refl
+inside_pieces q (One a) ps h = refl
+inside_pieces q (Two a b) ps h = absurd h
 
-pub begins_destroy : {w : ℕ} (c : Compound) (call : Call) → c ≡ Destroy w → call ≡ first_call c → begun c ≡ Making call ∷ Feed (Dooming w true) ∷ Settle call ∷ []
-begins_destroy {w} c call e f = ap begun e ∙ ap (λ x. begun_with x (Feed (Dooming w true))) (sym (f ∙ ap first_call e))
+-- the compound around goes on
+pub hands_to_one : (turn : Turn) (q : Place) → IsTurn turn → turn.around ≡ One q → IsTurn (record turn { place = q; around = Nobody })
+hands_to_one turn q h e =
+    let i : IsInside turn.place (One q) = subst (λ x. IsInside turn.place x) e h.inside in
+    plain h.sent (outer_place q turn.window i.1) h.stays h.goes_on (outer_alone q i.1)
 
-closing : {w : ℕ} (b : Bool) (call : Call) (x y : ℕ) → b ≡ true → call ≡ Doom w → x ≡ y → (if b then Making (Doom w) ∷ Feed (Dooming w true) ∷ [] else []) ++ Default y ∷ Take ∷ [] ≡ Making call ∷ Feed (Dooming w true) ∷ Default x ∷ Take ∷ []
-closing {w} true call x y e f g = ap (λ a. Making a ∷ Feed (Dooming w true) ∷ Default y ∷ Take ∷ []) (sym f) ∙ ap (λ z. Making call ∷ Feed (Dooming w true) ∷ Default z ∷ Take ∷ []) (sym g)
-closing false call x y e f g = absurd cc
+pub hands_to_two : (turn : Turn) (q a : Place) → IsTurn turn → turn.around ≡ Two q a → IsTurn (record turn { place = q; around = One a })
+hands_to_two turn q a h e =
+    let i : IsInside turn.place (Two q a) = subst (λ x. IsInside turn.place x) e h.inside in
+    plain h.sent (outer_place q turn.window i.1) h.stays h.goes_on (outer_inside q a i.1 i.2)
 
-leaving_alone : (w : ℕ) (b : Bool) (x y : ℕ) → b ≡ false → x ≡ y → (if b then Making (Doom w) ∷ Feed (Dooming w true) ∷ [] else []) ++ Default y ∷ Take ∷ [] ≡ Default x ∷ Take ∷ []
-leaving_alone w false x y e g = ap (λ z. Default z ∷ Take ∷ []) (sym g)
-leaving_alone w true x y e g = absurd cc
+-- the default procedure has a destruction inside of it, or nothing
+default_some : (b : Bool) (w : ℕ) (begin : Begin) → Some begin ≡ (if b then Some (destruction w) else None) → begin ≡ destruction w
+default_some true w begin e = cc
+default_some false w begin e = absurd cc
 
-pub begins_close : {w number p q : ℕ} (c : Compound) (call : Call) (x : ℕ) → c ≡ DefaultOf w number p q → call ≡ first_call c → (number == WM_CLOSE) ≡ true → x ≡ (if number == WM_NCCREATE then 1 else 0) → begun c ≡ Making call ∷ Feed (Dooming w true) ∷ Default x ∷ Take ∷ []
-begins_close {number = number} c call x e f t g = ap begun e ∙ closing (number == WM_CLOSE) call x (if number == WM_NCCREATE then 1 else 0) t (f ∙ ap first_call e) g
+first_suits : (c : Compound) (window : Hwnd) (q : Place) (around : Around) → IsPlaceOf window q → IsInside q around → Suits window (first_call c) q around
+first_suits (Create class title parent style extended left top right bottom) window q around h i = plain tt h refl refl i
+first_suits (Destroy w) window q around h i = plain tt h refl refl i
+first_suits (DefaultOf w number p r) window q around h i = plain tt h refl refl i
 
-pub begins_alone : {w number p q : ℕ} (c : Compound) (x : ℕ) → c ≡ DefaultOf w number p q → (number == WM_CLOSE) ≡ false → x ≡ (if number == WM_NCCREATE then 1 else 0) → begun c ≡ Default x ∷ Take ∷ []
-begins_alone {w} {number} c x e t g = ap begun e ∙ leaving_alone w (number == WM_CLOSE) x (if number == WM_NCCREATE then 1 else 0) t g
-
-first_suits : (c : Compound) (window : Hwnd) (q : Place) → IsPlaceOf window q → Suits window (first_call c) q
-first_suits (Create class title parent style extended left top right bottom) window q h = plain tt h refl refl
-first_suits (Destroy w) window q h = plain tt h refl refl
-first_suits (DefaultOf w number p r) window q h = plain tt h refl refl
-
-pub call_suits : (c : Compound) (call : Call) (window : Hwnd) (q : Place) → call ≡ first_call c → IsPlaceOf window q → Suits window call q
-call_suits c call window q e h = subst (λ x. Suits window x q) (sym e) (first_suits c window q h)
+pub call_suits : (c : Compound) (call : Call) (window : Hwnd) (q : Place) (around : Around) → call ≡ first_call c → IsPlaceOf window q → IsInside q around → Suits window call q around
+call_suits c call window q around e h i = subst (λ x. Suits window x q around) (sym e) (first_suits c window q around h i)
 
 module _ (s : Tree) (n : ℕ) where
   -- the same for a step that is equal
@@ -196,32 +236,39 @@ module _ (s : Tree) (n : ℕ) where
   asks_leads turn v h = record { left = Making turn.call ∷ behind turn; state = Going v; comes = calls turn.call refl; stands = is_asked turn v h }
 
   -- the end of a statement that sets r and err
-  pub settles_leads : (call : Call) (a : Answer) (v w : Variables) → Leads s n (end_pieces (Settles call)) (Given v a 0) Over (Done (settled w call a 0).last_result (settled w call a 0).last_error)
+  pub settles_leads : (call : Call) (a : Answer) (v w : Variables) → Leads s n (Settle call ∷ []) (Given v a 0) Over (Done (settled w call a 0).last_result (settled w call a 0).last_error)
   settles_leads call a v w =
       let l : Leads s n (Settle call ∷ []) (Given v a 0) Over (Done (settled v call a 0).last_result (settled v call a 0).last_error) = record { left = []; state = Going (settled v call a 0); comes = silent [] (Going (settled v call a 0)) tt refl over; stands = is_over (settled v call a 0) } in
       subst (λ x. Leads s n (Settle call ∷ []) (Given v a 0) Over x) (settled_same v w call a 0) l
 
-  -- the end of the default procedure
-  default_leads : (x : ℕ) (v : Variables) → Leads s n (Take ∷ []) (Returning v x) Over (Done x 0)
-  default_leads x v = record { left = []; state = Going (record v { last_result = x; last_error = 0 }); comes = silent [] (Going (record v { last_result = x; last_error = 0 })) tt refl over; stands = is_over (record v { last_result = x; last_error = 0 }) }
-
-  pub gives_leads : (x : ℕ) (a : Answer) (y : ℕ) (v : Variables) → Leads s n (end_pieces (Gives x)) (Given v a y) Over (Done x 0)
-  gives_leads x a y v = before (Default x) (Take ∷ []) [] (Given v a y) (Returning v x) Over (Done x 0) tt refl (default_leads x v)
-
-  pub default_goes : (x : ℕ) (v : Variables) → Leads s n (end_pieces (Gives x)) (Going v) Over (Done x 0)
-  default_goes x v = before (Default x) (Take ∷ []) [] (Going v) (Returning v x) Over (Done x 0) tt refl (default_leads x v)
-
   -- the answer of a call leads on to the next
-  pub feed_calls : (turn : Turn) (a : Answer) (x : ℕ) (v : Variables) (call : Call) (q : Place) → IsTurn turn → Calls call q ≡ compound_after turn.place a x → Leads s n (behind turn) (Given v a x) (Asked (record { call = call; place = q; window = told turn.place a turn.window; ending = turn.ending })) (Make call)
-  feed_calls turn a x v call q h e =
-      let next : Turn = record { call = call; place = q; window = told turn.place a turn.window; ending = turn.ending } in
-      let suits : IsTurn next = subst (LeadSuits (told turn.place a turn.window)) (sym e) (lead_suits turn.place a x turn.window h.leads) in
-      before (Feed turn.place) (end_pieces turn.ending) (Making call ∷ Feed q ∷ []) (Given v a x) (Going v) (Asked next) (Make call) tt (ap (goes_on v) (sym e)) (asks_leads next v suits)
+  pub feed_calls : (turn : Turn) (a : Answer) (x : ℕ) (v : Variables) (call : Call) (q : Place) (window : Hwnd) → IsTurn turn → window ≡ told turn.place a turn.window → Calls call q ≡ compound_after turn.place a x → Leads s n (behind turn) (Given v a x) (Asked (record { call = call; place = q; around = turn.around; window = window; statement = turn.statement })) (Make call)
+  feed_calls turn a x v call q window h w e =
+      let next : Turn = record { call = call; place = q; around = turn.around; window = window; statement = turn.statement } in
+      let suits : IsTurn next = subst (λ y. Suits y call q turn.around) (sym w) (subst (LeadSuits (told turn.place a turn.window) turn.around) (sym e) (lead_suits turn.place a x turn.window turn.around h.leads h.inside)) in
+      before (Feed turn.place) (around_pieces turn.around (Settle turn.statement ∷ [])) (Making call ∷ Feed q ∷ []) (Given v a x) (Going v) (Asked next) (Make call) tt (ap (goes_on v) (sym e)) (asks_leads next v suits)
 
-  -- or to the end
-  pub feed_ends : (turn : Turn) (a b : Answer) (x : ℕ) (v : Variables) (stage : Stage) (next : Next) → Ends b ≡ compound_after turn.place a x → Leads s n (end_pieces turn.ending) (Given v b 0) stage next → Leads s n (behind turn) (Given v a x) stage next
+  -- to the first call of a compound inside of it
+  pub feed_runs : (turn : Turn) (a : Answer) (x : ℕ) (v : Variables) (b : Begin) (q : Place) (window : Hwnd) (around : Around) → IsTurn turn → window ≡ told turn.place a turn.window → around ≡ within q turn.around → Runs b q ≡ compound_after turn.place a x → Leads s n (behind turn) (Given v a x) (Asked (record { call = b.call; place = b.place; around = around; window = window; statement = turn.statement })) (Make b.call)
+  feed_runs turn a x v b q window around h w f e =
+      let k : Suits (told turn.place a turn.window) b.call b.place (within q turn.around) × HasRoom turn.around = subst (LeadSuits (told turn.place a turn.window) turn.around) (sym e) (lead_suits turn.place a x turn.window turn.around h.leads h.inside) in
+      let turn_of : Around → Hwnd → Turn = λ y z. record { call = b.call; place = b.place; around = y; window = z; statement = turn.statement } in
+      let next : Turn = turn_of (within q turn.around) (told turn.place a turn.window) in
+      let suits : IsTurn next = k.0 in
+      let rest = around_pieces turn.around (Settle turn.statement ∷ []) in
+      let l : Leads s n (behind turn) (Given v a x) (Asked next) (Make b.call) =
+      before (Feed turn.place) rest (Making b.call ∷ Feed b.place ∷ Feed q ∷ []) (Given v a x) (Going v) (Asked next) (Make b.call) tt (ap (goes_on v) (sym e))
+      (subst (λ ps. Leads s n (Making b.call ∷ Feed b.place ∷ ps) (Going v) (Asked next) (Make b.call)) (inside_pieces q turn.around (Settle turn.statement ∷ []) k.1) (asks_leads next v suits)) in
+      subst (λ y. Leads s n (behind turn) (Given v a x) (Asked (turn_of y window)) (Make b.call)) (sym f) (subst (λ z. Leads s n (behind turn) (Given v a x) (Asked (turn_of (within q turn.around) z)) (Make b.call)) (sym w) l)
+
+  -- to the place of the compound around it, or to the end
+  pub feed_ends : (turn : Turn) (a b : Answer) (x : ℕ) (v : Variables) (stage : Stage) (next : Next) → Ends b ≡ compound_after turn.place a x → Leads s n (around_pieces turn.around (Settle turn.statement ∷ [])) (Given v b 0) stage next → Leads s n (behind turn) (Given v a x) stage next
   feed_ends turn a b x v stage next e l =
-      before (Feed turn.place) (end_pieces turn.ending) [] (Given v a x) (Given v b 0) stage next tt (ap (goes_on v) (sym e)) l
+      before (Feed turn.place) (around_pieces turn.around (Settle turn.statement ∷ [])) [] (Given v a x) (Given v b 0) stage next tt (ap (goes_on v) (sym e)) l
+
+  -- the same around those that are equal
+  pub around_same : (turn : Turn) (around : Around) (st : State) (stage : Stage) (next : Next) → turn.around ≡ around → Leads s n (around_pieces around (Settle turn.statement ∷ [])) st stage next → Leads s n (around_pieces turn.around (Settle turn.statement ∷ [])) st stage next
+  around_same turn around st stage next e l = subst (λ x. Leads s n (around_pieces x (Settle turn.statement ∷ [])) st stage next) (sym e) l
 
   -- what hands a result on leads where that result leads
   pub hands_lead : {x : ℕ} {rest qs : List Piece} {stage : Stage} {next : Next} → Hands x rest qs → ((w : Variables) → Leads s n rest (Returning w x) stage next) → (v : Variables) (a : Answer) (y : ℕ) → Leads s n qs (Given v a y) stage next
@@ -296,7 +343,7 @@ module _ (s : Tree) (n : ℕ) where
   pub await_leads : (turn : Turn) (sn : SendId) (v : Variables) → IsTurn turn → true ≡ waits turn.call → Leads s n (follows turn.call (Begun sn) ++ behind turn) (answered turn.call (Begun sn) v) (Asked (record turn { call = Await sn.0 })) (Make (Await sn.0))
   await_leads turn sn v h w =
       let next : Turn = record turn { call = Await sn.0 } in
-      let suits : IsTurn next = record { sent = tt; leads = h.leads; stays = refl; goes_on = refl } in
+      let suits : IsTurn next = record { sent = tt; leads = h.leads; stays = refl; goes_on = refl; inside = h.inside } in
       let e : follows turn.call (Begun sn) ≡ Making (Await sn.0) ∷ [] = follows_on turn.call (Begun sn) h.goes_on (λ x. absurd cc) ∙ ap (λ b. if b then Making (Await sn.0) ∷ [] else []) (sym w) in
       let f : answered turn.call (Begun sn) v ≡ Going v = answered_on turn.call (Begun sn) v h.goes_on (λ x. absurd cc) ∙ ap (λ b. if b then Going v else given v (Begun sn)) (sym w) in
       subst (λ ps. Leads s n (ps ++ behind turn) (answered turn.call (Begun sn) v) (Asked next) (Make next.call)) (sym e)
@@ -345,9 +392,29 @@ module _ (s : Tree) (n : ℕ) where
   leave_hands turn next x value (Called p) stage asked qs v k b e l = absurd cc
   leave_hands turn next x value a stage asked qs v k b e l = hands_lead b l (received v a) a (result_of a)
 
-  -- a compound begins with a call
-  pub begins_call : (c : Compound) (turn : Turn) (v : Variables) → begun c ≡ Making turn.call ∷ behind turn → IsTurn turn → Leads s n (begun c) (Going v) (Asked turn) (Make turn.call)
-  begins_call c turn v e h = subst (λ ps. Leads s n ps (Going v) (Asked turn) (Make turn.call)) (sym e) (asks_leads turn v h)
+  -- a compound of a statement begins
+  pub begins_leads : (c : Compound) (b b' : Begin) (call : Call) (r : Step) (v : Variables) → begun c ≡ begun_over b' (Settle call ∷ []) → b ≡ b' → IsTurn (first_turn b' Nobody call) → r ≡ record { stage = Asked (first_turn b Nobody call); next = Make b.call } → Leads s n (begun c) (Going v) r.stage r.next
+  begins_leads c b b' call r v e f h g =
+      let l : Leads s n (begun_over b' (Settle call ∷ [])) (Going v) (Asked (first_turn b' Nobody call)) (Make b'.call) = asks_leads (first_turn b' Nobody call) v h in
+      carry (begun c) (Going v) (Asked (first_turn b Nobody call)) (Make b.call) r g
+      (subst (λ x. Leads s n (begun c) (Going v) (Asked (first_turn x Nobody call)) (Make x.call)) (sym f)
+      (subst (λ ps. Leads s n ps (Going v) (Asked (first_turn b' Nobody call)) (Make b'.call)) (sym e) l))
+
+  -- the statement `default` of a message that closes a window
+  pub default_leads : (c : Compound) (p : Parameters) (b : Begin) (x : ℕ) (call : Call) (r : Step) (v : Variables) → begun c ≡ default_pieces p (Settle call ∷ []) → Some b ≡ default_begin p → x ≡ default_result p → r ≡ record { stage = Asked (first_turn b (One (Defaulting x)) call); next = Make b.call } → Leads s n (begun c) (Going v) r.stage r.next
+  default_leads c p b x call r v e f g k =
+      let turn = first_turn b (One (Defaulting x)) call in
+      let closes : b ≡ destruction p.hwnd = default_some (p.number == WM_CLOSE) p.hwnd b f in
+      let suits : IsTurn turn = subst (λ y. IsTurn (first_turn y (One (Defaulting x)) call)) (sym closes) (plain tt tt refl refl (omega arith, tt)) in
+      let pieces : begun c ≡ Making b.call ∷ behind turn = e ∙ ap (λ y. default_over y (default_result p) (Settle call ∷ [])) (sym f) ∙ ap (λ y. default_over (Some b) y (Settle call ∷ [])) (sym g) in
+      carry (begun c) (Going v) (Asked turn) (Make b.call) r k (subst (λ ps. Leads s n ps (Going v) (Asked turn) (Make b.call)) (sym pieces) (asks_leads turn v suits))
+
+  -- and of any other message
+  pub alone_leads : (c : Compound) (p : Parameters) (x : ℕ) (call : Call) (r : Step) (v : Variables) → begun c ≡ default_pieces p (Settle call ∷ []) → None ≡ default_begin p → x ≡ default_result p → r ≡ record { stage = Over; next = Done x 0 } → Leads s n (begun c) (Going v) r.stage r.next
+  alone_leads c p x call r v e f g k =
+      let pieces : begun c ≡ Giving (Value x) ∷ Settle call ∷ [] = e ∙ ap (λ y. default_over y (default_result p) (Settle call ∷ [])) (sym f) ∙ ap (λ y. default_over None y (Settle call ∷ [])) (sym g) in
+      carry (begun c) (Going v) Over (Done x 0) r k
+      (subst (λ ps. Leads s n ps (Going v) Over (Done x 0)) (sym pieces) (before (Giving (Value x)) (Settle call ∷ []) [] (Going v) (Given v (Value x) 0) Over (Done x 0) tt refl (settles_leads call (Value x) v v)))
 
   -- the same from an answer that is equal
   pub at_answer : (call : Call) (rest : List Piece) (a b : Answer) (v : Variables) (stage : Stage) (next : Next) → a ≡ b → Leads s n (follows call b ++ rest) (answered call b v) stage next → Leads s n (follows call a ++ rest) (answered call a v) stage next
@@ -356,7 +423,3 @@ module _ (s : Tree) (n : ℕ) where
   -- the same from what comes then that is equal
   pub at_then : (turn : Turn) (t u : Then) (st : State) (stage : Stage) (next : Next) → t ≡ u → Leads s n (then_piece turn.call u ∷ behind turn) st stage next → Leads s n (then_piece turn.call t ∷ behind turn) st stage next
   at_then turn t u st stage next e l = subst (λ x. Leads s n (then_piece turn.call x ∷ behind turn) st stage next) (sym e) l
-
-  -- the statement `default` of a message that closes no window
-  pub alone_leads : (c : Compound) (x : ℕ) (v : Variables) → begun c ≡ Default x ∷ Take ∷ [] → Leads s n (begun c) (Going v) Over (Done x 0)
-  alone_leads c x v e = subst (λ ps. Leads s n ps (Going v) Over (Done x 0)) (sym e) (default_goes x v)

@@ -1,12 +1,13 @@
 -- The pieces that the state of a compound stands for.
-use Rattle.std.specs.Prelude.{◌≡◌, ◌<◌, ◌^◌, ℕ, false, List, [], ◌∷◌, Option, Some, None}
+use Rattle.std.specs.Prelude.{◌≡◌, ◌<◌, ◌≤◌, ◌^◌, ℕ, false, List, [], ◌∷◌, Option, Some, None}
+use Rattle.script_tree.specs.declared.frame.Begin.{Begin}
 use Rattle.script_tree.specs.declared.frame.Run.{Run}
-use Rattle.script_tree.specs.declared.frame.Compound.{Compound as Place}
-use Rattle.script_tree.specs.declared.frame.Compound.TheVariants.{Making as MakingWindow, Greeting, Unmaking}
+use Rattle.script_tree.specs.declared.frame.Place.{Place}
+use Rattle.script_tree.specs.declared.frame.Place.TheVariants.{Making as MakingWindow, Greeting, Telling, Undoing, Dooming, Unmaking, Destroying, Parting, Dropping, Defaulting}
 use Rattle.script_tree.specs.declared.variables.Parameters.{Parameters}
 use Rattle.script_tree.specs.declared.variables.Variables.{Variables}
 use Rattle.script_tree.specs.Tree.{Tree}
-use Rattle.script_tree.specs.Pieces.{Piece, Making, Again, Giving, Settle, Running, Leaves, Left, Restore, Feed, Default, Take, State, Going}
+use Rattle.script_tree.specs.Pieces.{Piece, Making, Again, Giving, Settle, Running, Leaves, Left, Restore, Feed, State, Going}
 use Rattle.script_tree.specs.Steps.{is_last}
 use Rattle.user_model.specs.Stacks.{leaves}
 use Rattle.user_model.specs.declared.call.Call.{Call}
@@ -19,8 +20,8 @@ use Rattle.win_calls.specs.declared.compound.Got.{Got}
 use Rattle.win_calls.specs.declared.compound.Got.TheVariants.{Start, Answered, Returned}
 use Rattle.win_calls.specs.declared.compound.Next.{Next}
 use Rattle.win_calls.specs.declared.compound.Next.TheVariants.{Make, Run as RunOf}
-use Rattle.win_calls.specs.declared.stage.Ending.{Ending}
-use Rattle.win_calls.specs.declared.stage.Ending.TheVariants.{Settles, Gives}
+use Rattle.win_calls.specs.declared.stage.Around.{Around}
+use Rattle.win_calls.specs.declared.stage.Around.TheVariants.{Nobody, One, Two}
 use Rattle.win_calls.specs.declared.stage.Turn.{Turn}
 use Rattle.win_calls.specs.declared.stage.Then.{Then}
 use Rattle.win_calls.specs.declared.stage.Then.TheVariants.{Again as AgainThen, Giving as GivingThen}
@@ -66,16 +67,58 @@ abbrev pub IsPlaceOf : Hwnd → Place → Type 0
 IsPlaceOf window (Greeting w) = w ≡ window.0
 IsPlaceOf window place = Unit {0}
 
+-- how many compounds may begin inside of one another from that place on
+abbrev pub depth : Place → ℕ
+depth MakingWindow = 1
+depth (Greeting w) = 1
+depth (Telling w) = 1
+depth Undoing = 0
+depth (Dooming w) = 0
+depth (Unmaking w) = 0
+depth (Destroying w) = 0
+depth (Parting w v) = 0
+depth (Dropping w) = 0
+depth (Defaulting x) = 0
+
+-- a place behind a compound inside, from which no other begins
+abbrev pub IsOuter : Place → Type 0
+IsOuter Undoing = Unit {0}
+IsOuter (Defaulting x) = Unit {0}
+IsOuter place = ⊥
+
+-- the compounds around that place wait for one inside of them, and with all that may begin they are three deep at most
+abbrev pub IsInside : Place → Around → Type 0
+IsInside q Nobody = depth q ≤ 2
+IsInside q (One a) = (depth q ≤ 1) × IsOuter a
+IsInside q (Two a b) = (depth q ≤ 0) × IsOuter a × IsOuter b
+
+-- one compound more around the one that begins inside of it
+abbrev pub within : Place → Around → Around
+within q Nobody = One q
+within q (One a) = Two q a
+within q (Two a b) = Two q a
+
+-- how many compounds are around
+abbrev pub count : Around → ℕ
+count Nobody = 0
+count (One a) = 1
+count (Two a b) = 2
+
 -- a call that a compound makes itself, neither a `leave` nor the end of a thread, before that place
-pub record Suits (window : Hwnd) (call : Call) (place : Place) : Type 0 where
+pub record Suits (window : Hwnd) (call : Call) (place : Place) (around : Around) : Type 0 where
   pub sent : IsSentTo window call
   pub leads : IsPlaceOf window place
   pub stays : leaves call ≡ false
   pub goes_on : is_last call ≡ false
+  pub inside : IsInside place around
 
 -- a call that a compound makes itself
 abbrev pub IsTurn : Turn → Type 0
-IsTurn turn = Suits turn.window turn.call turn.place
+IsTurn turn = Suits turn.window turn.call turn.place turn.around
+
+-- the first call of a compound
+abbrev pub first_turn : Begin → Around → Call → Turn
+first_turn b around call = record { call = b.call; place = b.place; around = around; window = record { 0 = 0 }; statement = call }
 
 -- the window that an answer names, or else this one
 abbrev pub named : Answer → Hwnd → Hwnd
@@ -87,17 +130,18 @@ named a window = window
 -- the window that a compound sends to after this answer at that place
 abbrev pub told : Place → Answer → Hwnd → Hwnd
 told MakingWindow a window = named a window
-told (Unmaking w alone) a window = named a window
+told (Unmaking w) a window = named a window
 told place a window = window
 
--- the last pieces of a compound
-abbrev pub end_pieces : Ending → List Piece
-end_pieces (Settles call) = Settle call ∷ []
-end_pieces (Gives x) = Default x ∷ Take ∷ []
+-- the pieces of the compounds around one, before others
+abbrev pub around_pieces : Around → List Piece → List Piece
+around_pieces Nobody ps = ps
+around_pieces (One a) ps = Feed a ∷ ps
+around_pieces (Two a b) ps = Feed a ∷ Feed b ∷ ps
 
 -- the pieces behind a call
 abbrev pub behind : Turn → List Piece
-behind turn = Feed turn.place ∷ end_pieces turn.ending
+behind turn = Feed turn.place ∷ around_pieces turn.around (Settle turn.statement ∷ [])
 
 -- the piece behind the procedure that runs for a call
 abbrev pub then_piece : Call → Then → Piece

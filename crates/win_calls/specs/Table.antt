@@ -1,12 +1,13 @@
 -- What a compound statement asks of its caller, by the table of steps.
 use Rattle.std.specs.Prelude.{◌≡◌, ℕ, Bool, true, List, [], ◌∷◌, ◌++◌, Option, Some, None}
 use Rattle.script_tree.specs.declared.frame.Run.{Run}
-use Rattle.script_tree.specs.declared.frame.Compound.TheVariants.{Making as MakingWindow, Dooming}
+use Rattle.script_tree.specs.declared.frame.Begin.{Begin}
 use Rattle.script_tree.specs.declared.variables.Parameters.{Parameters}
 use Rattle.script_tree.specs.declared.variables.Variables.{Variables}
 use Rattle.script_tree.specs.Tree.{Tree}
-use Rattle.script_tree.specs.Pieces.{Piece, Making, Settle, Running, Leaving, Restore, Feed, Default, Take, State, Going, Returning, Becomes, Asks}
-use Rattle.script_tree.specs.Steps.{step, follows, answered, variables_of, parameters_from, default_pieces, default_result, is_callback}
+use Rattle.script_tree.specs.Compounds.{creation, destruction}
+use Rattle.script_tree.specs.Pieces.{Piece, Settle, Running, Leaving, Restore, State, Going, Returning, Becomes, Asks}
+use Rattle.script_tree.specs.Steps.{step, follows, answered, variables_of, parameters_from, begun_over, default_pieces, is_callback}
 use Rattle.user_model.specs.declared.call.Call.{Call}
 use Rattle.user_model.specs.declared.call.Call.TheVariants.{NewWindow, Doom}
 use Rattle.user_model.specs.declared.entry.Answer.{Answer}
@@ -17,25 +18,21 @@ use Rattle.win_calls.specs.declared.compound.Got.TheVariants.{Start, Answered, R
 use Rattle.win_calls.specs.declared.compound.Next.{Next}
 use Rattle.win_calls.specs.declared.compound.Next.TheVariants.{Make, Run as RunOf, Done}
 
--- the first call of a compound, which `default` makes only where it closes the window
+-- the call of a compound's statement: with it the compound begins, but for `default`, which makes it only where a compound is inside of it
 abbrev pub first_call : Compound → Call
 first_call (Create class title parent style extended left top right bottom) = NewWindow class title parent style extended left top right bottom
 first_call (Destroy w) = Doom w
 first_call (DefaultOf w number p q) = Doom w
 
--- the pieces of a statement that begins with that call
-abbrev pub begun_with : Call → Piece → List Piece
-begun_with call feed = Making call ∷ feed ∷ Settle call ∷ []
-
--- the pieces of the statement `default` in a procedure with these parameters
-abbrev pub begun_default : Parameters → List Piece
-begun_default p = default_pieces p ++ Default (default_result p) ∷ Take ∷ []
+-- the pieces of a statement that begins so
+abbrev pub begun_with : Begin → List Piece
+begun_with b = begun_over b (Settle b.call ∷ [])
 
 -- the pieces of a compound statement, as its line in the table has them
 abbrev pub begun : Compound → List Piece
-begun (Create class title parent style extended left top right bottom) = begun_with (NewWindow class title parent style extended left top right bottom) (Feed MakingWindow)
-begun (Destroy w) = begun_with (Doom w) (Feed (Dooming w true))
-begun (DefaultOf w number p q) = begun_default (parameters_from w number p q)
+begun (Create class title parent style extended left top right bottom) = begun_with (creation (NewWindow class title parent style extended left top right bottom))
+begun (Destroy w) = begun_with (destruction w)
+begun (DefaultOf w number p q) = default_pieces (parameters_from w number p q) (Settle (Doom w) ∷ [])
 
 -- that procedure is to run with these parameters
 abbrev pub run_asked : ℕ → Parameters → Bool → Next

@@ -34,7 +34,7 @@ pub enum Next {
         callback: bool,
     },
     /// It has ended; `r` and `err` are what the statement sets them to: for `create` the window or 0, for
-    /// `destroy` 1 or 0, with the number of a refusal, else 0; for `default` its result and 0.
+    /// `destroy` 1 or 0, for `default` its result, each with err 0; and 0 with the number of a refusal.
     Done {
         r: u64,
         err: u16,

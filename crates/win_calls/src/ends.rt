@@ -1,17 +1,16 @@
 //! How a compound begins and ends, and where its calls lead.
 
-ghost use Rattle.std.specs.Prelude.{◌≡◌, ◌==◌, if◌then◌else◌, ℕ};
+ghost use Rattle.std.specs.Prelude.{◌≡◌, ◌∷◌, [], ℕ};
 ghost use Rattle.script_tree.specs.Tree.{Tree};
-ghost use Rattle.script_tree.specs.Pieces.{Going, Given};
+ghost use Rattle.script_tree.specs.Pieces.{Settle, Going, Given};
 ghost use Rattle.script_tree.specs.declared.variables.Variables.{Variables};
 ghost use Rattle.win_calls.specs.declared.compound.Got.{Got};
 ghost use Rattle.win_calls.specs.Table.{begun, first_call as call_of};
-ghost use Rattle.win_calls.specs.States.{IsTurn, Accepts, Awaits, Leads, behind, end_pieces, told as told_by, named as named_by};
+ghost use Rattle.win_calls.specs.States.{IsTurn, Accepts, Awaits, Leads, behind, first_turn, within as within_of, told as told_by, named as named_by};
 
 use crate::compound::{Compound, Next};
-use crate::stage::{Ending, Stage, Step, Turn};
-use script_tree::messages::{WM_CLOSE, WM_NCCREATE};
-use script_tree::{Compound as Place, Next as Lead, Variables};
+use crate::stage::{Around, Stage, Step, Turn};
+use script_tree::{Begin, Lead, Parameters, Place, Variables};
 use user_model::{Answer, Call};
 use win_num::Hwnd;
 
@@ -37,19 +36,14 @@ fn over(r: u64, err: u16) -> Step
     }
 }
 
-/// It ends with this answer.
-fn ended(ending: Ending, answer: Answer) -> Step
-    ensures follows { (s : Tree) (n : ℕ) (v : Variables) → Leads s n (end_pieces ending) (Given v answer 0) result.stage result.next }
+/// It ends with this answer, and its statement is that of this call.
+fn ended(statement: Call, answer: Answer) -> Step
+    ensures follows { (s : Tree) (n : ℕ) (v : Variables) → Leads s n (Settle statement ∷ []) (Given v answer 0) result.stage result.next }
     ensures accepts { (g : Got) → Awaits result.next g → Accepts result.stage g }
 {
-    match ending {
-        Ending::Settles(call) => {
-            let mut variables = Variables::start();
-            variables.settle(&call, &answer, 0);
-            over(variables.last_result, variables.last_error)
-        }
-        Ending::Gives(result) => over(result, 0),
-    }
+    let mut variables = Variables::start();
+    variables.settle(&statement, &answer, 0);
+    over(variables.last_result, variables.last_error)
 }
 
 /// The window that a compound sends to after this answer at that place.
@@ -58,7 +52,7 @@ fn told(place: Place, answer: &Answer, window: Hwnd) -> Hwnd
 {
     match place {
         Place::Making => named(answer, window),
-        Place::Unmaking(_, _) => named(answer, window),
+        Place::Unmaking(_) => named(answer, window),
         _ => window,
     }
 }
@@ -75,23 +69,84 @@ fn named(answer: &Answer, window: Hwnd) -> Hwnd
     }
 }
 
-/// Its call has this answer, with this result of the procedure that ran for it.
+/// One compound more around the one that begins inside of it. No compound of the table is more than three
+/// deep.
+fn within(place: Place, around: Around) -> Around
+    ensures { result ≡ within_of place around }
+{
+    match around {
+        Around::Nobody => Around::One(place),
+        Around::One(outer) => Around::Two(place, outer),
+        Around::Two(outer, _) => Around::Two(place, outer),
+    }
+}
+
+/// Its call has this answer, with this result of the procedure that ran for it. Where a compound ends
+/// inside of another, that one goes on with the answer.
 pub fn gives(turn: Turn, answer: Answer, value: u64) -> Step
     ensures follows { (s : Tree) (n : ℕ) (v : Variables) → IsTurn turn → Leads s n (behind turn) (Given v answer value) result.stage result.next }
     ensures accepts { (g : Got) → Awaits result.next g → Accepts result.stage g }
 {
+    let window = told(turn.place, &answer, turn.window);
     match turn.place.after(&answer, value) {
         Lead::Calls(call, place) => asks(Turn {
             call,
             place,
-            window: told(turn.place, &answer, turn.window),
-            ending: turn.ending,
+            window,
+            ..turn
         }),
-        Lead::Ends(last) => ended(turn.ending, last),
+        Lead::Runs(begin, place) => asks(Turn {
+            call: begin.call,
+            place: begin.place,
+            around: within(place, turn.around),
+            window,
+            ..turn
+        }),
+        Lead::Ends(last) => match turn.around {
+            Around::Nobody => ended(turn.statement, last),
+            Around::One(place) => {
+                let around = Around::Nobody;
+                gives(
+                    Turn {
+                        place,
+                        around,
+                        ..turn
+                    },
+                    last,
+                    0,
+                )
+            }
+            Around::Two(place, outer) => {
+                let around = Around::One(outer);
+                gives(
+                    Turn {
+                        place,
+                        around,
+                        ..turn
+                    },
+                    last,
+                    0,
+                )
+            }
+        },
     }
 }
 
-/// Its first call; `default` makes it only where it closes the window.
+/// It makes its first call.
+fn starts(begin: Begin, around: Around, statement: Call) -> Step
+    ensures step { result ≡ record { stage = Stage.Asked (first_turn begin around statement); next = Next.Make begin.call } }
+    ensures accepts { (g : Got) → Awaits result.next g → Accepts result.stage g }
+{
+    asks(Turn {
+        call: begin.call,
+        place: begin.place,
+        around,
+        window: Hwnd(0),
+        statement,
+    })
+}
+
+/// The call of its statement.
 fn first_call(compound: Compound) -> Call
     ensures { result ≡ call_of compound }
 {
@@ -106,36 +161,7 @@ fn first_call(compound: Compound) -> Call
     }
 }
 
-fn first(call: Call, place: Place, ending: Ending) -> Turn
-    ensures { result ≡ record { call = call; place = place; window = record { 0 = 0 }; ending = ending } }
-{
-    Turn {
-        call,
-        place,
-        window: Hwnd(0),
-        ending,
-    }
-}
-
-/// Whether the default procedure closes the window (Microsoft, WM_CLOSE message).
-fn closes(number: u64) -> bool
-    ensures { result ≡ (number == WM_CLOSE) }
-{
-    number == u64::from(WM_CLOSE)
-}
-
-/// What the default procedure gives where it makes no call (Microsoft, WM_NCCREATE message).
-fn default_result(number: u64) -> u64
-    ensures { result ≡ (if number == WM_NCCREATE then 1 else 0) }
-{
-    if number == u64::from(WM_NCCREATE) {
-        1
-    } else {
-        0
-    }
-}
-
-/// It begins.
+/// It begins; `default` makes a call only where a compound is inside of it.
 pub fn begins(compound: Compound) -> Step
     ensures follows { (s : Tree) (n : ℕ) (v : Variables) → Leads s n (begun compound) (Going v) result.stage result.next }
     ensures accepts { (g : Got) → Awaits result.next g → Accepts result.stage g }
@@ -143,18 +169,23 @@ pub fn begins(compound: Compound) -> Step
     let call = first_call(compound);
     match compound {
         Compound::Create(_, _, _, _, _, _, _, _, _) => {
-            asks(first(call, Place::Making, Ending::Settles(call)))
+            starts(Begin::creation(call), Around::Nobody, call)
         }
-        Compound::Destroy(window) => {
-            let place = Place::Dooming(window, true);
-            asks(first(call, place, Ending::Settles(call)))
-        }
-        Compound::Default(window, number, _, _) => {
-            let result = default_result(number);
-            if closes(number) {
-                asks(first(call, Place::Dooming(window, true), Ending::Gives(result)))
-            } else {
-                over(result, 0)
+        Compound::Destroy(window) => { starts(Begin::destruction(window), Around::Nobody, call) }
+        Compound::Default(hwnd, number, wparam, lparam) => {
+            let parameters = Parameters {
+                hwnd,
+                number,
+                wparam,
+                lparam,
+            };
+            let result = parameters.default_result();
+            match parameters.default_begin() {
+                None => over(result, 0),
+                Some(begin) => {
+                    let around = Around::One(Place::Defaulting(result));
+                    starts(begin, around, call)
+                }
             }
         }
     }

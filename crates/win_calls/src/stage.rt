@@ -1,17 +1,17 @@
 //! How far a compound statement has come.
 
 use crate::compound::{Compound, Next};
-use script_tree::Compound as Place;
+use script_tree::Place;
 use user_model::{Answer, Call};
 use win_num::Hwnd;
 
-/// What the end of a compound sets `r` and `err` to.
+/// The compounds around one that runs inside of them, by the places where its end leads: two at most, the
+/// inner one first.
 #[derive(Clone, Copy)]
-pub enum Ending {
-    /// What the answer is for a statement that begins with this call.
-    Settles(Call),
-    /// This result, and 0.
-    Gives(u64),
+pub enum Around {
+    Nobody,
+    One(Place),
+    Two(Place, Place),
 }
 
 /// One call of a compound.
@@ -21,9 +21,12 @@ pub struct Turn {
     pub call: Call,
     /// Where its answer leads.
     pub place: Place,
+    /// The compounds around the one that makes it.
+    pub around: Around,
     /// The window that the compound sends to.
     pub window: Hwnd,
-    pub ending: Ending,
+    /// The call whose statement sets `r` and `err` at the end.
+    pub statement: Call,
 }
 
 /// What comes when the procedure that runs for a call has been left.

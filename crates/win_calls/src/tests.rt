@@ -156,11 +156,29 @@ fn destroys_a_window_with_a_child(rt: HostRuntime) -> Result<(), Fail> {
     Ok(())
 }
 
+/// A window that is destroyed, one that is gone, and one that goes to another thread meanwhile.
 #[test]
 fn closes_by_default(rt: HostRuntime) -> Result<(), Fail> {
     let wanted = [
         (answered(Answer::Okay), make(Call::Unmake(16))),
         (answered(Answer::Gone), done(0, 0)),
+    ];
+    asks(
+        &rt,
+        Compound::Default(16, 16, 0, 0),
+        make(Call::Doom(16)),
+        &wanted,
+    );
+    let wanted = [(refused(1400), done(0, 1400))];
+    asks(
+        &rt,
+        Compound::Default(16, 16, 0, 0),
+        make(Call::Doom(16)),
+        &wanted,
+    );
+    let wanted = [
+        (answered(Answer::Okay), make(Call::Unmake(16))),
+        (refused(5), done(0, 5)),
     ];
     asks(
         &rt,

@@ -4,7 +4,7 @@ ghost use Rattle.std.specs.Prelude.{◌≡◌, ◌<◌, ◌^◌, ◌++◌, ◌�
 ghost use Rattle.user_model.specs.Stacks.{waits as waits_of};
 ghost use Rattle.script_tree.specs.Tree.{Tree};
 ghost use Rattle.script_tree.specs.Pieces.{Piece, Leaving, Restore, Returning};
-ghost use Rattle.script_tree.specs.Steps.{follows, following, answered as answered_by, parameters_of, result_of as result_by};
+ghost use Rattle.script_tree.specs.Steps.{follows, following, answered as answered_by, parameters_of};
 ghost use Rattle.script_tree.specs.declared.variables.Variables.{Variables};
 ghost use Rattle.script_tree.specs.declared.variables.Parameters.{Parameters};
 ghost use Rattle.script_tree.specs.declared.frame.Run.{Run};
@@ -15,6 +15,7 @@ ghost use Rattle.win_calls.specs.States.{IsTurn, IsSentTo, EntersNot, Accepts, A
 use crate::compound::Next;
 use crate::ends::{asks, gives};
 use crate::stage::{Stage, Step, Then, Turn};
+use script_tree::result_of;
 use user_model::{Answer, Call};
 use win_num::Hwnd;
 
@@ -23,16 +24,6 @@ fn narrowed(number: u64) -> u32
     ensures { number < 2 ^ 32 → result ≡ number }
 {
     u32::try_from(number).unwrap_or(0)
-}
-
-fn result_of(answer: &Answer) -> u64
-    ensures { result ≡ result_by answer.now }
-{
-    match answer {
-        Answer::Value(value) => *value,
-        Answer::Done { result, .. } => *result,
-        _ => 0,
-    }
 }
 
 fn waits(call: &Call) -> bool

@@ -1,29 +1,34 @@
-use Rattle.std.proofs.Common.{sym, ap, ◌∙◌}
-use Rattle.win_calls.specs.declared.compound.Next.TheVariants.{Make}
-use Rattle.win_calls.specs.declared.stage.Stage.TheVariants.{Asked}
-use Rattle.win_calls.specs.declared.stage.Step.{Step}
-use Rattle.win_calls.specs.declared.stage.Turn.{Turn}
-use Rattle.win_calls.proofs.TurnLaws.{carry, begins_call, begins_create, begins_destroy, begins_close, begins_alone, call_suits, alone_leads}
+use Rattle.std.proofs.Common.{[], ◌∷◌, refl, sym, ap, ◌∙◌, arith}
+use Rattle.script_tree.specs.Compounds.{creation, destruction}
+use Rattle.script_tree.specs.Pieces.{Settle}
+use Rattle.script_tree.specs.Steps.{begun_over, default_pieces, parameters_from}
+use Rattle.win_calls.specs.Table.{begun, first_call}
+use Rattle.win_calls.proofs.TurnLaws.{plain, call_suits, begins_leads, default_leads, alone_leads}
 use Rattle.win_calls.proofs.ends.begins.Goals as goal
 
 pub returns-in-Create-clause-follows : goal.returns-in-Create-clause-follows
 returns-in-Create-clause-follows c s n v =
-    let step : Turn → Step = λ t. record { stage = Asked t; next = Make t.call } in
-    let f = c.first_call-call.ensures in
-    carry s n _ _ _ _ c.asks.result (c.asks.ensures.step ∙ ap step c.first.ensures) (begins_call s n c.args.compound _ v (begins_create c.args.compound _ c.in-Create.is f) (call_suits c.args.compound _ _ _ f tt))
+    let call = c.first_call-call.result in
+    let f = sym (c.first_call-call.ensures ∙ ap first_call c.in-Create.is) in
+    begins_leads s n c.args.compound c.creation.result (creation call) call c.starts.result v (ap begun c.in-Create.is ∙ ap (λ x. begun_over (creation x) (Settle x ∷ [])) f) c.creation.ensures (call_suits c.args.compound call _ _ _ c.first_call-call.ensures tt (omega arith)) c.starts.ensures.step
 
 pub returns-in-Destroy-clause-follows : goal.returns-in-Destroy-clause-follows
 returns-in-Destroy-clause-follows c s n v =
-    let step : Turn → Step = λ t. record { stage = Asked t; next = Make t.call } in
-    let f = c.first_call-call.ensures in
-    carry s n _ _ _ _ c.asks-in-Destroy.result (c.asks-in-Destroy.ensures.step ∙ ap step c.first-in-Destroy.ensures) (begins_call s n c.args.compound _ v (begins_destroy c.args.compound _ c.in-Destroy.is f) (call_suits c.args.compound _ _ _ f tt))
+    let call = c.first_call-call.result in
+    let w = c.in-Destroy.window in
+    let f = sym (c.first_call-call.ensures ∙ ap first_call c.in-Destroy.is) in
+    begins_leads s n c.args.compound c.destruction.result (destruction w) call c.starts-in-Destroy.result v (ap begun c.in-Destroy.is ∙ ap (λ x. begun_over (destruction w) (Settle x ∷ [])) f) c.destruction.ensures (plain tt tt refl refl (omega arith)) c.starts-in-Destroy.ensures.step
 
-pub returns-then-closes-clause-follows : goal.returns-then-closes-clause-follows
-returns-then-closes-clause-follows c s n v =
-    let step : Turn → Step = λ t. record { stage = Asked t; next = Make t.call } in
-    let f = c.first_call-call.ensures in
-    carry s n _ _ _ _ c.asks-then-closes.result (c.asks-then-closes.ensures.step ∙ ap step c.first-then-closes.ensures) (begins_call s n c.args.compound _ v (begins_close c.args.compound _ _ c.in-Default.is f (sym c.closes.ensures ∙ c.if-closes.true) c.default_result-result.ensures) (call_suits c.args.compound _ _ _ f tt))
+pub returns-in-None-clause-follows : goal.returns-in-None-clause-follows
+returns-in-None-clause-follows c s n v =
+    let call = c.first_call-call.result in
+    let p = parameters_from c.in-Default.hwnd c.in-Default.number c.in-Default.wparam c.in-Default.lparam in
+    let f = sym (c.first_call-call.ensures ∙ ap first_call c.in-Default.is) in
+    alone_leads s n c.args.compound p c.default_result-result.result call c.over.result v (ap begun c.in-Default.is ∙ ap (λ x. default_pieces p (Settle x ∷ [])) f) (sym c.in-None.is ∙ c.default_begin.ensures) c.default_result-result.ensures c.over.ensures.step
 
-pub returns-else-closes-clause-follows : goal.returns-else-closes-clause-follows
-returns-else-closes-clause-follows c s n v =
-    carry s n _ _ _ _ c.over.result c.over.ensures.step (alone_leads s n c.args.compound _ v (begins_alone c.args.compound _ c.in-Default.is (sym c.closes.ensures ∙ c.if-closes.false) c.default_result-result.ensures))
+pub returns-in-Some-clause-follows : goal.returns-in-Some-clause-follows
+returns-in-Some-clause-follows c s n v =
+    let call = c.first_call-call.result in
+    let p = parameters_from c.in-Default.hwnd c.in-Default.number c.in-Default.wparam c.in-Default.lparam in
+    let f = sym (c.first_call-call.ensures ∙ ap first_call c.in-Default.is) in
+    default_leads s n c.args.compound p c.in-Some.begin c.default_result-result.result call c.starts-in-Some.result v (ap begun c.in-Default.is ∙ ap (λ x. default_pieces p (Settle x ∷ [])) f) (sym c.in-Some.is ∙ c.default_begin.ensures) c.default_result-result.ensures c.starts-in-Some.ensures.step
