@@ -3,7 +3,7 @@ use Rattle.std.specs.Prelude.{ℕ, true, ◌==◌, if◌then◌else◌, List, []
 use Rattle.win_num.specs.declared.message.Msg.{Msg}
 use Rattle.post_queue.specs.Queue.{Posted, Queue, queue, post_of, without_number, without_window}
 use Rattle.user_model.specs.declared.call.Call.{Call}
-use Rattle.user_model.specs.declared.call.Call.TheVariants.{Post, PostThread, PostQuit, Drop}
+use Rattle.user_model.specs.declared.call.Call.TheVariants.{PostQuit, Drop}
 use Rattle.user_model.specs.declared.entry.Answer.{Answer}
 use Rattle.user_model.specs.declared.entry.Answer.TheVariants.{Okay, Ended, Posted as PostMade, Got, Advanced, Value}
 use Rattle.user_model.specs.declared.entry.Origin.TheVariants.{Posted as FromPosted, Quit as FromQuit}
@@ -12,7 +12,7 @@ use Rattle.user_model.specs.Past.{Past}
 use Rattle.user_model.specs.Places.{clock, cursor}
 use Rattle.user_model.specs.Windows.{live, is_kin}
 use Rattle.user_model.specs.Retrievals.{removes}
-use Rattle.user_model.specs.Posts.{message, queue_of}
+use Rattle.user_model.specs.Posts.{message, queue_of, Posting, to_window, to_thread, posting_of}
 use Rattle.thread_state.specs.Threads.{ThreadView, waiting_with}
 
 -- a change at one thread: a post under its number, a post taken out, quit with a code or taken back, the messages of
@@ -33,10 +33,15 @@ kin_of past v = map (λ x. x.number) (filter (λ x. is_kin (live past) v x.numbe
 abbrev pub taken_if : Call → Change → Change
 taken_if call change = if removes call then change else none
 
+-- the change of a post
+abbrev pub change_by_post : Past → ℕ → ℕ → Option Posting → Change
+change_by_post past who k (Some (to_window w number wparam lparam)) = posts (queue_of past who w) k (message w number wparam lparam (clock past) (cursor past))
+change_by_post past who k (Some (to_thread to number wparam lparam)) = posts to k (message 0 number wparam lparam (clock past) (cursor past))
+change_by_post past who k None = none
+
 -- what an answer to a call of who changes
 abbrev pub change_by : Past → ℕ → Answer → Call → Change
-change_by past who (PostMade k) (Post w number wparam lparam) = posts (queue_of past who w) k (message w number wparam lparam (clock past) (cursor past))
-change_by past who (PostMade k) (PostThread to number wparam lparam) = posts to k (message 0 number wparam lparam (clock past) (cursor past))
+change_by past who (PostMade k) call = change_by_post past who k (posting_of call)
 change_by past who (Got FromPosted n m) call = taken_if call (takes who n)
 change_by past who (Got FromQuit n m) call = taken_if call (quits who None)
 change_by past who Okay (PostQuit code) = quits who (Some code)

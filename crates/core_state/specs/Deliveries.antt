@@ -6,26 +6,34 @@ use Rattle.win_tree.specs.declared.window.Window.{Window}
 use Rattle.win_tree.specs.Windows.{is_live, window_of}
 use Rattle.win_tree.specs.Kin.{is_kin}
 use Rattle.user_model.specs.declared.call.Call.{Call}
-use Rattle.user_model.specs.declared.call.Call.TheVariants.{Post, PostThread, PostQuit, Drop}
+use Rattle.user_model.specs.declared.call.Call.TheVariants.{PostQuit, Drop}
 use Rattle.user_model.specs.declared.entry.Answer.{Answer}
 use Rattle.user_model.specs.declared.entry.Answer.TheVariants.{Okay, Ended, Posted as PostMade, Got}
 use Rattle.user_model.specs.declared.entry.Origin.{Origin}
 use Rattle.user_model.specs.declared.entry.Origin.TheVariants.{Posted as FromPosted, Quit as FromQuit}
-use Rattle.user_model.specs.Posts.{message}
+use Rattle.user_model.specs.Posts.{message, Posting, to_window, to_thread, posting_of}
 use Rattle.window_state.specs.Trees.{thread_in}
 use Rattle.core_state.specs.Changes.{Change, posts, takes, quits, purges, ends, none, taken_if}
 
--- the thread that a call posts to, and the message, which carries the time and the cursor
+-- the thread that is posted to, and the message, which carries the time and the cursor
+abbrev pub posting_in : List Window → ℕ → Point → ℕ → Option Posting → Option (ℕ × Msg)
+posting_in ws time point who (Some (to_window w number wparam lparam)) = Some ((if w == 0 then who else thread_in ws w), message w number wparam lparam time point)
+posting_in ws time point who (Some (to_thread to number wparam lparam)) = Some (to, message 0 number wparam lparam time point)
+posting_in ws time point who None = None
+
+-- the same of a call
 abbrev pub posting : List Window → ℕ → Point → ℕ → Call → Option (ℕ × Msg)
-posting ws time point who (Post w number wparam lparam) = Some ((if w == 0 then who else thread_in ws w), message w number wparam lparam time point)
-posting ws time point who (PostThread to number wparam lparam) = Some (to, message 0 number wparam lparam time point)
-posting ws time point who _ = None
+posting ws time point who call = posting_in ws time point who (posting_of call)
 
 -- a posted number is a message's, and a window that is posted to is live
+abbrev pub FitsPostIn : List Window → Option Posting → Type 0
+FitsPostIn ws (Some (to_window w number wparam lparam)) = IsTrue ((w == 0) || is_live ws w) × (number ≤ 65535)
+FitsPostIn ws (Some (to_thread to number wparam lparam)) = number ≤ 65535
+FitsPostIn ws None = Unit {0}
+
+-- the same of a call
 abbrev pub FitsPost : List Window → Call → Type 0
-FitsPost ws (Post w number wparam lparam) = IsTrue ((w == 0) || is_live ws w) × (number ≤ 65535)
-FitsPost ws (PostThread to number wparam lparam) = number ≤ 65535
-FitsPost ws _ = Unit {0}
+FitsPost ws call = FitsPostIn ws (posting_of call)
 
 -- the numbers of the windows that go with v
 abbrev pub kin_in : List Window → ℕ → List ℕ

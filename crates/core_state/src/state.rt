@@ -29,9 +29,7 @@ use crate::change::{grow, settle};
 use crate::delivery::Stamp;
 use crate::queues::{count_after, note_entry, time_after};
 use crate::sendings::settle_sends;
-use send_state::{
-    SendRow, SendState, Tally, add_story, first_cause, named_send, note_answer,
-};
+use send_state::{SendRow, SendState, Tally, add_story, first_cause, named_send, note_answer};
 use std::alloc::{AllocError, Global};
 use std::marker::Model;
 use thread_state::ThreadState;

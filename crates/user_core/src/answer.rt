@@ -8,6 +8,7 @@ ghost use Rattle.win_num.specs.declared.code.Code.TheVariants.{Full};
 ghost use Rattle.user_model.specs.Refusals.{refuse};
 ghost use Rattle.user_model.specs.Idle.{is_wait, is_idle, is_barred, first_busy, have_all_ended, clock_row, reply};
 
+use crate::actor::{Actor, actor};
 use crate::clock::{advanced, sleep_until_answer, soonest, tick_answer};
 use crate::windows::{
     Edges, Making, doom_answer, drop_answer, is_window_answer, new_window_answer, next_top_answer,
@@ -165,9 +166,16 @@ pub fn answer(state: &CoreState, who: Thread, call: Call) -> Answer
     requires no_delivery { is_delivery call ≡ false }
     ensures { result ≡ reply state.now.setup state.now.past who.0 call }
 {
-    if who.0 != 0 {
-        return own_answer(state, who, call);
+    match actor(who) {
+        Actor::Numbered(_) => own_answer(state, who, call),
+        Actor::Clock => clock_told(state, call),
     }
+}
+
+/// The answer to the clock.
+fn clock_told(state: &CoreState, call: Call) -> Answer
+    ensures { result ≡ refuse (is_full state.now.past) Full (clock_row state.now.setup state.now.past call) }
+{
     if state.is_full() {
         return Answer::Refused(Code::Full);
     }

@@ -4,14 +4,15 @@
 //! those of time, `answer` who has no call to make. `User` joins them with the state.
 #![tactic(auto)]
 
+mod actor;
 mod answer;
 mod clock;
 mod codes;
 mod user;
 mod windows;
 
-pub use user_model::SendStory;
 pub use user::User;
+pub use user_model::SendStory;
 
 #[cfg(test)]
 mod send_tests;

@@ -6,6 +6,7 @@ ghost use Rattle.user_model.specs.Idle.{have_all_ended};
 ghost use Rattle.user_model.specs.Legal.{IsLegal};
 ghost use Rattle.user_model.specs.Setups.{IsSetup};
 
+use crate::actor::{Actor, actor};
 use crate::answer::{answer, have_all_ended, is_barred, is_clock_barred};
 use core_deliver::{deliver, is_delivery, is_retrieval, retrieve};
 use core_state::CoreState;
@@ -83,10 +84,10 @@ impl Machine for User {
     }
 
     fn barred(&self, who: Thread) -> bool {
-        if who.0 == 0 {
-            return is_clock_barred(&self.state);
+        match actor(who) {
+            Actor::Clock => is_clock_barred(&self.state),
+            Actor::Numbered(number) => is_barred(&self.state, number),
         }
-        is_barred(&self.state, who.0)
     }
 
     fn history(&self) -> &[Entry] {

@@ -6,7 +6,7 @@ use Rattle.std.proofs.lemmas.Bool.{eqb-true, false≢true}
 use Rattle.std.proofs.lemmas.Bool.Decides.{nat_tests}
 use Rattle.win_num.specs.declared.message.Msg.{Msg}
 use Rattle.user_model.specs.declared.call.Call.{Call}
-use Rattle.user_model.specs.declared.call.Call.TheVariants.{Post, PostThread, Drop}
+use Rattle.user_model.specs.declared.call.Call.TheVariants.{Drop}
 use Rattle.user_model.specs.declared.entry.Answer.{Answer}
 use Rattle.user_model.specs.declared.entry.Answer.TheVariants as answers
 use Rattle.user_model.specs.declared.entry.Entry.{Entry}
@@ -16,7 +16,7 @@ use Rattle.user_model.specs.Places.{clock, cursor, is_end, ends_thread}
 use Rattle.user_model.specs.Threads.{is_running}
 use Rattle.user_model.specs.Windows.{Window, live, window, drops, drops_kin, drops_window}
 use Rattle.user_model.specs.Retrievals.{takes_post}
-use Rattle.user_model.specs.Posts.{PostedMsg, message, post_after, posts, posts_by, posts_to, message_to, queue_of, ends_post, posted}
+use Rattle.user_model.specs.Posts.{PostedMsg, Posting, to_window, to_thread, posting_of, message, post_after, posts, posts_by, posts_to, message_to, queue_of, ends_post, posted}
 use Rattle.user_model.specs.ReplyDelivery.{next_post_number}
 use Rattle.user_model.specs.Idle.{reply}
 use Rattle.user_model.specs.Legal.{IsLawful}
@@ -53,10 +53,14 @@ number_told setup past who call k e = post_told setup past who call k (by_row se
 -- ---- whose a post is
 
 -- the thread that post k went to, where the entry made it
+abbrev pub recipient_in : ℕ → ℕ → Option Posting → Past → ℕ → ℕ → ℕ
+recipient_in who n (Some (to_window w m p q)) past k old = cond (eqb k n) (queue_of past who w) old
+recipient_in who n (Some (to_thread to m p q)) past k old = cond (eqb k n) to old
+recipient_in who n None past k old = old
+
 abbrev pub recipient_by : ℕ → Answer → Call → Past → ℕ → ℕ → ℕ
-recipient_by who (answers.Posted n) (Post w m p q) past k old = cond (eqb k n) (queue_of past who w) old
-recipient_by who (answers.Posted n) (PostThread to m p q) past k old = cond (eqb k n) to old
-recipient_by who _ _ past k old = old
+recipient_by who (answers.Posted n) call past k old = recipient_in who n (posting_of call) past k old
+recipient_by who _ call past k old = old
 
 abbrev pub recipient : Past → ℕ → ℕ
 recipient [] k = 0

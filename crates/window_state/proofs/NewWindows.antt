@@ -82,8 +82,8 @@ old_looks : (past : Past) (t : Windows) (who : Thread) (name title parent style 
 old_looks past t who name title parent style ex l top r b w low number looks =
     let e = entry_of who (calls.NewWindow name title parent style ex l top r b) (answers.Window w) in
     all_weaker (λ x. (x.number.0 ≤ t.last) × HasLooks past x) (HasLooks (e ∷ past)) (λ x both.
-        let other : eqb w.0 x.number.0 ≡ false = (let h = both.0 in grind (arith, nat_tests, h, number)) in
-        looks_same past (e ∷ past) x (looks-same e past x.number.0 (sets_other x.number.0 w name title parent style ex l top r b other)) both.1)
+    let other : eqb w.0 x.number.0 ≡ false = (let h = both.0 in grind (arith, nat_tests, h, number)) in
+    looks_same past (e ∷ past) x (looks-same e past x.number.0 (sets_other x.number.0 w name title parent style ex l top r b other)) both.1)
     t.live (all_both (λ x. x.number.0 ≤ t.last) (HasLooks past) t.live low looks)
 
 -- a window is made
