@@ -1,2 +1,4 @@
 pub mod Logs
 pub mod Seats
+pub mod Waits
+pub mod Tellers

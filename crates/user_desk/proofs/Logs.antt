@@ -3,7 +3,7 @@ use Rattle.std.proofs.Common.{◌≡◌, ◌≤◌, ◌<◌, ◌+◌, ℕ, Bool,
 use Rattle.std.specs.Prelude.{nat_le, if◌then◌else◌, Result, Ok, Err, IfOk, OnOk, OnErr, MatchBool}
 use Rattle.std.specs.declared.alloc.AllocError.{AllocError}
 use Rattle.std.proofs.lemmas.Bool.Decides.{nat_tests}
-use Rattle.std.proofs.lemmas.List.{length-append, length-map, length-reverse, map-append, reverse-append, reverse-reverse}
+use Rattle.std.proofs.lemmas.List.{length-reverse, map-append, reverse-append, reverse-reverse}
 use Rattle.win_num.specs.declared.message.Thread.{Thread}
 use Rattle.user_model.specs.declared.call.Call.{Call}
 use Rattle.user_model.specs.declared.entry.Answer.{Answer}
@@ -63,8 +63,10 @@ legal_step setup past who call legal = by_room (is_full past) refl
   where
     before : (length past ≤ 2097152) × IsLawful setup past
     before = legal_past setup past legal
+
     at : Bool → Past
     at full = if full then past else entry_by setup past who call ∷ past
+
     by_room : (full : Bool) → is_full past ≡ full → IsLegalLog setup (said_in (after setup past who call))
     by_room true is = subst (λ f. IsLegalLog setup (said_in (at f))) (sym is) legal
     by_room false is = subst (λ f. IsLegalLog setup (said_in (at f))) (sym is) (legal_log setup (entry_by setup past who call ∷ past) (omega (arith, has_room (length past) is)) (before.1, refl))
@@ -76,10 +78,13 @@ step_answered setup past now who call a answer step = by_room (is_full past) ref
   where
     Answered : Bool → Type 0
     Answered full = MatchBool full ((said_in now ≡ said_in past) × (a ≡ reply_after setup (said_in past) (who, call))) (said_in now ≡ said_in past ++ ((who, call), a) ∷ [])
+
     at : Bool → Past
     at full = if full then past else entry_by setup past who call ∷ past
+
     same : is_full_of (said_in past) ≡ is_full past
     same = ap is_full (past-said past)
+
     by_room : (full : Bool) → is_full past ≡ full → Answered (is_full_of (said_in past))
     by_room true is = subst Answered (sym (same ∙ is)) (ap said_in (step ∙ ap at is), answer ∙ ap (λ p. reply setup p who.0 call) (sym (past-said past)))
     by_room false is =

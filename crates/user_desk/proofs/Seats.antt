@@ -1,5 +1,5 @@
 -- What a turn of the lock says of a seat of a desk.
-use Rattle.std.proofs.Common.{◌≡◌, ◌⊎◌, inl, inr, ◌≤◌, ℕ, ◌+◌, Bool, true, false, cond, eqb, List, [], ◌∷◌, ◌++◌, length, map, reverse, filter, refl, sym, ap, ◌∙◌, subst, arith}
+use Rattle.std.proofs.Common.{◌≡◌, ◌⊎◌, inl, inr, ℕ, ◌+◌, Bool, true, false, cond, eqb, List, [], ◌∷◌, ◌++◌, length, map, refl, sym, ap, ◌∙◌, subst, arith}
 use Rattle.std.specs.Prelude.{◌<◌, Option, Some, None, Result, Ok, Err, IfOk, MatchOption, All}
 use Rattle.std.specs.declared.alloc.AllocError.{AllocError}
 use Rattle.std.proofs.lemmas.List.{append-nil, length-reverse, reverse-append}
@@ -9,7 +9,6 @@ use Rattle.win_num.specs.declared.code.Code.TheVariants.{Full}
 use Rattle.user_model.specs.declared.call.Call.{Call}
 use Rattle.user_model.specs.declared.entry.Answer.{Answer}
 use Rattle.user_model.specs.declared.entry.Answer.TheVariants.{Refused}
-use Rattle.user_model.specs.declared.entry.Entry.{Entry}
 use Rattle.user_model.specs.declared.entry.Setup.{Setup}
 use Rattle.user_model.specs.Past.{Past, is_full}
 use Rattle.user_model.specs.Places.{mine as entries_of}
@@ -73,7 +72,7 @@ made setup opening old new call answer before has begins room seen mine = record
     newest = ap past_of seen ∙ past-append before _
 
 -- a full history answers that it is full
-refused_full : (setup : Setup) (past : Past) (who : ℕ) (call : Call) → is_full past ≡ true → reply setup past who call ≡ Refused Full
+pub refused_full : (setup : Setup) (past : Past) (who : ℕ) (call : Call) → is_full past ≡ true → reply setup past who call ≡ Refused Full
 unfolding reply
 refused_full setup past who call full = rw full refl
 
@@ -90,7 +89,7 @@ module _ {S : Type 0} (setup : S → Setup) (past : S → Past) (o : S) where
   -- what a call of the lock came to
   pub came_to : (old new : Sitting S (Thread × Call) Answer) (who : Thread) (call : Call) → who ≡ thread new.number → (answer : Answer) → HasLooked (setup o) (past o) old new
       → Adds (λ s. said_in (past s)) setup (λ g h. is_full_of h ≡ false) o old new ((who, call), answer)
-          ⊎ Finds (λ s. said_in (past s)) setup (λ g h. (is_full_of h ≡ true) × (answer ≡ reply_after g h (who, call))) o old new
+      ⊎ Finds (λ s. said_in (past s)) setup (λ g h. (is_full_of h ≡ true) × (answer ≡ reply_after g h (who, call))) o old new
       → CameTo (setup o) (past o) old new call answer
   came_to old new who call is answer has (inl adds) = inl (made (setup o) (past o) old new call answer adds.0 has adds.1 adds.2 (adds.3 ∙ ap (λ w. adds.0 ++ ((w, call), answer) ∷ []) is) (adds.4 ∙ ap (λ w. old.mine ++ ((w, call), answer) ∷ []) is))
   came_to old new who call is answer has (inr finds) =
@@ -99,7 +98,7 @@ module _ {S : Type 0} (setup : S → Setup) (past : S → Past) (o : S) where
   -- and where there is an answer
   pub if_came_to : (old new : Sitting S (Thread × Call) Answer) (who : Thread) (call : Call) → who ≡ thread new.number → HasLooked (setup o) (past o) old new → (r : Result Answer AllocError)
       → IfOk r (λ answer. Adds (λ s. said_in (past s)) setup (λ g h. is_full_of h ≡ false) o old new ((who, call), answer)
-          ⊎ Finds (λ s. said_in (past s)) setup (λ g h. (is_full_of h ≡ true) × (answer ≡ reply_after g h (who, call))) o old new)
+      ⊎ Finds (λ s. said_in (past s)) setup (λ g h. (is_full_of h ≡ true) × (answer ≡ reply_after g h (who, call))) o old new)
       → IfOk r (λ answer. CameTo (setup o) (past o) old new call answer)
   if_came_to old new who call is has (Ok answer) did = came_to old new who call is answer has did
   if_came_to old new who call is has (Err e) did = tt
@@ -107,18 +106,22 @@ module _ {S : Type 0} (setup : S → Setup) (past : S → Past) (o : S) where
   -- what a turn of the lock came to, whose call was made or not
   pub turn_came_to : (old new : Sitting S (Thread × Call) Answer) (who : Thread) (call : Call) → who ≡ thread new.number → HasLooked (setup o) (past o) old new → (r : Option Answer)
       → MatchOption r
-          (Finds (λ s. said_in (past s)) setup (λ g h. is_barred_after g h (who, call) ≡ true) o old new)
-          (λ a. Adds (λ s. said_in (past s)) setup (λ g h. (is_full_of h ≡ false) × (is_barred_after g h (who, call) ≡ false)) o old new ((who, call), a)
-              ⊎ Finds (λ s. said_in (past s)) setup (λ g h. (is_full_of h ≡ true) × (is_barred_after g h (who, call) ≡ false) × (a ≡ reply_after g h (who, call))) o old new)
+      (Finds (λ s. said_in (past s)) setup (λ g h. is_barred_after g h (who, call) ≡ true) o old new)
+      (λ a. Adds (λ s. said_in (past s)) setup (λ g h. (is_full_of h ≡ false) × (is_barred_after g h (who, call) ≡ false)) o old new ((who, call), a)
+      ⊎ Finds (λ s. said_in (past s)) setup (λ g h. (is_full_of h ≡ true) × (is_barred_after g h (who, call) ≡ false) × (a ≡ reply_after g h (who, call))) o old new)
       → TurnCameTo (setup o) (past o) old new call (told_of r)
   unfolding made
   turn_came_to old new who call is has None finds = (ap (λ (p : Past). is_barred (setup o) p new.number) (sym (whole (past o) new.seen)) ∙ ap (λ (w : Thread). is_barred_after (setup o) (said_in (past o) ++ new.seen) (w, call)) (sym is) ∙ finds.0, ap past_of finds.1)
   turn_came_to old new who call is has (Some a) (inl adds) =
-      inl (made (setup o) (past o) old new call a adds.0 has adds.1 adds.2.0 (adds.3 ∙ ap (λ w. adds.0 ++ ((w, call), a) ∷ []) is) (adds.4 ∙ ap (λ w. old.mine ++ ((w, call), a) ∷ []) is),
-        ap (λ (p : Past). is_barred (setup o) p new.number) (sym (whole (past o) adds.0)) ∙ ap (λ (w : Thread). is_barred_after (setup o) (said_in (past o) ++ adds.0) (w, call)) (sym is) ∙ adds.2.1)
+      inl (
+        made (setup o) (past o) old new call a adds.0 has adds.1 adds.2.0 (adds.3 ∙ ap (λ w. adds.0 ++ ((w, call), a) ∷ []) is) (adds.4 ∙ ap (λ w. old.mine ++ ((w, call), a) ∷ []) is),
+        ap (λ (p : Past). is_barred (setup o) p new.number) (sym (whole (past o) adds.0)) ∙ ap (λ (w : Thread). is_barred_after (setup o) (said_in (past o) ++ adds.0) (w, call)) (sym is) ∙ adds.2.1,
+      )
   turn_came_to old new who call is has (Some a) (inr finds) =
-      inr (found_full (setup o) (past o) old new call a finds.0.0 (finds.0.2 ∙ ap (λ w. reply_after (setup o) (said_in (past o) ++ new.seen) (w, call)) is) finds.1,
-        ap (λ (p : Past). is_barred (setup o) p new.number) (sym (whole (past o) new.seen)) ∙ ap (λ (w : Thread). is_barred_after (setup o) (said_in (past o) ++ new.seen) (w, call)) (sym is) ∙ finds.0.1)
+      inr (
+        found_full (setup o) (past o) old new call a finds.0.0 (finds.0.2 ∙ ap (λ w. reply_after (setup o) (said_in (past o) ++ new.seen) (w, call)) is) finds.1,
+        ap (λ (p : Past). is_barred (setup o) p new.number) (sym (whole (past o) new.seen)) ∙ ap (λ (w : Thread). is_barred_after (setup o) (said_in (past o) ++ new.seen) (w, call)) (sym is) ∙ finds.0.1,
+      )
 
 -- the actors of a log are those of its past
 pub all_known : (count : ℕ) (log : List Said) → All (λ x. actor x.0 < count) log → All (λ e. e.who.0 < count) (past_of log)

@@ -5,7 +5,6 @@ use Rattle.win_num.specs.declared.code.Code.TheVariants.{Full}
 use Rattle.user_model.specs.declared.call.Call.{Call}
 use Rattle.user_model.specs.declared.entry.Answer.{Answer}
 use Rattle.user_model.specs.declared.entry.Answer.TheVariants.{Wait, Refused}
-use Rattle.user_model.specs.declared.entry.Entry.{Entry}
 use Rattle.user_model.specs.declared.entry.Setup.{Setup}
 use Rattle.user_model.specs.declared.teller.Told.{Told}
 use Rattle.user_model.specs.declared.teller.Told.TheVariants.{Answered, Barred}

@@ -1,3 +1,4 @@
 pub mod Journal
 pub mod Beginnings
 pub mod Desks
+pub mod Tellers

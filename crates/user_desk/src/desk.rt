@@ -3,7 +3,7 @@
 ghost use Rattle.std.specs.Prelude.{◌≡◌, ◌+◌, ◌<◌, ◌≤◌, length, All, IfOk, IfErr, OnErr};
 ghost use Rattle.user_model.specs.Legal.{IsLawful};
 ghost use Rattle.turn_lock.specs.Seats.{IsSameSeat, HasAllSeats, new_seats};
-ghost use Rattle.user_desk.specs.Desks.{IsDeskSeat, HasLooked, CameTo, TurnCameTo, HasClosed, made_by, told_of};
+ghost use Rattle.user_desk.specs.Desks.{IsDeskSeat, HasLooked, CameTo, TurnCameTo, CameToAtLast, MayHaveWaited, Remembers, HasClosed, made_by, told_of};
 
 use crate::shared::Shared;
 use std::alloc::{AllocError, Global};
@@ -11,7 +11,7 @@ use std::marker::Model;
 use std::sync::Wait;
 use turn_lock::{TurnLock, TurnSeat};
 use user_model::{Answer, Call, Machine, Told};
-use win_num::Thread;
+use win_num::{Filter, SendId, Thread};
 
 /// A seat of a desk: its number is that of the actor whose calls it makes, 0 for the clock and 1 to 15 for threads.
 pub type DeskSeat<M> = TurnSeat<Shared<M>>;
@@ -99,6 +99,126 @@ impl<M: Machine> Desk<M> {
         let who = Thread(seat.number() as u8);
         let answer = lock.run_if(rt, seat, (who, call))?;
         Ok(told(answer))
+    }
+
+    /// Takes the next message that the filter lets pass, and waits for one (Microsoft, GetMessage function). An
+    /// `enter` or a `callback` is answered to the caller, who runs that procedure and then calls `leave`.
+    pub fn get_message<R: Wait>(
+        &self,
+        rt: &R,
+        seat: &mut DeskSeat<M>,
+        filter: Filter,
+    ) -> Result<Answer, AllocError>
+        requires { IsDeskSeat self.now seat.old }
+        ensures same { IsSameSeat seat.old seat.new }
+        ensures remembers { Remembers (M.setup self.now.opening.machine) (M.past self.now.opening.machine) seat.old seat.new }
+        ensures came_to { IfOk result (λ answer. CameToAtLast (M.setup self.now.opening.machine) (M.past self.now.opening.machine) seat.old seat.new (Call.Get filter.hwnd filter.min filter.max) answer) }
+        ensures no_memory { OnErr result (MayHaveWaited seat.old seat.new (Call.Get filter.hwnd filter.min filter.max)) }
+    {
+        self.until_answered(rt, seat, Call::Get(filter.hwnd, filter.min, filter.max))
+    }
+
+    /// Waits for the answer of a send (Microsoft, SendMessage function). An `enter` or a `callback` is answered to
+    /// the caller, who runs that procedure, calls `leave`, and then waits on.
+    pub fn await_send<R: Wait>(
+        &self,
+        rt: &R,
+        seat: &mut DeskSeat<M>,
+        send: SendId,
+    ) -> Result<Answer, AllocError>
+        requires { IsDeskSeat self.now seat.old }
+        ensures same { IsSameSeat seat.old seat.new }
+        ensures remembers { Remembers (M.setup self.now.opening.machine) (M.past self.now.opening.machine) seat.old seat.new }
+        ensures came_to { IfOk result (λ answer. CameToAtLast (M.setup self.now.opening.machine) (M.past self.now.opening.machine) seat.old seat.new (Call.Await send.0) answer) }
+        ensures no_memory { OnErr result (MayHaveWaited seat.old seat.new (Call.Await send.0)) }
+    {
+        self.until_answered(rt, seat, Call::Await(u64::from(send.0)))
+    }
+
+    /// Makes the call, and where it waits tries it again until it waits no more.
+    fn until_answered<R: Wait>(
+        &self,
+        rt: &R,
+        seat: &mut DeskSeat<M>,
+        call: Call,
+    ) -> Result<Answer, AllocError>
+        requires { IsDeskSeat self.now seat.old }
+        ensures same { IsSameSeat seat.old seat.new }
+        ensures remembers { Remembers (M.setup self.now.opening.machine) (M.past self.now.opening.machine) seat.old seat.new }
+        ensures came_to { IfOk result (λ answer. CameToAtLast (M.setup self.now.opening.machine) (M.past self.now.opening.machine) seat.old seat.new call answer) }
+        ensures no_memory { OnErr result (MayHaveWaited seat.old seat.new call) }
+    {
+        let first = self.call(rt, seat, call)?;
+        if !matches!(first, Answer::Wait) {
+            return Ok(first);
+        }
+        for _ in rt.forever() {
+            if let Told::Answered(answer) = self.turn(rt, seat, call)? {
+                return Ok(answer);
+            }
+        }
+        unreachable!()
+    }
+
+    /// Looks for the next message that the filter lets pass, with flags of which bit 0 removes it (Microsoft,
+    /// PeekMessage function).
+    pub fn peek_message<R: Wait>(
+        &self,
+        rt: &R,
+        seat: &mut DeskSeat<M>,
+        filter: Filter,
+        flags: u64,
+    ) -> Result<Answer, AllocError>
+        requires { IsDeskSeat self.now seat.old }
+        ensures same { IsSameSeat seat.old seat.new }
+        ensures looked { HasLooked (M.setup self.now.opening.machine) (M.past self.now.opening.machine) seat.old seat.new }
+        ensures came_to { IfOk result (λ answer. CameTo (M.setup self.now.opening.machine) (M.past self.now.opening.machine) seat.old seat.new (Call.Peek filter.hwnd filter.min filter.max flags) answer) }
+        ensures no_memory { OnErr result (made_by seat.new ≡ made_by seat.old) }
+    {
+        self.call(
+            rt,
+            seat,
+            Call::Peek(filter.hwnd, filter.min, filter.max, flags),
+        )
+    }
+
+    /// Posts a message to a window, or for window 0 to the seat's thread (Microsoft, PostMessage function).
+    pub fn post_message<R: Wait>(
+        &self,
+        rt: &R,
+        seat: &mut DeskSeat<M>,
+        hwnd: u64,
+        number: u64,
+        wparam: u64,
+        lparam: u64,
+    ) -> Result<Answer, AllocError>
+        requires { IsDeskSeat self.now seat.old }
+        ensures same { IsSameSeat seat.old seat.new }
+        ensures looked { HasLooked (M.setup self.now.opening.machine) (M.past self.now.opening.machine) seat.old seat.new }
+        ensures came_to { IfOk result (λ answer. CameTo (M.setup self.now.opening.machine) (M.past self.now.opening.machine) seat.old seat.new (Call.Post hwnd number wparam lparam) answer) }
+        ensures no_memory { OnErr result (made_by seat.new ≡ made_by seat.old) }
+    {
+        self.call(rt, seat, Call::Post(hwnd, number, wparam, lparam))
+    }
+
+    /// Begins a send to a window: the call `send` alone, whose answer says whether the window's procedure runs at
+    /// once or `await_send` waits for its answer (Microsoft, SendMessage function).
+    pub fn send_message<R: Wait>(
+        &self,
+        rt: &R,
+        seat: &mut DeskSeat<M>,
+        hwnd: u64,
+        number: u64,
+        wparam: u64,
+        lparam: u64,
+    ) -> Result<Answer, AllocError>
+        requires { IsDeskSeat self.now seat.old }
+        ensures same { IsSameSeat seat.old seat.new }
+        ensures looked { HasLooked (M.setup self.now.opening.machine) (M.past self.now.opening.machine) seat.old seat.new }
+        ensures came_to { IfOk result (λ answer. CameTo (M.setup self.now.opening.machine) (M.past self.now.opening.machine) seat.old seat.new (Call.Send hwnd number wparam lparam) answer) }
+        ensures no_memory { OnErr result (made_by seat.new ≡ made_by seat.old) }
+    {
+        self.call(rt, seat, Call::Send(hwnd, number, wparam, lparam))
     }
 
     /// Gives the machine back, where all seats of the desk are given. Where one is missing, all come back untouched.

@@ -3,6 +3,8 @@
 
 mod desk;
 mod shared;
+mod teller;
 
 pub use desk::{Desk, DeskSeat};
 pub use shared::Shared;
+pub use teller::DeskTeller;
