@@ -5,6 +5,8 @@ pub mod Marking
 pub mod Numbers
 pub mod Ones
 pub mod Ordered
+pub mod Planned
+pub mod Planning
 pub mod Rising
 pub mod Searches
 pub mod Walks

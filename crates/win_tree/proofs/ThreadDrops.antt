@@ -8,14 +8,14 @@ use Rattle.win_tree.specs.Windows.{IsOrdered, number_of, window_of}
 use Rattle.win_tree.specs.Kin.{is_of_other, without_thread}
 
 -- numbers above this, each found among these
-abbrev IsFound : ℕ → List Window → Window → Type 0
+abbrev pub IsFound : ℕ → List Window → Window → Type 0
 IsFound from ws x = (from < x.number.0) × (window_of ws x.number.0 ≡ Some x)
 
 weaker : (P Q : Window → Type 0) → ((x : Window) → P x → Q x) → (us : List Window) → AllByRecursion P us → AllByRecursion Q us
 weaker P Q f [] h = tt
 weaker P Q f (x ∷ us) h = (f x h.0, weaker P Q f us h.1)
 
-all_found : (from last : ℕ) (ws : List Window) → IsOrdered from last ws → AllByRecursion (IsFound from ws) ws
+pub all_found : (from last : ℕ) (ws : List Window) → IsOrdered from last ws → AllByRecursion (IsFound from ws) ws
 all_found from last [] h = tt
 all_found from last (y ∷ ws) h = (
   (h.0, ap (λ b. cond b (Some y) (window_of ws y.number.0)) (eq-eqb y.number.0 y.number.0 refl)),

@@ -1,4 +1,5 @@
 pub mod Destruction
 pub mod Index
 pub mod Kin
+pub mod Plans
 pub mod Windows

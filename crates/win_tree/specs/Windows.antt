@@ -38,6 +38,10 @@ is_live ws w = is_some (window_of ws w)
 abbrev pub is_marked : List Window → ℕ → Bool
 is_marked ws w = unwrap_or (option_map (λ x. x.marked) (window_of ws w)) false
 
+-- whether the window is live and was told
+abbrev pub is_told : List Window → ℕ → Bool
+is_told ws w = unwrap_or (option_map (λ x. x.told) (window_of ws w)) false
+
 -- whether the window is live and got its last message
 abbrev pub is_ended : List Window → ℕ → Bool
 is_ended ws w = unwrap_or (option_map (λ x. x.ended) (window_of ws w)) false

@@ -4,6 +4,7 @@
 
 mod destruction;
 mod kin;
+mod plan;
 mod row;
 mod rows;
 #[cfg(test)]

@@ -4,10 +4,11 @@ ghost use Rattle.std.specs.Prelude.{◌≡◌, ◌+◌, ◌<◌, ◌++◌, ◌�
 ghost use Rattle.std.specs.List.{filter, list_any};
 ghost use Rattle.win_tree.specs.Windows.{IsOrdered, no_windows, number_of, window_of, is_live, is_marked, is_ended, told_if, ended_if, set_if, next_top, up, marked_if};
 ghost use Rattle.win_tree.specs.Kin.{IsFaultFor, is_bad, refusal, next_number, settled, with_window, doomed, doom_refusal, dropped, drop_refusal, is_below, is_alone, is_kin, is_of_other, without_thread, has_class};
-ghost use Rattle.win_tree.specs.Destruction.{unmade, given};
+ghost use Rattle.win_tree.specs.Destruction.{unmade, given, next_step};
 
 use crate::destruction::first_left;
 use crate::kin::{is_below, is_kin, top_of};
+use crate::plan::{Plan, begun, plan_of, planned, reached};
 use crate::row::{Unmade, WindowRow};
 use crate::rows::Rows;
 use crate::window::Window;
@@ -34,17 +35,19 @@ pub struct Tree {
     last: u32,
     rows: Rows,
     numbers: Vec<Hwnd>,
+    plans: Vec<Plan>,
 }
 
 impl Model for Tree {
     ghost use Rattle.std.specs.Prelude.{◌≡◌, map};
     ghost use Rattle.win_tree.specs.Windows.{IsOrdered, Windows, number_of};
+    ghost use Rattle.win_tree.specs.Plans.{EachPlan};
 
     ghost Value = { Windows };
 
     ghost view = { λ t. record { last = t.last; live = t.rows } };
 
-    ghost invariant = { λ t. (t.numbers.items ≡ map number_of t.rows) × IsOrdered 15 t.last t.rows };
+    ghost invariant = { λ t. (t.numbers.items ≡ map number_of t.rows) × IsOrdered 15 t.last t.rows × EachPlan t.rows t.plans.items };
 }
 
 impl Tree {
@@ -56,6 +59,7 @@ impl Tree {
             last: 15,
             rows: Rows::new(alloc),
             numbers: Vec::new(alloc),
+            plans: Vec::new(alloc),
         }
     }
 
@@ -109,6 +113,7 @@ impl Tree {
         self.rows.push(window)?;
         self.numbers.push(window.number).unwrap();
         self.last = window.number.0;
+        self.plans.clear();
         Ok(())
     }
 
@@ -145,6 +150,7 @@ impl Tree {
             _ => return Err(Code::Win(NO_SUCH_WINDOW)),
         }
         mark_kin(&mut self.rows, w);
+        self.plan(w);
         Ok(())
     }
 
@@ -157,9 +163,34 @@ impl Tree {
         ensures answer { result ≡ unmade self.old.live w.0 }
         ensures given { self.new ≡ record self.old { live = given result self.old.live } }
     {
+        self.plan(w);
         let step = self.next_step(w);
         give(&mut self.rows, step);
+        self.advance(w);
         step
+    }
+
+    /// Keeps the steps of a marked window's destruction, where there is memory for them. Without it each
+    /// step is searched for.
+    fn plan(&mut self, w: Hwnd)
+        ensures { self.new ≡ self.old }
+    {
+        if !self.marked(w) || plan_of(&self.plans, w).is_some() {
+            return;
+        }
+        if let Some(plan) = begun(*self.numbers.allocator(), &self.rows, w) {
+            let _kept = self.plans.push(plan);
+        }
+    }
+
+    /// Passes over the steps that were given.
+    fn advance(&mut self, w: Hwnd)
+        ensures { self.new ≡ self.old }
+    {
+        if let Some(i) = plan_of(&self.plans, w) {
+            let next = reached(&self.rows, &self.plans[i]);
+            self.plans[i].next = next;
+        }
     }
 
     /// What `unmake` would answer.
@@ -172,9 +203,9 @@ impl Tree {
         if !x.marked {
             return Unmade::NotDoomed;
         }
-        match first_left(&self.rows, x, self.rows.len()) {
-            Some(step) => step,
-            None => Unmade::Last(x.number),
+        match plan_of(&self.plans, w) {
+            Some(i) => planned(&self.rows, &self.plans[i]),
+            None => searched(&self.rows, x),
         }
     }
 
@@ -214,6 +245,7 @@ impl Tree {
         if let Some(i) = self.rows.place_of(w) {
             self.numbers.remove(i);
             self.rows.take_out(i);
+            self.plans.clear();
         }
     }
 
@@ -224,6 +256,7 @@ impl Tree {
         let rows = &self.rows;
         self.numbers.retain(|v| !is_kin(rows, w, *v));
         self.rows.keep(&self.numbers);
+        self.plans.clear();
     }
 
     /// Takes out all windows of a thread. Takes no memory.
@@ -233,6 +266,7 @@ impl Tree {
         let rows = &self.rows;
         self.numbers.retain(|w| is_of_other(rows, thread, *w));
         self.rows.keep(&self.numbers);
+        self.plans.clear();
     }
 
     /// Whether a live window has the class.
@@ -322,6 +356,16 @@ impl Tree {
             }
         }
         Hwnd(0)
+    }
+}
+
+/// The first step of x's destruction that wasn't given.
+fn searched(windows: &Rows, x: &Window) -> Unmade
+    ensures { result ≡ next_step windows.now x.now }
+{
+    match first_left(windows, x, windows.len()) {
+        Some(step) => step,
+        None => Unmade::Last(x.number),
     }
 }
 

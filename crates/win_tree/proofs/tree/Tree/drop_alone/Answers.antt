@@ -7,6 +7,8 @@ use Rattle.win_tree.proofs.Ordered.{ordered_filter}
 use Rattle.win_tree.proofs.Indexed.{map-remove}
 use Rattle.win_tree.proofs.Alone.{alone_dropped}
 use Rattle.win_tree.proofs.Ones.{filter_one, filter_none}
+use Rattle.win_tree.specs.Plans.{EachPlan}
+use Rattle.win_tree.proofs.Planned.{no_plans}
 use Rattle.win_tree.proofs.tree.Tree.drop_alone.Goals as goal
 
 pub invariant_of-self : goal.invariant_of-self
@@ -17,6 +19,7 @@ invariant_of-self c =
     let windows = c.take_out.ensures ∙ filter_one ws w i c.in-Some.ensures.rising c.in-Some.ensures.place in (
       c.remove.ensures.items ∙ (ap (λ (vs : List Hwnd). remove vs i) c.self.invariant.0 ∙ (sym (map-remove number_of ws i) ∙ ap (map number_of) (sym c.take_out.ensures))),
       subst (λ (us : List Window). IsOrdered 15 c.self.inside.last us) (sym windows) (ordered_filter (λ x. not (eqb x.number.0 w)) 15 c.self.inside.last ws c.self.invariant.1),
+      subst (λ ps. EachPlan c.take_out.new.self ps) (sym c.clear.ensures.items) (no_plans c.take_out.new.self),
     )
 
 pub returns-in-Some : goal.returns-in-Some

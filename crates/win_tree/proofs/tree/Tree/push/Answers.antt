@@ -2,6 +2,8 @@ use Rattle.std.proofs.Common.{◌≡◌, ◌<◌, ◌∷◌, ◌++◌, [], subst
 use Rattle.win_tree.specs.Windows.{Windows}
 use Rattle.win_tree.proofs.Ordered.{ordered_more, put_last}
 use Rattle.win_tree.proofs.Ones.{rising}
+use Rattle.win_tree.specs.Plans.{EachPlan}
+use Rattle.win_tree.proofs.Planned.{no_plans}
 use Rattle.win_tree.proofs.tree.Tree.push.Goals as goal
 
 pub push-requires : goal.push-requires
@@ -16,4 +18,8 @@ invariant_of-self-2 c =
     let rises : c.self.inside.last < x.number.0 = subst (λ (t : Windows). t.last < x.number.0) (sym c.self.view_is) c.requires.rises in
     let numbers : c.push-2.new.self.items ≡ c.self.inside.numbers.items ++ x.number ∷ [] = search (rules, tests) in
     let windows : c.push.new.self ≡ c.self.inside.rows ++ x ∷ [] = search (rules, tests) in
-    put_last c.self.inside.numbers.items c.push-2.new.self.items c.self.inside.rows c.push.new.self x c.self.inside.last c.self.invariant numbers windows rises c.requires.older
+    let kept = put_last c.self.inside.numbers.items c.push-2.new.self.items c.self.inside.rows c.push.new.self x c.self.inside.last (c.self.invariant.0, c.self.invariant.1) numbers windows rises c.requires.older in (
+      kept.0,
+      kept.1,
+      subst (λ ps. EachPlan c.push.new.self ps) (sym c.clear.ensures.items) (no_plans c.push.new.self),
+    )
