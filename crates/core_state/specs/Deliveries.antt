@@ -1,9 +1,9 @@
 -- Which messages a filter lets pass, and what a call posts, among the windows of a table.
-use Rattle.std.specs.Prelude.{if◌then◌else◌, ℕ, ◌≤◌, ◌==◌, ◌&&◌, ◌||◌, Bool, List, map, filter, Option, Some, None, IsTrue, unwrap_or, option_map}
+use Rattle.std.specs.Prelude.{if◌then◌else◌, ℕ, ◌≤◌, ◌==◌, ◌&&◌, ◌||◌, Bool, List, map, filter, Option, Some, None, IsTrue}
 use Rattle.win_num.specs.declared.message.Msg.{Msg}
 use Rattle.win_num.specs.declared.shapes.Point.{Point}
 use Rattle.win_tree.specs.declared.window.Window.{Window}
-use Rattle.win_tree.specs.Windows.{is_live, window_of}
+use Rattle.win_tree.specs.Windows.{is_live}
 use Rattle.win_tree.specs.Kin.{is_kin}
 use Rattle.user_model.specs.declared.call.Call.{Call}
 use Rattle.user_model.specs.declared.call.Call.TheVariants.{PostQuit, Drop}

@@ -1,16 +1,12 @@
 -- What the change of an entry needs of the parts.
-use Rattle.std.specs.Prelude.{◌≡◌, ℕ, ◌-◌, ◌<◌, ◌≤◌, ◌==◌, ◌||◌, true, false, List, length, All, slice_index_or, Option, Some, None, Result, Ok, Err, IsTrue}
-use Rattle.win_num.specs.PixelSets.{is_bad_rect}
+use Rattle.std.specs.Prelude.{◌≡◌, ℕ, ◌-◌, ◌<◌, ◌≤◌, false, List, length, All, slice_index_or, Option, Some, None}
 use Rattle.win_num.specs.declared.message.Msg.{Msg}
 use Rattle.win_num.specs.declared.shapes.Point.{Point}
-use Rattle.win_num.specs.declared.code.Fault.{Fault}
-use Rattle.win_num.specs.declared.code.Fault.TheVariants.{Refused, Memory}
-use Rattle.win_class.specs.ClassTable.{ClassTable, register_refusal, message_refusal, unregister_refusal}
-use Rattle.win_tree.specs.declared.row.WindowRow.{WindowRow}
-use Rattle.win_tree.specs.Windows.{Windows, is_live}
-use Rattle.win_tree.specs.Kin.{doom_refusal, drop_refusal, refusal}
+use Rattle.win_class.specs.ClassTable.{ClassTable, unregister_refusal}
+use Rattle.win_tree.specs.Windows.{Windows}
+use Rattle.win_tree.specs.Kin.{doom_refusal, drop_refusal}
 use Rattle.user_model.specs.declared.call.Call.{Call}
-use Rattle.user_model.specs.declared.call.Call.TheVariants.{Register, Message, Unregister, NewWindow, Doom, Unmake, Drop, PostQuit}
+use Rattle.user_model.specs.declared.call.Call.TheVariants.{Unregister, Doom, Drop, PostQuit}
 use Rattle.user_model.specs.declared.entry.Answer.{Answer}
 use Rattle.user_model.specs.declared.entry.Answer.TheVariants.{Okay, Ended, Value, Window, Posted as PostMade, Tell, Last, Got}
 use Rattle.core_state.specs.Deliveries.{posting, FitsPost}

@@ -1,8 +1,7 @@
 //! Which message a call posts.
 
-ghost use Rattle.std.specs.Prelude.{◌≡◌, ◌≤◌, ◌==◌, ◌||◌, IsTrue};
+ghost use Rattle.std.specs.Prelude.{◌≡◌, ◌≤◌, ◌==◌};
 ghost use Rattle.user_model.specs.Posts.{message};
-ghost use Rattle.window_state.specs.Trees.{thread_in};
 ghost use Rattle.core_state.specs.Deliveries.{FitsPost, posting};
 
 use user_model::{Call, Entry};

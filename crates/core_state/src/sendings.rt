@@ -6,7 +6,6 @@ ghost use Rattle.win_tree.specs.Windows.{is_live};
 ghost use Rattle.send_frames.specs.Book.{IsThread};
 ghost use Rattle.send_state.specs.Parts.{lost_count};
 ghost use Rattle.send_state.specs.Stories.{EachStory, noted_loss};
-ghost use Rattle.window_state.specs.Trees.{thread_in};
 ghost use Rattle.core_state.specs.Deliveries.{goes_with};
 ghost use Rattle.core_state.specs.Sendings.{FitsCallback, FitsDropped, FitsLeave, FitsLosing, FitsOption, FitsReply, FitsSending, FitsSettledSends, FitsWait, begun_with, called_back, dropped_count, dropped_losses, dropped_sends, ended_sends, is_of, left_by_call, losses_by, noted_losses, replied_by_call, row_to, sending, settled_sends, waited};
 

@@ -1,6 +1,6 @@
 //! The state of sends.
 
-ghost use Rattle.std.specs.Prelude.{ℕ, Bool, [], ◌≡◌, ◌+◌, ◌<◌, ◌≤◌, ◌^◌, Some, None, IfOk, IfSome, OnOk, OnErr, MatchResult, length, option_and_then, option_copied, option_map, slice_get};
+ghost use Rattle.std.specs.Prelude.{ℕ, Bool, [], ◌≡◌, ◌+◌, ◌<◌, ◌≤◌, ◌^◌, Some, None, IfOk, IfSome, OnOk, OnErr, MatchResult, length, option_and_then, option_copied, option_map};
 ghost use Rattle.std.specs.FinMap as map;
 ghost use Rattle.send_frames.specs.Book.{IsFaultFor, IsThread, NamesKnown, pushed, refusal_at_begin, stack_of};
 ghost use Rattle.win_num.specs.Clocks.{clock_limit};

@@ -15,7 +15,7 @@ pub enum Actor {
 }
 
 /// The actor of a number.
-pub fn actor(who: Thread) -> Actor
+pub fn actor_of(who: Thread) -> Actor
     ensures { IsActorOf who.0 result }
 {
     match who.0 {

@@ -8,7 +8,7 @@ ghost use Rattle.win_num.specs.declared.code.Code.TheVariants.{Full};
 ghost use Rattle.user_model.specs.Refusals.{refuse};
 ghost use Rattle.user_model.specs.Idle.{is_wait, is_idle, is_barred, first_busy, have_all_ended, clock_row, reply};
 
-use crate::actor::{Actor, actor};
+use crate::actor::{Actor, actor_of};
 use crate::clock::{advanced, sleep_until_answer, soonest, tick_answer};
 use crate::windows::{
     Edges, Making, doom_answer, drop_answer, is_window_answer, new_window_answer, next_top_answer,
@@ -166,7 +166,7 @@ pub fn answer(state: &CoreState, who: Thread, call: Call) -> Answer
     requires no_delivery { is_delivery call ≡ false }
     ensures { result ≡ reply state.now.setup state.now.past who.0 call }
 {
-    match actor(who) {
+    match actor_of(who) {
         Actor::Numbered(_) => own_answer(state, who, call),
         Actor::Clock => clock_told(state, call),
     }

@@ -6,7 +6,7 @@ ghost use Rattle.user_model.specs.Idle.{have_all_ended};
 ghost use Rattle.user_model.specs.Legal.{IsLegal};
 ghost use Rattle.user_model.specs.Setups.{IsSetup};
 
-use crate::actor::{Actor, actor};
+use crate::actor::{Actor, actor_of};
 use crate::answer::{answer, have_all_ended, is_barred, is_clock_barred};
 use core_deliver::{deliver, is_delivery, is_retrieval, retrieve};
 use core_state::CoreState;
@@ -84,7 +84,7 @@ impl Machine for User {
     }
 
     fn barred(&self, who: Thread) -> bool {
-        match actor(who) {
+        match actor_of(who) {
             Actor::Clock => is_clock_barred(&self.state),
             Actor::Numbered(number) => is_barred(&self.state, number),
         }

@@ -1,5 +1,5 @@
 -- Where the clock went on to a time, the thread that waited for it goes on.
-use Rattle.std.proofs.Common.{◌≡◌, ℕ, zero, suc, ◌+◌, Bool, true, false, cond, eqb, List, [], ◌∷◌, ◌++◌, Option, Some, None, refl, ap, ◌∙◌, sym, subst, arith}
+use Rattle.std.proofs.Common.{◌≡◌, ℕ, zero, suc, ◌+◌, Bool, true, false, cond, eqb, [], ◌∷◌, ◌++◌, Option, Some, None, refl, ap, ◌∙◌, sym, arith}
 use Rattle.std.specs.Prelude.{find, nat_lt}
 use Rattle.std.proofs.lemmas.Bool.Decides.{nat_tests}
 use Rattle.win_num.specs.declared.code.Code.TheVariants.{Full}
@@ -15,7 +15,7 @@ use Rattle.user_model.specs.Threads.{from_each}
 use Rattle.user_model.specs.Sends.{SentMsg, sends, sends_by}
 use Rattle.user_model.specs.Refusals.{refuse, invalid_parameter}
 use Rattle.user_model.specs.ReplySends.{deadline_in, deadline}
-use Rattle.user_model.specs.Idle.{is_wait, last_entry, first_busy, is_quiet, one_of, times_of_call, times_of, wake_times, least_of, soonest, advanced, busy_or, clock_row, reply}
+use Rattle.user_model.specs.Idle.{is_wait, last_entry, first_busy, is_quiet, one_of, times_of_call, times_of, least_of, soonest, advanced, busy_or, clock_row, reply}
 use Rattle.user_model.specs.Legal.{IsLawful}
 use Rattle.user_model.proofs.ClockLaws.{clock-next, last_entry-next}
 use Rattle.user_model.proofs.ReplyLaws.{not_refused}

@@ -1,5 +1,5 @@
 -- Style, extended style and place of a window at a past with one entry more.
-use Rattle.std.proofs.Common.{◌≡◌, ℕ, Bool, true, false, cond, eqb, List, [], ◌∷◌, Option, Some, None, refl, ap, ◌∙◌, sym}
+use Rattle.std.proofs.Common.{◌≡◌, ℕ, Bool, true, false, cond, eqb, [], ◌∷◌, Option, Some, None, refl, ap, ◌∙◌}
 use Rattle.std.specs.Prelude.{ℤ, unwrap_or}
 use Rattle.win_num.specs.PixelSets.{Box, box}
 use Rattle.win_num.specs.declared.message.Hwnd.{Hwnd}

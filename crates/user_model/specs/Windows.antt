@@ -1,6 +1,5 @@
 -- Windows: which are live, with their fields, and who stands above whom.
-use Rattle.std.specs.Prelude.{if◌then◌else◌, ℕ, zero, suc, ◌+◌, ◌==◌, nat_lt, Bool, true, false, not, ◌&&◌, ◌||◌, ℤ, pos, List, [], ◌∷◌, ◌++◌, length, filter, find, Option, Some, None, unwrap_or, option_map, bit_and, is_some}
-use Rattle.std.specs.List.{list_any}
+use Rattle.std.specs.Prelude.{if◌then◌else◌, ℕ, zero, suc, ◌+◌, ◌==◌, nat_lt, Bool, true, false, not, ◌&&◌, ◌||◌, pos, List, [], ◌∷◌, ◌++◌, filter, find, Option, Some, None, unwrap_or, option_map, bit_and, is_some}
 use Rattle.win_num.specs.PixelSets.{Box, box}
 use Rattle.win_num.specs.declared.names.TheConstants.{WS_CHILD}
 use Rattle.user_model.specs.declared.call.Call.{Call}

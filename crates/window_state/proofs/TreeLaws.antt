@@ -9,7 +9,7 @@ use Rattle.win_num.specs.declared.message.Thread.{Thread}
 use Rattle.win_tree.specs.declared.row.Unmade.TheVariants as unmade_as
 use Rattle.win_tree.specs.declared.window.Window.{Window as KeptWindow}
 use Rattle.win_tree.specs.Windows.{Windows, made, told_if, ended_if}
-use Rattle.win_tree.specs.Kin.{with_window, settled, next_number, doomed, doomed_if, doom_refusal, dropped, drop_refusal, refusal, is_bad, makes_child, without_thread}
+use Rattle.win_tree.specs.Kin.{doomed, doomed_if, dropped, without_thread}
 use Rattle.win_tree.specs.Kin as kept_kin
 use Rattle.win_tree.specs.Destruction.{given}
 use Rattle.user_model.specs.declared.call.Call.{Call}

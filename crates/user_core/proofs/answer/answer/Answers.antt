@@ -1,4 +1,4 @@
-use Rattle.std.proofs.Common.{◌≡◌, ℕ, Bool, false, cond, eqb, arith, ap, sym, ◌∙◌}
+use Rattle.std.proofs.Common.{◌≡◌, false, cond, eqb, arith, ap, sym, ◌∙◌}
 use Rattle.std.proofs.lemmas.Bool.{eq-eqb}
 use Rattle.std.proofs.lemmas.Bool.Decides.{nat_tests}
 use Rattle.win_num.specs.declared.code.Code.TheVariants.{Full}
@@ -13,7 +13,7 @@ unfolding reply
 returns-in-Numbered c =
     let setup = c.args.state.now.setup in
     let past = c.args.state.now.past in
-    let is = rw c.in-Numbered.is at c.actor.ensures in
+    let is = rw c.in-Numbered.is at c.actor_of.ensures in
     let other : eqb c.args.who.0 0 ≡ false = grind (arith, nat_tests, is.0, is.1) in
     c.own_answer.ensures
     ∙ ap (λ b. refuse (is_full past) Full (cond b (clock_row setup past c.args.call) (thread_reply setup past c.args.who.0 c.args.call))) (sym other)
@@ -23,6 +23,6 @@ unfolding reply
 returns-in-Clock c =
     let setup = c.args.state.now.setup in
     let past = c.args.state.now.past in
-    let zero : c.args.who.0 ≡ 0 = rw c.in-Clock.is at c.actor.ensures in
+    let zero : c.args.who.0 ≡ 0 = rw c.in-Clock.is at c.actor_of.ensures in
     c.clock_told.ensures
     ∙ ap (λ b. refuse (is_full past) Full (cond b (clock_row setup past c.args.call) (thread_reply setup past c.args.who.0 c.args.call))) (sym (eq-eqb c.args.who.0 0 zero))
