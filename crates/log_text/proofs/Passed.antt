@@ -1,12 +1,11 @@
 -- Texts that went on into a sink one after the other.
-use Rattle.std.proofs.Common.{◌≡◌, ℕ, ◌+◌, ◌<◌, List, [], ◌++◌, length, get_or, take, drop, ap, ◌∙◌, sym, subst, append_assoc, append-nil}
+use Rattle.std.proofs.Common.{◌≡◌, ℕ, List, [], ◌++◌, ap, ◌∙◌, sym, subst, append_assoc, append-nil}
 use Rattle.std.specs.Prelude.{Option}
-use Rattle.std.specs.List.{flat_map}
 use Rattle.std.specs.Io.KnownBytes.{Appends}
 use Rattle.std.proofs.KnownBytes.{Appends-trans, Appends-nil}
 use Rattle.user_io.specs.Text.{Adds}
 use Rattle.user_io.specs.Outside.{AppendsPart}
-use Rattle.user_io.proofs.Written.{part_start, part_more, part_longer, pieces_more, pieces_cut}
+use Rattle.user_io.proofs.Written.{part_start, part_more}
 use Rattle.log_text.specs.Passing.{Passes}
 
 -- nothing was written, and the piece stands at the end of the text

@@ -14,7 +14,7 @@ use Rattle.call_table.specs.declared.value.Value.{Value}
 use Rattle.call_table.specs.declared.value.Value.TheVariants as values
 use Rattle.call_table.specs.Calls.{call_row, call_name, call_parts}
 use Rattle.call_table.specs.Answers.{answer_row, answer_name, answer_parts}
-use Rattle.call_table.specs.Words.{source_word, cause_word, code_word}
+use Rattle.call_table.specs.Words.{source_word, cause_word}
 use Rattle.user_io.specs.Text.{operand}
 use Rattle.script_tree.specs.Tree.{Tree, ProcedureTree}
 

@@ -112,6 +112,7 @@ fn put_extra<M: Machine>(
     Ok(())
 }
 
+/// Adds the extra lines of all threads, in order.
 fn put_extras<M: Machine>(
     out: &mut Vec<u8>,
     words: &Words,

@@ -1,28 +1,30 @@
 -- A line that was written is read again.
 use Rattle.std.proofs.Common.{◌≡◌, ℕ, zero, suc, ◌+◌, ◌≤◌, ◌<◌, Bool, true, false, not, List, [], ◌∷◌, ◌++◌, length, Option, Some, None, refl, ap, sym, ◌∙◌, take, get_or, arith, length-take, inl, inr, ◌⊎◌}
-use Rattle.std.specs.Prelude.{codes, map, nat_lt, ◌==◌, ◌&&◌, if◌then◌else◌}
+use Rattle.std.specs.Prelude.{map, nat_lt, ◌==◌, ◌&&◌, if◌then◌else◌}
 use Rattle.std.specs.List.{list_all, list_any, position_from, AllByRecursion}
 use Rattle.std.specs.Str.{bytes_eq}
 use Rattle.std.proofs.lemmas.Bool.{false≢true, and_parts, and_from, or_parts, not-true, cases_Bool}
 use Rattle.std.proofs.lemmas.Bool.Decides.{nat_tests}
 use Rattle.std.proofs.lemmas.List.{take_more, take_all}
 use Rattle.std.proofs.lemmas.Slice.Eq.{bytes_eq-Decides}
-use Rattle.script_tree.specs.declared.operand.Operand.{Operand}
-use Rattle.script_tree.specs.declared.operand.Test.{Test}
-use Rattle.script_tree.specs.declared.statement.CallStatement.{CallStatement}
-use Rattle.script_tree.specs.declared.statement.CallStatement.TheVariants as calls
-use Rattle.script_tree.specs.declared.statement.Creation.{Creation}
 use Rattle.script_lines.specs.declared.line.Line.{Line}
-use Rattle.script_lines.specs.declared.line.Line.TheVariants as lines
+use Rattle.script_lines.specs.declared.line.Command.{Command}
+use Rattle.script_lines.specs.declared.line.Part.{Part}
+use Rattle.script_lines.specs.declared.line.Part.TheVariants as parts
+use Rattle.script_lines.specs.declared.line.Place.{Place}
 use Rattle.script_lines.specs.Known.{Known}
-use Rattle.script_lines.specs.LineLimits.{IsOperand, IsTest, IsCall, IsCreation, IsLine}
-use Rattle.script_lines.specs.LineReading.{◌>>=◌, Names, split_at, test_at, let_at, compute_at, three_at, four_at, send_timeout_at, call_at, plain_line_at, command_at, place_in, new_place, place_or_new, name_at, with_names, absent_or_none, with_procedures, begun_at, procedure_at, procedure_line, message_line, unregister_line, register_line, send_callback_line, nameless_creation_at, create_line, line_of, line_at, lines_at}
+use Rattle.script_lines.specs.LineLimits.{IsPart, IsLine}
+use Rattle.script_lines.specs.LineParts.{line_command, line_parts, made_line}
+use Rattle.script_lines.specs.LineReading.{◌>>=◌, Names, split_at, word_at, place_in, new_place, place_or_new, name_at, with_names, absent_or_none, with_procedures, begun_at, procedure_at, part_at, parts_from, line_at, lines_at}
 use Rattle.script_lines.specs.LineTexts.{joined}
-use Rattle.script_lines.specs.NameLimits.{AreNames, AreKnown, is_name, is_distinct, names_in_line, seen_with, seen_after, seen_all, begun_after, begun_all, all_seen}
-use Rattle.script_lines.specs.Words.{operand_word, comparison_word, line_words}
+use Rattle.script_lines.specs.NameLimits.{AreNames, AreKnown, is_name, is_distinct, seen_with, seen_with_part, seen_after, seen_all, begun_with_part, begun_after, begun_all, all_seen}
+use Rattle.script_lines.specs.Parts.{place_of_part}
+use Rattle.script_lines.specs.Rows.{command_places}
+use Rattle.script_lines.specs.Words.{part_word, line_words}
 use Rattle.script_lines.proofs.WordsAgain.{letter_again, operator_again, comparison_again, operand_again}
 use Rattle.script_lines.proofs.TextsAgain.{line_is_words, line_split}
 use Rattle.script_lines.proofs.LineLoops.{one_step}
+use Rattle.script_lines.proofs.RowsAgain.{command_again, line_fits, line_again}
 
 -- ---- names in a list
 
@@ -138,50 +140,31 @@ begun_again known n p h lt =
     ap (λ (o : Option ℕ). with_procedures (taken known n p) (absent_or_none o (take p known.procedures) (get_or known.procedures p []))) (no_place known.procedures p 0 h.procedures.distinct lt)
     ∙ ap (with_procedures (taken known n p)) (next_place 64 known.procedures p h.procedures lt)
 
--- ---- lines without names
+-- ---- one part
 
-test_again : (first : List ℕ) (t : Test) → IsTest t → test_at (first ∷ operand_word t.left ∷ comparison_word t.comparison ∷ operand_word t.right ∷ []) ≡ Some t
-unfolding test_at
-test_again first t fits = rw (operand_again t.left fits.0, comparison_again t.comparison, operand_again t.right fits.1.1.0) refl
+-- the part is read, and so many names and procedures have been seen after it
+PartAgain : Known → ℕ → ℕ → ℕ → ℕ → Part → Type 0
+PartAgain known n p m q part = (part_at (taken known n p) (place_of_part part) (part_word known part) ≡ Some (part, taken known m q)) × (m ≤ length known.names) × (q ≤ length known.procedures)
 
-four_again : (first : List ℕ) (a b c d : Operand) (more : List (List ℕ)) → IsOperand a → IsOperand b → IsOperand c → IsOperand d → four_at (first ∷ operand_word a ∷ operand_word b ∷ operand_word c ∷ operand_word d ∷ more) ≡ Some (a, b, c, d)
-unfolding four_at
-four_again first a b c d more fa fb fc fd = rw (operand_again a fa, operand_again b fb, operand_again c fc, operand_again d fd) refl
+abbrev part_found : Part → Known → Option (Part × Known)
+part_found part known = Some (part, known)
 
-three_again : (first : List ℕ) (a b c : Operand) → IsOperand a → IsOperand b → IsOperand c → three_at (first ∷ operand_word a ∷ operand_word b ∷ operand_word c ∷ []) ≡ Some (a, b, c)
-unfolding three_at
-three_again first a b c fa fb fc = rw (operand_again a fa, operand_again b fb, operand_again c fc) refl
+-- the part names nothing
+plain_part : (known : Known) (n p m q : ℕ) (part : Part) → n ≤ length known.names → p ≤ length known.procedures → Some n ≡ Some m → Some p ≡ Some q → part_at (taken known n p) (place_of_part part) (part_word known part) ≡ Some (part, taken known n p) → PartAgain known n p m q part
+unfolding PartAgain
+plain_part known n p m q part wn wp e1 e2 read =
+    let names : n ≡ m = cc e1 in
+    let procedures : p ≡ q = cc e2 in
+    (read ∙ ap (λ (j : ℕ). part_found part (taken known j p)) names ∙ ap (λ (j : ℕ). part_found part (taken known m j)) procedures, omega (arith, names), omega (arith, procedures))
 
--- ---- one line
-
--- the line is read, and so many names and procedures have been seen after it
-Again : Known → ℕ → ℕ → ℕ → ℕ → Line → Type 0
-Again known n p m q l = (line_at (taken known n p) (line_words known l) ≡ Some (l, taken known m q)) × (m ≤ length known.names) × (q ≤ length known.procedures)
-
-abbrev line_found : Line → Known → Option (Line × Known)
-line_found l known = Some (l, known)
-
--- the line begins no procedure
-unbegun : (known : Known) (n p m q : ℕ) (l : Line) → m ≤ length known.names → p ≤ length known.procedures → Some p ≡ Some q → line_at (taken known n p) (line_words known l) ≡ Some (l, taken known m p) → Again known n p m q l
-unfolding Again
-unbegun known n p m q l wm wp e2 read =
-    let same : p ≡ q = cc e2 in
-    (read ∙ ap (λ (j : ℕ). line_found l (taken known m j)) same, wm, omega (arith, same))
-
--- the line names nothing
-unchanged : (known : Known) (n p m q : ℕ) (l : Line) → n ≤ length known.names → p ≤ length known.procedures → Some n ≡ Some m → Some p ≡ Some q → line_at (taken known n p) (line_words known l) ≡ Some (l, taken known n p) → Again known n p m q l
-unchanged known n p m q l wn wp e1 e2 read =
-    let same : n ≡ m = cc e1 in
-    unbegun known n p m q l (omega (arith, same)) wp e2 (read ∙ ap (λ (j : ℕ). line_found l (taken known j p)) same)
-
--- a line names a procedure that has begun
-begun_told : (p q k : ℕ) → (if nat_lt k p && true then Some p else None) ≡ Some q → (k < p) × (Some p ≡ Some q)
+-- a procedure that is named has begun
+begun_told : (p q k : ℕ) → (if nat_lt k p then Some p else None) ≡ Some q → (k < p) × (Some p ≡ Some q)
 begun_told p q k e = elim (cases_Bool (nat_lt k p)) [
-  | inl hit ↦ let f : (if nat_lt k p && true then Some p else None) ≡ Some p = rw hit refl in (lt_told k p hit, sym f ∙ e)
-  | inr miss ↦ let f : (if nat_lt k p && true then Some p else None) ≡ None = rw miss refl in absurd (cc (e, f))
+  | inl hit ↦ let f : (if nat_lt k p then Some p else None) ≡ Some p = rw hit refl in (lt_told k p hit, sym f ∙ e)
+  | inr miss ↦ let f : (if nat_lt k p then Some p else None) ≡ None = rw miss refl in absurd (cc (e, f))
 ]
 
--- a line begins the next procedure
+-- a procedure that begins is the next
 next_told : (count p q k : ℕ) → (if (k == p) && nat_lt p count then Some (p + 1) else None) ≡ Some q → (k ≡ p) × (p < count) × (q ≡ p + 1)
 next_told count p q k e = elim (cases_Bool ((k == p) && nat_lt p count)) [
   | inl hit ↦
@@ -191,131 +174,145 @@ next_told count p q k e = elim (cases_Bool ((k == p) && nat_lt p count)) [
   | inr miss ↦ let f : (if (k == p) && nat_lt p count then Some (p + 1) else None) ≡ None = rw miss refl in absurd (cc (e, f))
 ]
 
-procedure_line_again : (known : Known) (n p m q k : ℕ) → AreKnown known → n ≤ length known.names → Some n ≡ Some m → (if (k == p) && nat_lt p (length known.procedures) then Some (p + 1) else None) ≡ Some q → Again known n p m q (lines.Procedure k)
-unfolding Again line_at command_at line_of procedure_line
-procedure_line_again known n p m q k h wn e1 e2 =
+name_part : (known : Known) (n p m q k : ℕ) → AreKnown known → n ≤ length known.names → p ≤ length known.procedures → seen_with (length known.names) (Some n) k ≡ Some m → Some p ≡ Some q → PartAgain known n p m q (parts.Name k)
+unfolding PartAgain
+name_part known n p m q k h wn wp e1 e2 =
+    let same : p ≡ q = cc e2 in
+    let name = name_again known n p m k h wn e1 in
+    (ap (λ (o : Option (ℕ × Known)). o >>= λ x. part_found (parts.Name x.0) x.1) name.0 ∙ ap (λ (j : ℕ). part_found (parts.Name k) (taken known m j)) same, name.1, omega (arith, same))
+
+procedure_part : (known : Known) (n p m q k : ℕ) → AreKnown known → n ≤ length known.names → p ≤ length known.procedures → Some n ≡ Some m → (if nat_lt k p then Some p else None) ≡ Some q → PartAgain known n p m q (parts.Procedure k)
+procedure_part known n p m q k h wn wp e1 e2 =
+    let told = begun_told p q k e2 in
+    plain_part known n p m q (parts.Procedure k) wn wp e1 told.1 (ap (λ (o : Option ℕ). o >>= λ j. part_found (parts.Procedure j) (taken known n p)) (procedure_again known n p k h wp told.0))
+
+beginning_part : (known : Known) (n p m q k : ℕ) → AreKnown known → n ≤ length known.names → Some n ≡ Some m → (if (k == p) && nat_lt p (length known.procedures) then Some (p + 1) else None) ≡ Some q → PartAgain known n p m q (parts.Beginning k)
+unfolding PartAgain
+beginning_part known n p m q k h wn e1 e2 =
     let told = next_told (length known.procedures) p q k e2 in
     let same : n ≡ m = cc e1 in
     let back : p ≡ k = sym told.0 in (
-      ap (λ (j : ℕ). begun_at (taken known n p) (get_or known.procedures j []) >>= λ x. line_found (lines.Procedure x.0) x.1) told.0
-          ∙ rw (begun_again known n p h told.1) refl
-          ∙ ap (λ (j : ℕ). line_found (lines.Procedure j) (taken known n (p + 1))) back
-          ∙ ap (λ (j : ℕ). line_found (lines.Procedure k) (taken known j (p + 1))) same
-          ∙ ap (λ (j : ℕ). line_found (lines.Procedure k) (taken known m j)) (sym told.2),
+      ap (λ (j : ℕ). begun_at (taken known n p) (get_or known.procedures j []) >>= λ x. part_found (parts.Beginning x.0) x.1) told.0
+          ∙ ap (λ (o : Option (ℕ × Known)). o >>= λ x. part_found (parts.Beginning x.0) x.1) (begun_again known n p h told.1)
+          ∙ ap (λ (j : ℕ). part_found (parts.Beginning j) (taken known n (p + 1))) back
+          ∙ ap (λ (j : ℕ). part_found (parts.Beginning k) (taken known j (p + 1))) same
+          ∙ ap (λ (j : ℕ). part_found (parts.Beginning k) (taken known m j)) (sym told.2),
       omega (arith, same),
       omega (arith, told.1, told.2),
     )
 
-message_again : (known : Known) (n p m q k : ℕ) → AreKnown known → n ≤ length known.names → p ≤ length known.procedures → seen_with (length known.names) (Some n) k ≡ Some m → Some p ≡ Some q → Again known n p m q (lines.Call (calls.Message k))
-unfolding line_at command_at line_of message_line
-message_again known n p m q k h wn wp e1 e2 =
-    let name = name_again known n p m k h wn e1 in
-    unbegun known n p m q (lines.Call (calls.Message k)) name.1 wp e2 (rw name.0 refl)
+part_again : (known : Known) (n p m q : ℕ) (part : Part) → IsPart part → AreKnown known → n ≤ length known.names → p ≤ length known.procedures → seen_with_part (length known.names) (Some n) part ≡ Some m → begun_with_part (length known.procedures) (Some p) part ≡ Some q → PartAgain known n p m q part
+part_again known n p m q (parts.Letter v) fits h wn wp e1 e2 = plain_part known n p m q (parts.Letter v) wn wp e1 e2 (rw (letter_again v) refl)
+part_again known n p m q (parts.Operand a) fits h wn wp e1 e2 = plain_part known n p m q (parts.Operand a) wn wp e1 e2 (rw (operand_again a fits) refl)
+part_again known n p m q (parts.Operator op) fits h wn wp e1 e2 = plain_part known n p m q (parts.Operator op) wn wp e1 e2 (rw (operator_again op) refl)
+part_again known n p m q (parts.Comparison c) fits h wn wp e1 e2 = plain_part known n p m q (parts.Comparison c) wn wp e1 e2 (rw (comparison_again c) refl)
+part_again known n p m q (parts.Name k) fits h wn wp e1 e2 = name_part known n p m q k h wn wp e1 e2
+part_again known n p m q (parts.Beginning k) fits h wn wp e1 e2 = beginning_part known n p m q k h wn e1 e2
+part_again known n p m q (parts.Procedure k) fits h wn wp e1 e2 = procedure_part known n p m q k h wn wp e1 e2
 
-unregister_again : (known : Known) (n p m q k : ℕ) → AreKnown known → n ≤ length known.names → p ≤ length known.procedures → seen_with (length known.names) (Some n) k ≡ Some m → Some p ≡ Some q → Again known n p m q (lines.Call (calls.Unregister k))
-unfolding line_at command_at line_of unregister_line
-unregister_again known n p m q k h wn wp e1 e2 =
-    let name = name_again known n p m k h wn e1 in
-    unbegun known n p m q (lines.Call (calls.Unregister k)) name.1 wp e2 (rw name.0 refl)
+-- ---- the parts of a line
 
-register_again : (known : Known) (n p m q k j : ℕ) (a : Operand) → IsOperand a → AreKnown known → n ≤ length known.names → p ≤ length known.procedures → seen_with (length known.names) (Some n) k ≡ Some m → (if nat_lt j p && true then Some p else None) ≡ Some q → Again known n p m q (lines.Call (calls.Register k j a))
-unfolding line_at command_at line_of register_line
-register_again known n p m q k j a fits h wn wp e1 e2 =
-    let told = begun_told p q j e2 in
-    let name = name_again known n p m k h wn e1 in
-    unbegun known n p m q (lines.Call (calls.Register k j a)) name.1 wp told.1 (rw (procedure_again known n p j h wp told.0, operand_again a fits, name.0) refl)
+no_part_seen : (count : ℕ) (part : Part) → seen_with_part count None part ≡ None
+no_part_seen count (parts.Letter v) = refl
+no_part_seen count (parts.Operand a) = refl
+no_part_seen count (parts.Operator op) = refl
+no_part_seen count (parts.Comparison c) = refl
+no_part_seen count (parts.Name k) = refl
+no_part_seen count (parts.Beginning k) = refl
+no_part_seen count (parts.Procedure k) = refl
 
-send_callback_again : (known : Known) (n p m q k : ℕ) (a b c d e : Operand) → IsCall (calls.SendCallback a b c d k e) → AreKnown known → n ≤ length known.names → p ≤ length known.procedures → Some n ≡ Some m → (if nat_lt k p && true then Some p else None) ≡ Some q → Again known n p m q (lines.Call (calls.SendCallback a b c d k e))
-unfolding line_at command_at line_of send_callback_line
-send_callback_again known n p m q k a b c d e fits h wn wp e1 e2 =
-    let told = begun_told p q k e2 in
-    unchanged known n p m q (lines.Call (calls.SendCallback a b c d k e)) wn wp e1 told.1
-    (rw (four_again (codes "send_callback") a b c d (get_or known.procedures k [] ∷ operand_word e ∷ []) fits.0 fits.1.0 fits.1.1.0 fits.1.1.1.0, procedure_again known n p k h wp told.0, operand_again e fits.1.1.1.1.1.0) refl)
+pub none_after : (count : ℕ) (ps : List Part) → seen_after count None ps ≡ None
+none_after count [] = refl
+none_after count (part ∷ ps) = ap (λ (o : Option ℕ). seen_after count o ps) (no_part_seen count part) ∙ none_after count ps
 
-option_cases : (o : Option ℕ) → (o ≡ None) ⊎ ((m : ℕ) × (o ≡ Some m))
-option_cases None = inl refl
-option_cases (Some m) = inr (m, refl)
+no_part_begun : (count : ℕ) (part : Part) → begun_with_part count None part ≡ None
+no_part_begun count (parts.Letter v) = refl
+no_part_begun count (parts.Operand a) = refl
+no_part_begun count (parts.Operator op) = refl
+no_part_begun count (parts.Comparison c) = refl
+no_part_begun count (parts.Name k) = refl
+no_part_begun count (parts.Beginning k) = refl
+no_part_begun count (parts.Procedure k) = refl
 
-creation_read : (first class title : List ℕ) (c : Creation) → IsCreation c
-    → nameless_creation_at (first ∷ class ∷ title ∷ operand_word c.parent ∷ operand_word c.style ∷ operand_word c.extended_style ∷ operand_word c.left ∷ operand_word c.top ∷ operand_word c.right ∷ operand_word c.bottom ∷ [])
-    ≡ Some (record c { class = 0; title = 0 })
-unfolding nameless_creation_at
-creation_read first class title c fits =
-    rw (
-      operand_again c.parent fits.1.1.0,
-      operand_again c.style fits.1.1.1.0,
-      operand_again c.extended_style fits.1.1.1.1.0,
-      operand_again c.left fits.1.1.1.1.1.0,
-      operand_again c.top fits.1.1.1.1.1.1.0,
-      operand_again c.right fits.1.1.1.1.1.1.1.0,
-      operand_again c.bottom fits.1.1.1.1.1.1.1.1.0,
-    ) refl
+pub none_begun_after : (count : ℕ) (ps : List Part) → begun_after count None ps ≡ None
+none_begun_after count [] = refl
+none_begun_after count (part ∷ ps) = ap (λ (o : Option ℕ). begun_after count o ps) (no_part_begun count part) ∙ none_begun_after count ps
 
-create_again : (known : Known) (n p m q : ℕ) (c : Creation) → IsCreation c → AreKnown known → n ≤ length known.names → p ≤ length known.procedures → seen_with (length known.names) (seen_with (length known.names) (Some n) c.class) c.title ≡ Some m → Some p ≡ Some q → Again known n p m q (lines.Create c)
-unfolding line_at command_at line_of create_line
-create_again known n p m q c fits h wn wp e1 e2 = elim (option_cases (seen_with (length known.names) (Some n) c.class)) [
-  | inl none ↦ absurd (cc (sym (ap (λ (o : Option ℕ). seen_with (length known.names) o c.title) none) ∙ e1))
-  | inr some ↦
-      let class = name_again known n p some.0 c.class h wn some.1 in
-      let title = name_again known some.0 p m c.title h class.1 (sym (ap (λ (o : Option ℕ). seen_with (length known.names) o c.title) some.1) ∙ e1) in
-      unbegun known n p m q (lines.Create c) title.1 wp e2
-      (rw (creation_read (codes "create") (get_or known.names c.class []) (get_or known.names c.title []) c fits, class.0, title.0) refl)
-]
+-- where so many are seen after several parts, so many were seen after the first
+first_part_seen : (count m : ℕ) (o : Option ℕ) (ps : List Part) → seen_after count o ps ≡ Some m → (i : ℕ) × (o ≡ Some i)
+first_part_seen count m None ps e = absurd (cc (sym (none_after count ps) ∙ e))
+first_part_seen count m (Some i) ps e = (i, refl)
 
-call_again : (known : Known) (n p m q : ℕ) (c : CallStatement) → IsCall c → AreKnown known → n ≤ length known.names → p ≤ length known.procedures → seen_after (length known.names) (Some n) (names_in_line (lines.Call c)) ≡ Some m → begun_after (length known.procedures) (Some p) (lines.Call c) ≡ Some q → Again known n p m q (lines.Call c)
-unfolding line_at command_at line_of plain_line_at call_at send_timeout_at
-call_again known n p m q (calls.Peek a b c d) fits h wn wp e1 e2 = unchanged known n p m q (lines.Call (calls.Peek a b c d)) wn wp e1 e2 (rw (four_again (codes "peek") a b c d [] fits.0 fits.1.0 fits.1.1.0 fits.1.1.1.0) refl)
-call_again known n p m q (calls.Get a b c) fits h wn wp e1 e2 = unchanged known n p m q (lines.Call (calls.Get a b c)) wn wp e1 e2 (rw (three_again (codes "get") a b c fits.0 fits.1.0 fits.1.1.0) refl)
-call_again known n p m q (calls.Post a b c d) fits h wn wp e1 e2 = unchanged known n p m q (lines.Call (calls.Post a b c d)) wn wp e1 e2 (rw (four_again (codes "post") a b c d [] fits.0 fits.1.0 fits.1.1.0 fits.1.1.1.0) refl)
-call_again known n p m q (calls.PostThread a b c d) fits h wn wp e1 e2 = unchanged known n p m q (lines.Call (calls.PostThread a b c d)) wn wp e1 e2 (rw (four_again (codes "post_thread") a b c d [] fits.0 fits.1.0 fits.1.1.0 fits.1.1.1.0) refl)
-call_again known n p m q (calls.PostQuit a) fits h wn wp e1 e2 = unchanged known n p m q (lines.Call (calls.PostQuit a)) wn wp e1 e2 (rw (operand_again a fits.0) refl)
-call_again known n p m q calls.Dispatch fits h wn wp e1 e2 = unchanged known n p m q (lines.Call calls.Dispatch) wn wp e1 e2 refl
-call_again known n p m q (calls.Send a b c d) fits h wn wp e1 e2 = unchanged known n p m q (lines.Call (calls.Send a b c d)) wn wp e1 e2 (rw (four_again (codes "send") a b c d [] fits.0 fits.1.0 fits.1.1.0 fits.1.1.1.0) refl)
-call_again known n p m q (calls.SendTimeout a b c d e f) fits h wn wp e1 e2 = unchanged known n p m q (lines.Call (calls.SendTimeout a b c d e f)) wn wp e1 e2
-    (rw (four_again (codes "send_timeout") a b c d (operand_word e ∷ operand_word f ∷ []) fits.0 fits.1.0 fits.1.1.0 fits.1.1.1.0, operand_again e fits.1.1.1.1.0, operand_again f fits.1.1.1.1.1.0) refl)
-call_again known n p m q (calls.SendNotify a b c d) fits h wn wp e1 e2 = unchanged known n p m q (lines.Call (calls.SendNotify a b c d)) wn wp e1 e2 (rw (four_again (codes "send_notify") a b c d [] fits.0 fits.1.0 fits.1.1.0 fits.1.1.1.0) refl)
-call_again known n p m q (calls.SendCallback a b c d k e) fits h wn wp e1 e2 = send_callback_again known n p m q k a b c d e fits h wn wp e1 e2
-call_again known n p m q (calls.Reply a) fits h wn wp e1 e2 = unchanged known n p m q (lines.Call (calls.Reply a)) wn wp e1 e2 (rw (operand_again a fits.0) refl)
-call_again known n p m q calls.InSend fits h wn wp e1 e2 = unchanged known n p m q (lines.Call calls.InSend) wn wp e1 e2 refl
-call_again known n p m q (calls.Message k) fits h wn wp e1 e2 = message_again known n p m q k h wn wp e1 e2
-call_again known n p m q (calls.Register k j a) fits h wn wp e1 e2 = register_again known n p m q k j a fits.1.1.0 h wn wp e1 e2
-call_again known n p m q (calls.Unregister k) fits h wn wp e1 e2 = unregister_again known n p m q k h wn wp e1 e2
-call_again known n p m q (calls.IsWindow a) fits h wn wp e1 e2 = unchanged known n p m q (lines.Call (calls.IsWindow a)) wn wp e1 e2 (rw (operand_again a fits.0) refl)
-call_again known n p m q (calls.Parent a) fits h wn wp e1 e2 = unchanged known n p m q (lines.Call (calls.Parent a)) wn wp e1 e2 (rw (operand_again a fits.0) refl)
-call_again known n p m q (calls.NextTop a) fits h wn wp e1 e2 = unchanged known n p m q (lines.Call (calls.NextTop a)) wn wp e1 e2 (rw (operand_again a fits.0) refl)
-call_again known n p m q calls.Clock fits h wn wp e1 e2 = unchanged known n p m q (lines.Call calls.Clock) wn wp e1 e2 refl
-call_again known n p m q calls.Yield fits h wn wp e1 e2 = unchanged known n p m q (lines.Call calls.Yield) wn wp e1 e2 refl
+first_part_begun : (count m : ℕ) (o : Option ℕ) (ps : List Part) → begun_after count o ps ≡ Some m → (i : ℕ) × (o ≡ Some i)
+first_part_begun count m None ps e = absurd (cc (sym (none_begun_after count ps) ∙ e))
+first_part_begun count m (Some i) ps e = (i, refl)
 
-line_again : (known : Known) (n p m q : ℕ) (l : Line) → IsLine l → AreKnown known → n ≤ length known.names → p ≤ length known.procedures → seen_after (length known.names) (Some n) (names_in_line l) ≡ Some m → begun_after (length known.procedures) (Some p) l ≡ Some q → Again known n p m q l
-unfolding line_at command_at line_of plain_line_at let_at compute_at
-line_again known n p m q (lines.Procedure k) fits h wn wp e1 e2 = procedure_line_again known n p m q k h wn e1 e2
-line_again known n p m q lines.Thread fits h wn wp e1 e2 = unchanged known n p m q lines.Thread wn wp e1 e2 refl
-line_again known n p m q (lines.Let v a) fits h wn wp e1 e2 = unchanged known n p m q (lines.Let v a) wn wp e1 e2 (rw (letter_again v, operand_again a fits.1.0) refl)
-line_again known n p m q (lines.Compute v a op b) fits h wn wp e1 e2 = unchanged known n p m q (lines.Compute v a op b) wn wp e1 e2 (rw (letter_again v, operand_again a fits.1.0, operator_again op, operand_again b fits.1.1.1.0) refl)
-line_again known n p m q (lines.If t) fits h wn wp e1 e2 = unchanged known n p m q (lines.If t) wn wp e1 e2 (rw (test_again (codes "if") t fits) refl)
-line_again known n p m q lines.Else fits h wn wp e1 e2 = unchanged known n p m q lines.Else wn wp e1 e2 refl
-line_again known n p m q (lines.While t) fits h wn wp e1 e2 = unchanged known n p m q (lines.While t) wn wp e1 e2 (rw (test_again (codes "while") t fits) refl)
-line_again known n p m q lines.End fits h wn wp e1 e2 = unchanged known n p m q lines.End wn wp e1 e2 refl
-line_again known n p m q (lines.Return a) fits h wn wp e1 e2 = unchanged known n p m q (lines.Return a) wn wp e1 e2 (rw (operand_again a fits.0) refl)
-line_again known n p m q (lines.Call c) fits h wn wp e1 e2 = call_again known n p m q c fits h wn wp e1 e2
-line_again known n p m q (lines.Sleep a) fits h wn wp e1 e2 = unchanged known n p m q (lines.Sleep a) wn wp e1 e2 (rw (operand_again a fits.0) refl)
-line_again known n p m q (lines.Create c) fits h wn wp e1 e2 = create_again known n p m q c fits h wn wp e1 e2
-line_again known n p m q (lines.Destroy a) fits h wn wp e1 e2 = unchanged known n p m q (lines.Destroy a) wn wp e1 e2 (rw (operand_again a fits.0) refl)
-line_again known n p m q lines.Default fits h wn wp e1 e2 = unchanged known n p m q lines.Default wn wp e1 e2 refl
+-- the parts are read, and so many names and procedures have been seen after them
+PartsAgain : Known → ℕ → ℕ → ℕ → ℕ → List Part → List (List ℕ) → ℕ → Type 0
+PartsAgain known n p m q ps words k = (parts_from (taken known n p) (map place_of_part ps) words k ≡ Some (ps, taken known m q)) × (m ≤ length known.names) × (q ≤ length known.procedures)
+
+parts_again : (known : Known) (n p m q : ℕ) (ps : List Part) (words : List (List ℕ)) (k : ℕ) → AllByRecursion IsPart ps → AreKnown known → n ≤ length known.names → p ≤ length known.procedures
+    → seen_after (length known.names) (Some n) ps ≡ Some m → begun_after (length known.procedures) (Some p) ps ≡ Some q
+    → ((j : ℕ) → word_at words (k + j) ≡ word_at (map (part_word known) ps) j) → PartsAgain known n p m q ps words k
+unfolding parts_from PartsAgain PartAgain
+parts_again known n p m q [] words k fits h wn wp e1 e2 at =
+    let names : n ≡ m = cc e1 in
+    let procedures : p ≡ q = cc e2 in
+    (ap (λ (j : ℕ). let o : Option (List Part × Known) = Some ([], taken known j p) in o) names ∙ ap (λ (j : ℕ). let o : Option (List Part × Known) = Some ([], taken known m j) in o) procedures, omega (arith, names), omega (arith, procedures))
+parts_again known n p m q (part ∷ ps) words k fits h wn wp e1 e2 at =
+    let seen = first_part_seen (length known.names) m (seen_with_part (length known.names) (Some n) part) ps e1 in
+    let begun = first_part_begun (length known.procedures) q (begun_with_part (length known.procedures) (Some p) part) ps e2 in
+    let i = seen.0 in
+    let j = begun.0 in
+    let first = part_again known n p i j part fits.0 h wn wp seen.1 begun.1 in
+    let rest =
+    parts_again known i j m q ps words (k + 1) fits.1 h first.1 first.2
+    (ap (λ (o : Option ℕ). seen_after (length known.names) o ps) (sym seen.1) ∙ e1)
+    (ap (λ (o : Option ℕ). begun_after (length known.procedures) o ps) (sym begun.1) ∙ e2)
+    (λ x. ap (word_at words) (let e : (k + 1) + x ≡ k + suc x = omega arith in e) ∙ at (suc x)) in
+    let here : word_at words k ≡ part_word known part = ap (word_at words) (let e : k ≡ k + 0 = omega arith in e) ∙ at 0 in
+    let read : part_at (taken known n p) (place_of_part part) (word_at words k) ≡ Some (part, taken known i j) = ap (part_at (taken known n p) (place_of_part part)) here ∙ first.0 in (
+      ap (λ (o : Option (Part × Known)). o >>= λ x. parts_from x.1 (map place_of_part ps) words (k + 1) >>= λ others. Some (x.0 ∷ others.0, others.1)) read
+          ∙ ap (λ (o : Option (List Part × Known)). o >>= λ others. Some (part ∷ others.0, others.1)) rest.0,
+      rest.1,
+      rest.2,
+    )
+
+-- ---- one line
+
+-- the line is read, and so many names and procedures have been seen after it
+Again : Known → ℕ → ℕ → ℕ → ℕ → Line → Type 0
+Again known n p m q l = (line_at (taken known n p) (line_words known l) ≡ Some (l, taken known m q)) × (m ≤ length known.names) × (q ≤ length known.procedures)
+
+-- what parts make with names
+abbrev made_with : Command → Option (List Part × Known) → Option (Line × Known)
+made_with command o = o >>= λ x. made_line command x.0 >>= λ l. Some (l, x.1)
+
+abbrev read_by : Known → List (List ℕ) → Option Command → Option (Line × Known)
+read_by known words o = o >>= λ command. made_with command (parts_from known (command_places command) words 1)
+
+read_again : (known : Known) (n p m q : ℕ) (l : Line) → IsLine l → AreKnown known → n ≤ length known.names → p ≤ length known.procedures → seen_after (length known.names) (Some n) (line_parts l) ≡ Some m → begun_after (length known.procedures) (Some p) (line_parts l) ≡ Some q → Again known n p m q l
+unfolding line_at Again PartsAgain
+read_again known n p m q l fits h wn wp e1 e2 =
+    let words : List (List ℕ) = line_words known l in
+    let parts = parts_again known n p m q (line_parts l) words 1 fits h wn wp e1 e2 (λ j. ap (word_at words) (let e : 1 + j ≡ suc j = omega arith in e)) in (
+      ap (read_by (taken known n p) words) (command_again known l)
+          ∙ ap (λ (fs : List Place). made_with (line_command l) (parts_from (taken known n p) fs words 1)) (line_fits l)
+          ∙ ap (made_with (line_command l)) parts.0
+          ∙ ap (λ (o : Option Line). o >>= λ x. let r : Option (Line × Known) = Some (x, taken known m q) in r) (line_again l),
+      parts.1,
+      parts.2,
+    )
 
 -- ---- all lines
 
-none_after : (count : ℕ) (ks : List ℕ) → seen_after count None ks ≡ None
-none_after count [] = refl
-none_after count (k ∷ ks) = none_after count ks
-
 pub none_seen : (count : ℕ) (ls : List Line) → seen_all count None ls ≡ None
 none_seen count [] = refl
-none_seen count (l ∷ ls) = ap (λ (o : Option ℕ). seen_all count o ls) (none_after count (names_in_line l)) ∙ none_seen count ls
+none_seen count (l ∷ ls) = ap (λ (o : Option ℕ). seen_all count o ls) (none_after count (line_parts l)) ∙ none_seen count ls
 
 pub none_begun : (count : ℕ) (ls : List Line) → begun_all count None ls ≡ None
 none_begun count [] = refl
-none_begun count (l ∷ ls) = none_begun count ls
+none_begun count (l ∷ ls) = ap (λ (o : Option ℕ). begun_all count o ls) (none_begun_after count (line_parts l)) ∙ none_begun count ls
 
 -- where all names are seen at the end, so many were seen after the first line
 first_seen : (count : ℕ) (o : Option ℕ) (ls : List Line) → all_seen count (seen_all count o ls) ≡ true → (m : ℕ) × (o ≡ Some m)
@@ -337,11 +334,11 @@ lines_again known n p [] fits h wn wp e1 e2 =
     ap (λ (names : Names). let o : Option (List Line × Known) = Some ([], record { names = names; procedures = take p known.procedures }) in o) (take_all n known.names past)
     ∙ ap (λ (procedures : Names). let o : Option (List Line × Known) = Some ([], record { names = known.names; procedures = procedures }) in o) (take_all p known.procedures begun)
 lines_again known n p (l ∷ ls) fits h wn wp e1 e2 =
-    let seen = first_seen (length known.names) (seen_after (length known.names) (Some n) (names_in_line l)) ls e1 in
-    let begun = first_begun (length known.procedures) (begun_after (length known.procedures) (Some p) l) ls e2 in
+    let seen = first_seen (length known.names) (seen_after (length known.names) (Some n) (line_parts l)) ls e1 in
+    let begun = first_begun (length known.procedures) (begun_after (length known.procedures) (Some p) (line_parts l)) ls e2 in
     let m = seen.0 in
     let q = begun.0 in
-    let again = line_again known n p m q l fits.0 h wn wp seen.1 begun.1 in
+    let again = read_again known n p m q l fits.0 h wn wp seen.1 begun.1 in
     let more : List (List ℕ) = map joined (map (line_words known) ls) in
     let read : line_at (taken known n p) (split_at 32 (joined (line_words known l))) ≡ Some (l, taken known m q) = ap (line_at (taken known n p)) (line_split (line_words known l) (line_is_words known l fits.0 h)) ∙ again.0 in
     let rest =

@@ -21,6 +21,9 @@ use Rattle.script_tree.specs.declared.operand.Operator.{Operator}
 use Rattle.script_tree.specs.declared.operand.Operator.TheVariants as operators
 use Rattle.script_tree.specs.declared.operand.Comparison.{Comparison}
 use Rattle.script_tree.specs.declared.operand.Comparison.TheVariants as comparisons
+use Rattle.call_table.specs.declared.calls.CallName.{CallName}
+use Rattle.call_table.specs.declared.calls.CallName.TheVariants as names
+use Rattle.call_table.specs.Calls.{call_row}
 use Rattle.script_lines.specs.declared.line.Command.{Command}
 use Rattle.script_lines.specs.declared.line.Command.TheVariants as commands
 use Rattle.script_lines.specs.declared.line.Line.{Line}
@@ -31,7 +34,9 @@ use Rattle.script_lines.specs.LineLimits.{IsOperand, IsPart, IsLine}
 use Rattle.script_lines.specs.LineReading.{split_at}
 use Rattle.script_lines.specs.LineTexts.{blank_word, joined, line_text}
 use Rattle.script_lines.specs.NameLimits.{is_small_letter, is_name_byte, is_name, AreKnown}
-use Rattle.script_lines.specs.Words.{letter_word, variable_word, operator_word, comparison_word, command_word, operand_word, part_word, line_command, line_parts, line_words}
+use Rattle.script_lines.specs.LineParts.{line_command, line_parts}
+use Rattle.script_lines.specs.Rows.{command_word}
+use Rattle.script_lines.specs.Words.{letter_word, variable_word, operator_word, comparison_word, operand_word, part_word, line_words}
 use Rattle.script_lines.proofs.WordsAgain.{name_passes, some_word}
 
 -- ---- words have neither blanks nor line feeds
@@ -95,35 +100,21 @@ comparison_is_word comparisons.Equal = refl
 comparison_is_word comparisons.Different = refl
 comparison_is_word comparisons.Below = refl
 
+call_is_word : (n : CallName) → is_word (call_row n).word ≡ true
+call_is_word names.Clock = refl
+call_is_word n = refl
+
 command_is_word : (v : Command) → is_word (command_word v) ≡ true
 command_is_word commands.Procedure = refl
 command_is_word commands.Thread = refl
 command_is_word commands.Let = refl
+command_is_word commands.Compute = refl
 command_is_word commands.If = refl
 command_is_word commands.Else = refl
 command_is_word commands.While = refl
 command_is_word commands.End = refl
 command_is_word commands.Return = refl
-command_is_word commands.Peek = refl
-command_is_word commands.Get = refl
-command_is_word commands.Post = refl
-command_is_word commands.PostThread = refl
-command_is_word commands.PostQuit = refl
-command_is_word commands.Dispatch = refl
-command_is_word commands.Send = refl
-command_is_word commands.SendTimeout = refl
-command_is_word commands.SendNotify = refl
-command_is_word commands.SendCallback = refl
-command_is_word commands.Reply = refl
-command_is_word commands.InSend = refl
-command_is_word commands.Message = refl
-command_is_word commands.Register = refl
-command_is_word commands.Unregister = refl
-command_is_word commands.IsWindow = refl
-command_is_word commands.Parent = refl
-command_is_word commands.NextTop = refl
-command_is_word commands.Clock = refl
-command_is_word commands.Yield = refl
+command_is_word (commands.Call n) = call_is_word n
 command_is_word commands.Sleep = refl
 command_is_word commands.Create = refl
 command_is_word commands.Destroy = refl
@@ -178,6 +169,7 @@ part_is_word known (parts.Operand a) fits h = operand_is_word a fits
 part_is_word known (parts.Operator op) fits h = operator_is_word op
 part_is_word known (parts.Comparison c) fits h = comparison_is_word c
 part_is_word known (parts.Name n) fits h = name_at_is_word known.names n h.names.spelled
+part_is_word known (parts.Beginning k) fits h = name_at_is_word known.procedures k h.procedures.spelled
 part_is_word known (parts.Procedure k) fits h = name_at_is_word known.procedures k h.procedures.spelled
 
 parts_are_words : (known : Known) (ps : List Part) → AllByRecursion IsPart ps → AreKnown known → list_all is_word (map (part_word known) ps) ≡ true

@@ -25,11 +25,9 @@ use Rattle.script_tree.specs.declared.operand.Operator.{Operator}
 use Rattle.script_tree.specs.declared.operand.Operator.TheVariants as operators
 use Rattle.script_tree.specs.declared.operand.Comparison.{Comparison}
 use Rattle.script_tree.specs.declared.operand.Comparison.TheVariants as comparisons
-use Rattle.script_lines.specs.declared.line.Command.{Command}
-use Rattle.script_lines.specs.declared.line.Command.TheVariants as commands
 use Rattle.script_lines.specs.LineLimits.{IsOperand}
-use Rattle.script_lines.specs.LineReading.{next_value, digits_at, number_at, letter_at, variable_at, operator_at, comparison_at, command_at, minus_at, message_operand, constant_operand, named_at, operand_at}
-use Rattle.script_lines.specs.Words.{letter_word, variable_word, operator_word, comparison_word, command_word, operand_word}
+use Rattle.script_lines.specs.LineReading.{next_value, digits_at, number_at, letter_at, variable_at, operator_at, comparison_at, minus_at, message_operand, constant_operand, named_at, operand_at}
+use Rattle.script_lines.specs.Words.{letter_word, variable_word, operator_word, comparison_word, operand_word}
 
 pub letter_again : (v : Letter) → letter_at (letter_word v) ≡ Some v
 unfolding letter_at
@@ -76,41 +74,6 @@ unfolding comparison_at
 comparison_again comparisons.Equal = refl
 comparison_again comparisons.Different = refl
 comparison_again comparisons.Below = refl
-
-pub command_again : (v : Command) → command_at (command_word v) ≡ Some v
-unfolding command_at
-command_again commands.Procedure = refl
-command_again commands.Thread = refl
-command_again commands.Let = refl
-command_again commands.If = refl
-command_again commands.Else = refl
-command_again commands.While = refl
-command_again commands.End = refl
-command_again commands.Return = refl
-command_again commands.Peek = refl
-command_again commands.Get = refl
-command_again commands.Post = refl
-command_again commands.PostThread = refl
-command_again commands.PostQuit = refl
-command_again commands.Dispatch = refl
-command_again commands.Send = refl
-command_again commands.SendTimeout = refl
-command_again commands.SendNotify = refl
-command_again commands.SendCallback = refl
-command_again commands.Reply = refl
-command_again commands.InSend = refl
-command_again commands.Message = refl
-command_again commands.Register = refl
-command_again commands.Unregister = refl
-command_again commands.IsWindow = refl
-command_again commands.Parent = refl
-command_again commands.NextTop = refl
-command_again commands.Clock = refl
-command_again commands.Yield = refl
-command_again commands.Sleep = refl
-command_again commands.Create = refl
-command_again commands.Destroy = refl
-command_again commands.Default = refl
 
 -- ---- numbers
 

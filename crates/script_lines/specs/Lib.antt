@@ -1,4 +1,8 @@
 pub mod Known
+pub mod Parts
+pub mod Statements
+pub mod Rows
+pub mod LineParts
 pub mod Words
 pub mod LineTexts
 pub mod LineLimits

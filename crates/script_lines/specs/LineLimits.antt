@@ -6,13 +6,10 @@ use Rattle.name_table.specs.Messages.{message_rows}
 use Rattle.name_table.specs.Constants.{constant_rows}
 use Rattle.script_tree.specs.declared.operand.Operand.{Operand}
 use Rattle.script_tree.specs.declared.operand.Operand.TheVariants.{Number, Minus, Message, Constant, Variable}
-use Rattle.script_tree.specs.declared.operand.Test.{Test}
-use Rattle.script_tree.specs.declared.statement.CallStatement.{CallStatement}
-use Rattle.script_tree.specs.declared.statement.Creation.{Creation}
 use Rattle.script_lines.specs.declared.line.Line.{Line}
 use Rattle.script_lines.specs.declared.line.Part.{Part}
 use Rattle.script_lines.specs.declared.line.Part.TheVariants as parts
-use Rattle.script_lines.specs.Words.{test_parts, call_parts, creation_parts, line_parts}
+use Rattle.script_lines.specs.LineParts.{line_parts}
 
 -- its number is in range, and its name is one of the table's
 abbrev pub IsOperand : Operand → Type 0
@@ -29,12 +26,3 @@ IsPart p = ⊤
 -- all its operands are in range
 abbrev pub IsLine : Line → Type 0
 IsLine l = AllByRecursion IsPart (line_parts l)
-
-abbrev pub IsTest : Test → Type 0
-IsTest t = AllByRecursion IsPart (test_parts t)
-
-abbrev pub IsCall : CallStatement → Type 0
-IsCall c = AllByRecursion IsPart (call_parts c)
-
-abbrev pub IsCreation : Creation → Type 0
-IsCreation c = AllByRecursion IsPart (creation_parts c)

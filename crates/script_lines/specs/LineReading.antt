@@ -17,17 +17,16 @@ use Rattle.script_tree.specs.declared.operand.Operator.{Operator}
 use Rattle.script_tree.specs.declared.operand.Operator.TheVariants as operators
 use Rattle.script_tree.specs.declared.operand.Comparison.{Comparison}
 use Rattle.script_tree.specs.declared.operand.Comparison.TheVariants as comparisons
-use Rattle.script_tree.specs.declared.operand.Test.{Test}
-use Rattle.script_tree.specs.declared.statement.CallStatement.{CallStatement}
-use Rattle.script_tree.specs.declared.statement.CallStatement.TheVariants as calls
-use Rattle.script_tree.specs.declared.statement.Creation.{Creation}
 use Rattle.script_lines.specs.declared.line.Line.{Line}
-use Rattle.script_lines.specs.declared.line.Line.TheVariants as lines
-use Rattle.script_lines.specs.declared.line.Command.{Command}
-use Rattle.script_lines.specs.declared.line.Command.TheVariants as commands
+use Rattle.script_lines.specs.declared.line.Part.{Part}
+use Rattle.script_lines.specs.declared.line.Part.TheVariants as parts
+use Rattle.script_lines.specs.declared.line.Place.{Place}
+use Rattle.script_lines.specs.declared.line.Place.TheVariants as places
 use Rattle.script_lines.specs.Known.{Known}
+use Rattle.script_lines.specs.LineParts.{made_line}
 use Rattle.script_lines.specs.NameLimits.{is_name}
-use Rattle.script_lines.specs.Words.{letter_word, variable_word, operator_word, comparison_word, command_word}
+use Rattle.script_lines.specs.Rows.{command_at, command_places}
+use Rattle.script_lines.specs.Words.{letter_word, variable_word, operator_word, comparison_word}
 
 infixl 10 ◌>>=◌
 abbrev pub ◌>>=◌ : {A B : Type 0} → Option A → (A → Option B) → Option B
@@ -74,13 +73,6 @@ all_operators = operators.Plus ∷ operators.Minus ∷ operators.And ∷ operato
 abbrev pub all_comparisons : List Comparison
 all_comparisons = comparisons.Equal ∷ comparisons.Different ∷ comparisons.Below ∷ []
 
-abbrev pub all_commands : List Command
-all_commands =
-    commands.Procedure ∷ commands.Thread ∷ commands.Let ∷ commands.If ∷ commands.Else ∷ commands.While ∷ commands.End ∷ commands.Return ∷
-    commands.Peek ∷ commands.Get ∷ commands.Post ∷ commands.PostThread ∷ commands.PostQuit ∷ commands.Dispatch ∷ commands.Send ∷ commands.SendTimeout ∷
-    commands.SendNotify ∷ commands.SendCallback ∷ commands.Reply ∷ commands.InSend ∷ commands.Message ∷ commands.Register ∷ commands.Unregister ∷ commands.IsWindow ∷
-    commands.Parent ∷ commands.NextTop ∷ commands.Clock ∷ commands.Yield ∷ commands.Sleep ∷ commands.Create ∷ commands.Destroy ∷ commands.Default ∷ []
-
 unfoldable pub letter_at : List ℕ → Option Letter
 letter_at word = find (λ v. bytes_eq (letter_word v) word) all_letters
 
@@ -92,9 +84,6 @@ operator_at word = find (λ v. bytes_eq (operator_word v) word) all_operators
 
 unfoldable pub comparison_at : List ℕ → Option Comparison
 comparison_at word = find (λ v. bytes_eq (comparison_word v) word) all_comparisons
-
-unfoldable pub command_at : List ℕ → Option Command
-command_at word = find (λ v. bytes_eq (command_word v) word) all_commands
 
 -- ---- operands
 
@@ -121,90 +110,6 @@ named_at word = message_operand (number_in message_rows word) (number_in constan
 unfoldable pub operand_at : List ℕ → Option Operand
 operand_at [] = None
 operand_at (c ∷ cs) = if c == 45 then minus_at cs else (if is_ascii_digit c then Some (operands.Number (number_at (c ∷ cs))) else named_at (c ∷ cs))
-
--- ---- lines
-
-abbrev pub test_of : Operand → Comparison → Operand → Test
-test_of left comparison right = record { left = left; comparison = comparison; right = right }
-
-unfoldable pub test_at : List (List ℕ) → Option Test
-test_at words = do
-  left ← operand_at (word_at words 1)
-  comparison ← comparison_at (word_at words 2)
-  right ← operand_at (word_at words 3)
-  Some (test_of left comparison right)
-
-unfoldable pub let_at : List (List ℕ) → Option Line
-let_at words = do
-  letter ← letter_at (word_at words 1)
-  a ← operand_at (word_at words 2)
-  Some (lines.Let letter a)
-
-unfoldable pub compute_at : List (List ℕ) → Option Line
-compute_at words = do
-  letter ← letter_at (word_at words 1)
-  a ← operand_at (word_at words 2)
-  operator ← operator_at (word_at words 3)
-  b ← operand_at (word_at words 4)
-  Some (lines.Compute letter a operator b)
-
--- the operands of a statement with three of them
-unfoldable pub three_at : List (List ℕ) → Option (Operand × Operand × Operand)
-three_at words = do
-  a ← operand_at (word_at words 1)
-  b ← operand_at (word_at words 2)
-  c ← operand_at (word_at words 3)
-  Some (a, b, c)
-
--- the first four operands of a statement
-unfoldable pub four_at : List (List ℕ) → Option (Operand × Operand × Operand × Operand)
-four_at words = do
-  a ← operand_at (word_at words 1)
-  b ← operand_at (word_at words 2)
-  c ← operand_at (word_at words 3)
-  d ← operand_at (word_at words 4)
-  Some (a, b, c, d)
-
-unfoldable pub send_timeout_at : List (List ℕ) → Option CallStatement
-send_timeout_at words = do
-  x ← four_at words
-  flags ← operand_at (word_at words 5)
-  ms ← operand_at (word_at words 6)
-  Some (calls.SendTimeout x.0 x.1 x.2 x.3 flags ms)
-
--- the call that begins with this word, where it has no name
-unfoldable pub call_at : Command → List (List ℕ) → Option CallStatement
-call_at commands.Peek words = four_at words >>= λ x. Some (calls.Peek x.0 x.1 x.2 x.3)
-call_at commands.Get words = three_at words >>= λ x. Some (calls.Get x.0 x.1 x.2)
-call_at commands.Post words = four_at words >>= λ x. Some (calls.Post x.0 x.1 x.2 x.3)
-call_at commands.PostThread words = four_at words >>= λ x. Some (calls.PostThread x.0 x.1 x.2 x.3)
-call_at commands.PostQuit words = operand_at (word_at words 1) >>= λ a. Some (calls.PostQuit a)
-call_at commands.Dispatch words = Some calls.Dispatch
-call_at commands.Send words = four_at words >>= λ x. Some (calls.Send x.0 x.1 x.2 x.3)
-call_at commands.SendTimeout words = send_timeout_at words
-call_at commands.SendNotify words = four_at words >>= λ x. Some (calls.SendNotify x.0 x.1 x.2 x.3)
-call_at commands.Reply words = operand_at (word_at words 1) >>= λ a. Some (calls.Reply a)
-call_at commands.InSend words = Some calls.InSend
-call_at commands.IsWindow words = operand_at (word_at words 1) >>= λ a. Some (calls.IsWindow a)
-call_at commands.Parent words = operand_at (word_at words 1) >>= λ a. Some (calls.Parent a)
-call_at commands.NextTop words = operand_at (word_at words 1) >>= λ a. Some (calls.NextTop a)
-call_at commands.Clock words = Some calls.Clock
-call_at commands.Yield words = Some calls.Yield
-call_at _ words = None
-
--- the line that begins with this word, where it has no name
-unfoldable pub plain_line_at : Command → List (List ℕ) → Option Line
-plain_line_at commands.Thread words = Some lines.Thread
-plain_line_at commands.Let words = if nat_le (length words) 3 then let_at words else compute_at words
-plain_line_at commands.If words = test_at words >>= λ t. Some (lines.If t)
-plain_line_at commands.Else words = Some lines.Else
-plain_line_at commands.While words = test_at words >>= λ t. Some (lines.While t)
-plain_line_at commands.End words = Some lines.End
-plain_line_at commands.Return words = operand_at (word_at words 1) >>= λ a. Some (lines.Return a)
-plain_line_at commands.Sleep words = operand_at (word_at words 1) >>= λ a. Some (lines.Sleep a)
-plain_line_at commands.Destroy words = operand_at (word_at words 1) >>= λ a. Some (lines.Destroy a)
-plain_line_at commands.Default words = Some lines.Default
-plain_line_at command words = call_at command words >>= λ c. Some (lines.Call c)
 
 -- ---- names
 
@@ -247,73 +152,26 @@ begun_at known word = with_procedures known (absent_or_none (place_in known.proc
 unfoldable pub procedure_at : Known → List ℕ → Option ℕ
 procedure_at known word = place_in known.procedures word
 
--- ---- lines with names
+-- ---- lines
 
-unfoldable pub procedure_line : Known → List (List ℕ) → Option (Line × Known)
-procedure_line known words = begun_at known (word_at words 1) >>= λ x. Some (lines.Procedure x.0, x.1)
+-- the part that a word is in a place, and the names with the one in it
+abbrev pub part_at : Known → Place → List ℕ → Option (Part × Known)
+part_at known places.Letter word = letter_at word >>= λ v. Some (parts.Letter v, known)
+part_at known places.Operand word = operand_at word >>= λ a. Some (parts.Operand a, known)
+part_at known places.Operator word = operator_at word >>= λ op. Some (parts.Operator op, known)
+part_at known places.Comparison word = comparison_at word >>= λ c. Some (parts.Comparison c, known)
+part_at known places.Name word = name_at known word >>= λ x. Some (parts.Name x.0, x.1)
+part_at known places.Beginning word = begun_at known word >>= λ x. Some (parts.Beginning x.0, x.1)
+part_at known places.Procedure word = procedure_at known word >>= λ k. Some (parts.Procedure k, known)
 
-unfoldable pub message_line : Known → List (List ℕ) → Option (Line × Known)
-message_line known words = name_at known (word_at words 1) >>= λ x. Some (lines.Call (calls.Message x.0), x.1)
+-- the parts that the words from one on are in their places, and the names with those in them
+unfoldable pub parts_from : Known → List Place → List (List ℕ) → ℕ → Option (List Part × Known)
+parts_from known [] words k = Some ([], known)
+parts_from known (place ∷ more) words k = part_at known place (word_at words k) >>= λ first. parts_from first.1 more words (k + 1) >>= λ others. Some (first.0 ∷ others.0, others.1)
 
-unfoldable pub unregister_line : Known → List (List ℕ) → Option (Line × Known)
-unregister_line known words = name_at known (word_at words 1) >>= λ x. Some (lines.Call (calls.Unregister x.0), x.1)
-
-unfoldable pub register_line : Known → List (List ℕ) → Option (Line × Known)
-register_line known words = do
-  k ← procedure_at known (word_at words 2)
-  colour ← operand_at (word_at words 3)
-  x ← name_at known (word_at words 1)
-  Some (lines.Call (calls.Register x.0 k colour), x.1)
-
-unfoldable pub send_callback_line : Known → List (List ℕ) → Option (Line × Known)
-send_callback_line known words = do
-  x ← four_at words
-  k ← procedure_at known (word_at words 5)
-  extra ← operand_at (word_at words 6)
-  Some (lines.Call (calls.SendCallback x.0 x.1 x.2 x.3 k extra), known)
-
-abbrev pub creation_of : ℕ → ℕ → Operand → Operand → Operand → Operand → Operand → Operand → Operand → Creation
-creation_of class title parent style extended_style left top right bottom =
-    record { class = class; title = title; parent = parent; style = style; extended_style = extended_style; left = left; top = top; right = right; bottom = bottom }
-
--- a creation but for its names
-unfoldable pub nameless_creation_at : List (List ℕ) → Option Creation
-nameless_creation_at words = do
-  parent ← operand_at (word_at words 3)
-  style ← operand_at (word_at words 4)
-  extended_style ← operand_at (word_at words 5)
-  left ← operand_at (word_at words 6)
-  top ← operand_at (word_at words 7)
-  right ← operand_at (word_at words 8)
-  bottom ← operand_at (word_at words 9)
-  Some (creation_of 0 0 parent style extended_style left top right bottom)
-
-unfoldable pub create_line : Known → List (List ℕ) → Option (Line × Known)
-create_line known words = do
-  creation ← nameless_creation_at words
-  class ← name_at known (word_at words 1)
-  title ← name_at class.1 (word_at words 2)
-  Some (lines.Create (record creation { class = class.0; title = title.0 }), title.1)
-
--- ---- all lines
-
-abbrev pub with_known : Known → Option Line → Option (Line × Known)
-with_known known (Some l) = Some (l, known)
-with_known known None = None
-
--- the line that begins with this word, and the names with those in it
-unfoldable pub line_of : Known → Command → List (List ℕ) → Option (Line × Known)
-line_of known commands.Procedure words = procedure_line known words
-line_of known commands.SendCallback words = send_callback_line known words
-line_of known commands.Message words = message_line known words
-line_of known commands.Register words = register_line known words
-line_of known commands.Unregister words = unregister_line known words
-line_of known commands.Create words = create_line known words
-line_of known command words = with_known known (plain_line_at command words)
-
--- the line with these words, and the names with those in it
+-- the line with these words, and the names with those in it: its row is found by the first word, and what stands in its places are the others; words that are too many are passed over
 unfoldable pub line_at : Known → List (List ℕ) → Option (Line × Known)
-line_at known words = command_at (word_at words 0) >>= λ command. line_of known command words
+line_at known words = command_at (word_at words 0) (length words) >>= λ command. parts_from known (command_places command) words 1 >>= λ x. made_line command x.0 >>= λ l. Some (l, x.1)
 
 -- the lines, and the names with those in them
 unfoldable pub lines_at : Known → List (List ℕ) → Option (List Line × Known)

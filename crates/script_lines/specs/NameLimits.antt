@@ -2,11 +2,11 @@
 use Rattle.std.specs.Prelude.{◌≡◌, ℕ, ◌+◌, ◌≤◌, Bool, true, false, not, ◌&&◌, ◌||◌, ◌==◌, nat_le, nat_lt, List, [], ◌∷◌, length, Option, Some, None, if◌then◌else◌}
 use Rattle.std.specs.List.{list_all, list_any}
 use Rattle.std.specs.Str.{bytes_eq}
-use Rattle.script_tree.specs.declared.statement.CallStatement.{CallStatement}
 use Rattle.script_lines.specs.declared.line.Line.{Line}
-use Rattle.script_lines.specs.declared.line.Line.TheVariants as lines
-use Rattle.script_tree.specs.declared.statement.CallStatement.TheVariants as calls
+use Rattle.script_lines.specs.declared.line.Part.{Part}
+use Rattle.script_lines.specs.declared.line.Part.TheVariants as parts
 use Rattle.script_lines.specs.Known.{Known}
+use Rattle.script_lines.specs.LineParts.{line_parts}
 
 -- a letter of a name
 abbrev pub is_small_letter : ℕ → Bool
@@ -27,60 +27,30 @@ is_distinct (x ∷ xs) = not (list_any (bytes_eq x) xs) && is_distinct xs
 
 -- ---- names of classes, titles and messages
 
--- the places of the names in a call
-abbrev pub names_in_call : CallStatement → List ℕ
-names_in_call (calls.Peek w min max flags) = []
-names_in_call (calls.Get w min max) = []
-names_in_call (calls.Post w m p q) = []
-names_in_call (calls.PostThread t m p q) = []
-names_in_call (calls.PostQuit v) = []
-names_in_call calls.Dispatch = []
-names_in_call (calls.Send w m p q) = []
-names_in_call (calls.SendTimeout w m p q flags ms) = []
-names_in_call (calls.SendNotify w m p q) = []
-names_in_call (calls.SendCallback w m p q k extra) = []
-names_in_call (calls.Reply v) = []
-names_in_call calls.InSend = []
-names_in_call (calls.Message n) = n ∷ []
-names_in_call (calls.Register n k colour) = n ∷ []
-names_in_call (calls.Unregister n) = n ∷ []
-names_in_call (calls.IsWindow w) = []
-names_in_call (calls.Parent w) = []
-names_in_call (calls.NextTop w) = []
-names_in_call calls.Clock = []
-names_in_call calls.Yield = []
-
--- the places of the names in a line, in the order in which they stand there
-abbrev pub names_in_line : Line → List ℕ
-names_in_line (lines.Procedure k) = []
-names_in_line lines.Thread = []
-names_in_line (lines.Let v a) = []
-names_in_line (lines.Compute v a op b) = []
-names_in_line (lines.If t) = []
-names_in_line lines.Else = []
-names_in_line (lines.While t) = []
-names_in_line lines.End = []
-names_in_line (lines.Return a) = []
-names_in_line (lines.Call c) = names_in_call c
-names_in_line (lines.Sleep ms) = []
-names_in_line (lines.Create c) = c.class ∷ c.title ∷ []
-names_in_line (lines.Destroy w) = []
-names_in_line lines.Default = []
-
 -- how many names have been seen after one more, where there are so many in all: it is one of those seen, or the next
 abbrev pub seen_with : ℕ → Option ℕ → ℕ → Option ℕ
 seen_with count (Some seen) n = if nat_lt n seen then Some seen else (if (n == seen) && nat_lt seen count then Some (seen + 1) else None)
 seen_with count None n = None
 
--- after several more
-abbrev pub seen_after : ℕ → Option ℕ → List ℕ → Option ℕ
+-- after one more part of a line
+abbrev pub seen_with_part : ℕ → Option ℕ → Part → Option ℕ
+seen_with_part count o (parts.Letter v) = o
+seen_with_part count o (parts.Operand a) = o
+seen_with_part count o (parts.Operator op) = o
+seen_with_part count o (parts.Comparison c) = o
+seen_with_part count o (parts.Name n) = seen_with count o n
+seen_with_part count o (parts.Beginning k) = o
+seen_with_part count o (parts.Procedure k) = o
+
+-- after several parts
+abbrev pub seen_after : ℕ → Option ℕ → List Part → Option ℕ
 seen_after count o [] = o
-seen_after count o (n ∷ more) = seen_after count (seen_with count o n) more
+seen_after count o (p ∷ ps) = seen_after count (seen_with_part count o p) ps
 
 -- after lines
 abbrev pub seen_all : ℕ → Option ℕ → List Line → Option ℕ
 seen_all count o [] = o
-seen_all count o (l ∷ ls) = seen_all count (seen_after count o (names_in_line l)) ls
+seen_all count o (l ∷ ls) = seen_all count (seen_after count o (line_parts l)) ls
 
 abbrev pub all_seen : ℕ → Option ℕ → Bool
 all_seen count (Some n) = n == count
@@ -92,56 +62,35 @@ are_in_order count lines = all_seen count (seen_all count (Some 0) lines)
 
 -- ---- procedures
 
--- the places of the procedures that a call names
-abbrev pub procedures_in_call : CallStatement → List ℕ
-procedures_in_call (calls.Peek w min max flags) = []
-procedures_in_call (calls.Get w min max) = []
-procedures_in_call (calls.Post w m p q) = []
-procedures_in_call (calls.PostThread t m p q) = []
-procedures_in_call (calls.PostQuit v) = []
-procedures_in_call calls.Dispatch = []
-procedures_in_call (calls.Send w m p q) = []
-procedures_in_call (calls.SendTimeout w m p q flags ms) = []
-procedures_in_call (calls.SendNotify w m p q) = []
-procedures_in_call (calls.SendCallback w m p q k extra) = k ∷ []
-procedures_in_call (calls.Reply v) = []
-procedures_in_call calls.InSend = []
-procedures_in_call (calls.Message n) = []
-procedures_in_call (calls.Register n k colour) = k ∷ []
-procedures_in_call (calls.Unregister n) = []
-procedures_in_call (calls.IsWindow w) = []
-procedures_in_call (calls.Parent w) = []
-procedures_in_call (calls.NextTop w) = []
-procedures_in_call calls.Clock = []
-procedures_in_call calls.Yield = []
+-- how many procedures have begun after one more begins, where there are so many in all: it is the next
+abbrev pub begun_with : ℕ → Option ℕ → ℕ → Option ℕ
+begun_with count (Some begun) k = if (k == begun) && nat_lt begun count then Some (begun + 1) else None
+begun_with count None k = None
 
--- the places of the procedures that a statement names
-abbrev pub procedures_in_line : Line → List ℕ
-procedures_in_line (lines.Procedure k) = []
-procedures_in_line lines.Thread = []
-procedures_in_line (lines.Let v a) = []
-procedures_in_line (lines.Compute v a op b) = []
-procedures_in_line (lines.If t) = []
-procedures_in_line lines.Else = []
-procedures_in_line (lines.While t) = []
-procedures_in_line lines.End = []
-procedures_in_line (lines.Return a) = []
-procedures_in_line (lines.Call c) = procedures_in_call c
-procedures_in_line (lines.Sleep ms) = []
-procedures_in_line (lines.Create c) = []
-procedures_in_line (lines.Destroy w) = []
-procedures_in_line lines.Default = []
+-- after one is named: it has begun
+abbrev pub named_with : Option ℕ → ℕ → Option ℕ
+named_with (Some begun) k = if nat_lt k begun then Some begun else None
+named_with None k = None
 
--- how many procedures have begun after a line, where there are so many in all: the line begins the next, or names only such as have begun
-abbrev pub begun_after : ℕ → Option ℕ → Line → Option ℕ
-begun_after count (Some begun) (lines.Procedure k) = if (k == begun) && nat_lt begun count then Some (begun + 1) else None
-begun_after count (Some begun) l = if list_all (λ k. nat_lt k begun) (procedures_in_line l) then Some begun else None
-begun_after count None l = None
+-- after one more part of a line
+abbrev pub begun_with_part : ℕ → Option ℕ → Part → Option ℕ
+begun_with_part count o (parts.Letter v) = o
+begun_with_part count o (parts.Operand a) = o
+begun_with_part count o (parts.Operator op) = o
+begun_with_part count o (parts.Comparison c) = o
+begun_with_part count o (parts.Name n) = o
+begun_with_part count o (parts.Beginning k) = begun_with count o k
+begun_with_part count o (parts.Procedure k) = named_with o k
+
+-- after several parts
+abbrev pub begun_after : ℕ → Option ℕ → List Part → Option ℕ
+begun_after count o [] = o
+begun_after count o (p ∷ ps) = begun_after count (begun_with_part count o p) ps
 
 -- after lines
 abbrev pub begun_all : ℕ → Option ℕ → List Line → Option ℕ
 begun_all count o [] = o
-begun_all count o (l ∷ ls) = begun_all count (begun_after count o l) ls
+begun_all count o (l ∷ ls) = begun_all count (begun_after count o (line_parts l)) ls
 
 -- the procedures are numbered in the order of their lines, each is named below its line only, and there are so many
 abbrev pub are_procedures_in_order : ℕ → List Line → Bool

@@ -16,18 +16,21 @@ const NAME_LIMIT: usize = 1024;
 /// How many procedures a script has at most.
 const PROCEDURE_LIMIT: usize = 64;
 
+/// Whether a byte is a lower-case letter.
 fn is_small_letter(byte: u8) -> bool
     ensures { result ≡ is_small_letter byte }
 {
     97 <= byte && byte <= 122
 }
 
+/// Whether a byte is a lower-case letter, a digit or `_`.
 fn is_name_byte(byte: u8) -> bool
     ensures { result ≡ is_name_byte byte }
 {
     is_small_letter(byte) || (48 <= byte && byte <= 57) || byte == 95
 }
 
+/// Whether all bytes are such.
 fn all_name_bytes(bytes: &[u8]) -> bool
     ensures { result ≡ list_all is_name_byte bytes.now }
 {

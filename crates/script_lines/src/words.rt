@@ -1,11 +1,10 @@
-//! The words of letters, variables, operators, comparisons and commands, both ways.
+//! The words of letters, variables, operators and comparisons, both ways.
 
 ghost use Rattle.std.specs.Prelude.{◌≡◌, find};
 ghost use Rattle.std.specs.Str.{bytes_eq};
-ghost use Rattle.script_lines.specs.LineReading.{letter_at, variable_at, operator_at, comparison_at, command_at};
-ghost use Rattle.script_lines.specs.Words.{letter_word, variable_word, operator_word, comparison_word, command_word};
+ghost use Rattle.script_lines.specs.LineReading.{letter_at, variable_at, operator_at, comparison_at};
+ghost use Rattle.script_lines.specs.Words.{letter_word, variable_word, operator_word, comparison_word};
 
-use crate::line::Command;
 use script_tree::{Comparison, Letter, Operator, Variable};
 
 static LETTERS: [Letter; 8] = [
@@ -44,41 +43,6 @@ static VARIABLES: [Variable; 19] = [
 static OPERATORS: [Operator; 4] = [Operator::Plus, Operator::Minus, Operator::And, Operator::Or];
 
 static COMPARISONS: [Comparison; 3] = [Comparison::Equal, Comparison::Different, Comparison::Below];
-
-static COMMANDS: [Command; 32] = [
-    Command::Procedure,
-    Command::Thread,
-    Command::Let,
-    Command::If,
-    Command::Else,
-    Command::While,
-    Command::End,
-    Command::Return,
-    Command::Peek,
-    Command::Get,
-    Command::Post,
-    Command::PostThread,
-    Command::PostQuit,
-    Command::Dispatch,
-    Command::Send,
-    Command::SendTimeout,
-    Command::SendNotify,
-    Command::SendCallback,
-    Command::Reply,
-    Command::InSend,
-    Command::Message,
-    Command::Register,
-    Command::Unregister,
-    Command::IsWindow,
-    Command::Parent,
-    Command::NextTop,
-    Command::Clock,
-    Command::Yield,
-    Command::Sleep,
-    Command::Create,
-    Command::Destroy,
-    Command::Default,
-];
 
 /// The word of a letter.
 pub fn letter_word(letter: Letter) -> &'static [u8]
@@ -139,46 +103,6 @@ pub fn comparison_word(comparison: Comparison) -> &'static [u8]
     }
 }
 
-/// The first word of a line.
-pub fn command_word(command: Command) -> &'static [u8]
-    ensures { result.now ≡ command_word command }
-{
-    match command {
-        Command::Procedure => b"proc",
-        Command::Thread => b"thread",
-        Command::Let => b"let",
-        Command::If => b"if",
-        Command::Else => b"else",
-        Command::While => b"while",
-        Command::End => b"end",
-        Command::Return => b"return",
-        Command::Peek => b"peek",
-        Command::Get => b"get",
-        Command::Post => b"post",
-        Command::PostThread => b"post_thread",
-        Command::PostQuit => b"post_quit",
-        Command::Dispatch => b"dispatch",
-        Command::Send => b"send",
-        Command::SendTimeout => b"send_timeout",
-        Command::SendNotify => b"send_notify",
-        Command::SendCallback => b"send_callback",
-        Command::Reply => b"reply",
-        Command::InSend => b"in_send",
-        Command::Message => b"message",
-        Command::Register => b"register",
-        Command::Unregister => b"unregister",
-        Command::IsWindow => b"is_window",
-        Command::Parent => b"parent",
-        Command::NextTop => b"next_top",
-        Command::Clock => b"clock",
-        Command::Yield => b"yield",
-        Command::Sleep => b"sleep",
-        Command::Create => b"create",
-        Command::Destroy => b"destroy",
-        Command::Default => b"default",
-    }
-}
-
 /// The first of these letters that has the word.
 fn letter_in(all: &[Letter], word: &[u8]) -> Option<Letter>
     ensures { result ≡ find (λ v. bytes_eq (letter_word v) word.now) all.now }
@@ -227,18 +151,6 @@ fn comparison_in(all: &[Comparison], word: &[u8]) -> Option<Comparison>
     None
 }
 
-/// The first of these commands that has the word.
-fn command_in(all: &[Command], word: &[u8]) -> Option<Command>
-    ensures { result ≡ find (λ v. bytes_eq (command_word v) word.now) all.now }
-{
-    for v in all {
-        if command_word(*v) == word {
-            return Some(*v);
-        }
-    }
-    None
-}
-
 /// The letter with this word.
 #[tactic(auto, unfolding(crate::specs::LineReading::letter_at))]
 pub fn letter_at(word: &[u8]) -> Option<Letter>
@@ -269,12 +181,4 @@ pub fn comparison_at(word: &[u8]) -> Option<Comparison>
     ensures { result ≡ comparison_at word.now }
 {
     comparison_in(&COMPARISONS, word)
-}
-
-/// The command with this word.
-#[tactic(auto, unfolding(crate::specs::LineReading::command_at))]
-pub fn command_at(word: &[u8]) -> Option<Command>
-    ensures { result ≡ command_at word.now }
-{
-    command_in(&COMMANDS, word)
 }

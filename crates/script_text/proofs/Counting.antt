@@ -1,15 +1,21 @@
 -- How many procedures and threads lines have.
 use Rattle.std.proofs.Common.{◌≡◌, ℕ, ◌+◌, Bool, true, false, List, [], ◌∷◌, ◌++◌, length, Option, Some, None, refl, ap, sym, ◌∙◌, arith}
 use Rattle.std.specs.Prelude.{◌&&◌, ◌==◌, nat_lt, if◌then◌else◌}
-use Rattle.std.specs.List.{list_all, flat_map}
+use Rattle.std.specs.List.{flat_map}
 use Rattle.std.proofs.lemmas.Bool.{false≢true}
 use Rattle.std.proofs.lemmas.Bool.Decides.{nat_tests}
 use Rattle.script_tree.specs.declared.statement.Statement.{Statement, Row_of-Statement, end_of-Statement, more_of-Statement}
 use Rattle.script_tree.specs.declared.statement.Statement.TheVariants as statements
+use Rattle.script_tree.specs.declared.statement.CallStatement.{CallStatement}
+use Rattle.script_tree.specs.declared.statement.CallStatement.TheVariants as calls
 use Rattle.script_lines.specs.declared.line.Line.{Line}
 use Rattle.script_lines.specs.declared.line.Line.TheVariants as lines
-use Rattle.script_lines.specs.NameLimits.{procedures_in_line, all_seen, begun_after, begun_all, are_procedures_in_order}
-use Rattle.script_lines.proofs.LinesAgain.{none_begun}
+use Rattle.script_lines.specs.declared.line.Part.{Part}
+use Rattle.script_lines.specs.declared.line.Part.TheVariants as parts
+use Rattle.script_lines.specs.LineParts.{line_parts}
+use Rattle.script_lines.specs.Statements.{statement_parts}
+use Rattle.script_lines.specs.NameLimits.{all_seen, begun_after, begun_all, are_procedures_in_order}
+use Rattle.script_lines.proofs.LinesAgain.{none_begun, none_begun_after}
 use Rattle.script_text.specs.Lines.{statement_lines, row_lines, body_lines, thread_lines, procedure_lines, numbered_lines, code_lines}
 
 -- what a line counts for, where a procedure counts for p and a thread for t
@@ -96,25 +102,38 @@ same_threads a b c d e = sym (threads_counted a b) ∙ ap (total 0 1) e ∙ thre
 some_same : (n m : ℕ) → (let x : Option ℕ = Some n in let y : Option ℕ = Some m in x ≡ y) → n ≡ m
 some_same n m e = let f : Option ℕ → ℕ = λ o. elim o [ None ↦ n | Some x ↦ x ] in ap f e
 
-only_then : (b : Bool) (n m : ℕ) → (if b then Some n else None) ≡ Some m → n ≡ m
-only_then true n m e = some_same n m e
-only_then false n m e = absurd (cc e)
+-- how many of these parts begin a procedure
+abbrev begins : List Part → ℕ
+begins [] = 0
+begins (parts.Beginning k ∷ ps) = 1 + begins ps
+begins (p ∷ ps) = begins ps
 
-begun_more : (count n m : ℕ) (l : Line) → begun_after count (Some n) l ≡ Some m → n + weight 1 0 l ≡ m
-begun_more count n m (lines.Procedure k) e = only_then ((k == n) && nat_lt n count) (n + 1) m e
-begun_more count n m lines.Thread e = omega (arith, some_same n m e)
-begun_more count n m (lines.Let v a) e = omega (arith, some_same n m e)
-begun_more count n m (lines.Compute v a op b) e = omega (arith, some_same n m e)
-begun_more count n m (lines.If c) e = omega (arith, some_same n m e)
-begun_more count n m lines.Else e = omega (arith, some_same n m e)
-begun_more count n m (lines.While c) e = omega (arith, some_same n m e)
-begun_more count n m lines.End e = omega (arith, some_same n m e)
-begun_more count n m (lines.Return a) e = omega (arith, some_same n m e)
-begun_more count n m (lines.Call c) e = omega (arith, only_then (list_all (λ k. nat_lt k n) (procedures_in_line (lines.Call c))) n m e)
-begun_more count n m (lines.Sleep a) e = omega (arith, some_same n m e)
-begun_more count n m (lines.Create c) e = omega (arith, some_same n m e)
-begun_more count n m (lines.Destroy a) e = omega (arith, some_same n m e)
-begun_more count n m lines.Default e = omega (arith, some_same n m e)
+after_test : (count : ℕ) (b : Bool) (x n m : ℕ) (ps : List Part) → (begun_after count (Some x) ps ≡ Some m → n ≡ m) → begun_after count (if b then Some x else None) ps ≡ Some m → n ≡ m
+after_test count true x n m ps go e = go e
+after_test count false x n m ps go e = absurd (cc (sym (none_begun_after count ps) ∙ e))
+
+begun_parts : (count n m : ℕ) (ps : List Part) → begun_after count (Some n) ps ≡ Some m → n + begins ps ≡ m
+begun_parts count n m [] e = omega (arith, some_same n m e)
+begun_parts count n m (parts.Beginning k ∷ ps) e = after_test count ((k == n) && nat_lt n count) (n + 1) (n + (1 + begins ps)) m ps (λ f. omega (arith, begun_parts count (n + 1) m ps f)) e
+begun_parts count n m (parts.Procedure k ∷ ps) e = after_test count (nat_lt k n) n (n + begins ps) m ps (begun_parts count n m ps) e
+begun_parts count n m (parts.Letter v ∷ ps) e = begun_parts count n m ps e
+begun_parts count n m (parts.Operand a ∷ ps) e = begun_parts count n m ps e
+begun_parts count n m (parts.Operator op ∷ ps) e = begun_parts count n m ps e
+begun_parts count n m (parts.Comparison c ∷ ps) e = begun_parts count n m ps e
+begun_parts count n m (parts.Name k ∷ ps) e = begun_parts count n m ps e
+
+-- no statement of a call begins a procedure
+call_begins : (c : CallStatement) → begins (statement_parts c) ≡ 0
+call_begins calls.Dispatch = refl
+call_begins c = refl
+
+line_begins : (l : Line) → begins (line_parts l) ≡ weight 1 0 l
+line_begins (lines.Call c) = call_begins c
+line_begins lines.Thread = refl
+line_begins l = refl
+
+begun_more : (count n m : ℕ) (l : Line) → begun_after count (Some n) (line_parts l) ≡ Some m → n + weight 1 0 l ≡ m
+begun_more count n m l e = omega (arith, begun_parts count n m (line_parts l) e, line_begins l)
 
 eq_told : (a b : ℕ) → (a == b) ≡ true → a ≡ b
 eq_told a b h = grind (arith, nat_tests, h)
@@ -127,7 +146,7 @@ first_begun count (Some m) ls h = (m, refl)
 begun_counted : (count n : ℕ) (ls : List Line) → all_seen count (begun_all count (Some n) ls) ≡ true → n + total 1 0 ls ≡ count
 begun_counted count n [] h = omega (arith, eq_told n count h)
 begun_counted count n (l ∷ ls) h =
-    let first = first_begun count (begun_after count (Some n) l) ls h in
+    let first = first_begun count (begun_after count (Some n) (line_parts l)) ls h in
     let rest = begun_counted count first.0 ls (ap (λ (o : Option ℕ). all_seen count (begun_all count o ls)) (sym first.1) ∙ h) in
     omega (arith, begun_more count n first.0 l first.1, rest)
 

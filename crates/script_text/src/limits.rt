@@ -1,12 +1,12 @@
 //! The limits of a script.
 
-ghost use Rattle.std.specs.Prelude.{◌≡◌, ◌&&◌, Some, option_to_list};
+ghost use Rattle.std.specs.Prelude.{◌≡◌, ◌&&◌, Some};
 ghost use Rattle.std.specs.List.{list_all};
-ghost use Rattle.script_lines.specs.NameLimits.{names_in_call, names_in_line, seen_with, seen_after, are_in_order, procedures_in_call, procedures_in_line, begun_after, are_procedures_in_order};
+ghost use Rattle.script_lines.specs.NameLimits.{seen_with, seen_with_part, seen_after, are_in_order, begun_with, named_with, begun_with_part, begun_after, are_procedures_in_order};
 ghost use Rattle.script_text.specs.Limits.{is_within, is_turn};
 
-use script_lines::Line;
-use script_tree::{CallStatement, Script};
+use script_lines::{Line, Part, line_parts};
+use script_tree::Script;
 
 /// How many bytes the text of a script has at most.
 pub const SCRIPT_LIMIT: usize = 1048576;
@@ -43,34 +43,6 @@ pub fn fits(script: &Script) -> bool
         && threads.len() <= 15
 }
 
-/// The place of the name in a call.
-fn name_in_call(call: CallStatement) -> Option<u32>
-    ensures { option_to_list result ≡ names_in_call call }
-{
-    match call {
-        CallStatement::Peek(_, _, _, _) => None,
-        CallStatement::Get(_, _, _) => None,
-        CallStatement::Post(_, _, _, _) => None,
-        CallStatement::PostThread(_, _, _, _) => None,
-        CallStatement::PostQuit(_) => None,
-        CallStatement::Dispatch => None,
-        CallStatement::Send(_, _, _, _) => None,
-        CallStatement::SendTimeout(_, _, _, _, _, _) => None,
-        CallStatement::SendNotify(_, _, _, _) => None,
-        CallStatement::SendCallback(_, _, _, _, _, _) => None,
-        CallStatement::Reply(_) => None,
-        CallStatement::InSend => None,
-        CallStatement::Message(place) => Some(place),
-        CallStatement::Register(place, _, _) => Some(place),
-        CallStatement::Unregister(place) => Some(place),
-        CallStatement::IsWindow(_) => None,
-        CallStatement::Parent(_) => None,
-        CallStatement::NextTop(_) => None,
-        CallStatement::Clock => None,
-        CallStatement::Yield => None,
-    }
-}
-
 /// How many names there are after one more, where there were so many. None comes where it is neither
 /// one of them nor the next.
 fn seen_with(count: usize, seen: usize, place: u32) -> Option<usize>
@@ -85,34 +57,30 @@ fn seen_with(count: usize, seen: usize, place: u32) -> Option<usize>
     None
 }
 
-/// How many names there are after those of a line, where there were so many.
-fn seen_after(count: usize, seen: usize, line: Line) -> Option<usize>
-    ensures { result ≡ seen_after count (Some seen) (names_in_line line) }
+/// How many names there are after a part of a line, where there were so many.
+fn seen_with_part(count: usize, seen: usize, part: Part) -> Option<usize>
+    ensures { result ≡ seen_with_part count (Some seen) part }
 {
-    match line {
-        Line::Call(call) => {
-            match name_in_call(call) {
-                Some(place) => seen_with(count, seen, place),
-                None => Some(seen),
-            }
-        }
-        Line::Create(creation) => {
-            let seen = seen_with(count, seen, creation.class)?;
-            seen_with(count, seen, creation.title)
-        }
-        Line::Procedure(_) => Some(seen),
-        Line::Thread => Some(seen),
-        Line::Let(_, _) => Some(seen),
-        Line::Compute(_, _, _, _) => Some(seen),
-        Line::If(_) => Some(seen),
-        Line::Else => Some(seen),
-        Line::While(_) => Some(seen),
-        Line::End => Some(seen),
-        Line::Return(_) => Some(seen),
-        Line::Sleep(_) => Some(seen),
-        Line::Destroy(_) => Some(seen),
-        Line::Default => Some(seen),
+    match part {
+        Part::Name(place) => seen_with(count, seen, place),
+        Part::Letter(_) => Some(seen),
+        Part::Operand(_) => Some(seen),
+        Part::Operator(_) => Some(seen),
+        Part::Comparison(_) => Some(seen),
+        Part::Beginning(_) => Some(seen),
+        Part::Procedure(_) => Some(seen),
     }
+}
+
+/// How many names there are after the parts of a line, where there were so many.
+fn seen_after(count: usize, seen: usize, parts: &[Part]) -> Option<usize>
+    ensures { result ≡ seen_after count (Some seen) parts.now }
+{
+    let mut seen = seen;
+    for part in parts {
+        seen = seen_with_part(count, seen, *part)?;
+    }
+    Some(seen)
 }
 
 /// Whether the names are numbered in the order in which they first appear, and there are so many.
@@ -121,7 +89,7 @@ fn are_in_order(lines: &[Line], count: usize) -> bool
 {
     let mut seen = 0;
     for line in lines {
-        let Some(after) = seen_after(count, seen, *line) else {
+        let Some(after) = seen_after(count, seen, &line_parts(*line)) else {
             return false;
         };
         seen = after;
@@ -129,72 +97,53 @@ fn are_in_order(lines: &[Line], count: usize) -> bool
     seen == count
 }
 
-/// The place of the procedure that a call names.
-fn procedure_in_call(call: CallStatement) -> Option<u32>
-    ensures { option_to_list result ≡ procedures_in_call call }
+/// How many procedures have begun after one more begins, where so many had. None comes where it isn't the
+/// next.
+fn begun_with(count: usize, begun: usize, place: u32) -> Option<usize>
+    ensures { result ≡ begun_with count (Some begun) place }
 {
-    match call {
-        CallStatement::Peek(_, _, _, _) => None,
-        CallStatement::Get(_, _, _) => None,
-        CallStatement::Post(_, _, _, _) => None,
-        CallStatement::PostThread(_, _, _, _) => None,
-        CallStatement::PostQuit(_) => None,
-        CallStatement::Dispatch => None,
-        CallStatement::Send(_, _, _, _) => None,
-        CallStatement::SendTimeout(_, _, _, _, _, _) => None,
-        CallStatement::SendNotify(_, _, _, _) => None,
-        CallStatement::SendCallback(_, _, _, _, place, _) => Some(place),
-        CallStatement::Reply(_) => None,
-        CallStatement::InSend => None,
-        CallStatement::Message(_) => None,
-        CallStatement::Register(_, place, _) => Some(place),
-        CallStatement::Unregister(_) => None,
-        CallStatement::IsWindow(_) => None,
-        CallStatement::Parent(_) => None,
-        CallStatement::NextTop(_) => None,
-        CallStatement::Clock => None,
-        CallStatement::Yield => None,
+    if place as usize == begun && begun < count {
+        Some(begun + 1)
+    } else {
+        None
     }
 }
 
-/// The place of the procedure that a statement names.
-fn procedure_in_line(line: Line) -> Option<u32>
-    ensures { option_to_list result ≡ procedures_in_line line }
+/// How many procedures have begun after one is named, where so many had. None comes where it is none of them.
+fn named_with(begun: usize, place: u32) -> Option<usize>
+    ensures { result ≡ named_with (Some begun) place }
 {
-    match line {
-        Line::Call(call) => procedure_in_call(call),
-        Line::Procedure(_) => None,
-        Line::Thread => None,
-        Line::Let(_, _) => None,
-        Line::Compute(_, _, _, _) => None,
-        Line::If(_) => None,
-        Line::Else => None,
-        Line::While(_) => None,
-        Line::End => None,
-        Line::Return(_) => None,
-        Line::Sleep(_) => None,
-        Line::Create(_) => None,
-        Line::Destroy(_) => None,
-        Line::Default => None,
+    if (place as usize) < begun {
+        Some(begun)
+    } else {
+        None
     }
 }
 
-/// How many procedures have begun after a line, where so many had. None comes where it begins another
-/// than the next, or names one that has not begun.
-fn begun_after(count: usize, begun: usize, line: Line) -> Option<usize>
-    ensures { result ≡ begun_after count (Some begun) line }
+/// How many procedures have begun after a part of a line, where so many had.
+fn begun_with_part(count: usize, begun: usize, part: Part) -> Option<usize>
+    ensures { result ≡ begun_with_part count (Some begun) part }
 {
-    if let Line::Procedure(place) = line {
-        if place as usize == begun && begun < count {
-            return Some(begun + 1);
-        }
-        return None;
+    match part {
+        Part::Beginning(place) => begun_with(count, begun, place),
+        Part::Procedure(place) => named_with(begun, place),
+        Part::Letter(_) => Some(begun),
+        Part::Operand(_) => Some(begun),
+        Part::Operator(_) => Some(begun),
+        Part::Comparison(_) => Some(begun),
+        Part::Name(_) => Some(begun),
     }
-    match procedure_in_line(line) {
-        Some(place) if place as usize >= begun => None,
-        Some(_) => Some(begun),
-        None => Some(begun),
+}
+
+/// How many procedures have begun after the parts of a line, where so many had.
+fn begun_after(count: usize, begun: usize, parts: &[Part]) -> Option<usize>
+    ensures { result ≡ begun_after count (Some begun) parts.now }
+{
+    let mut begun = begun;
+    for part in parts {
+        begun = begun_with_part(count, begun, *part)?;
     }
+    Some(begun)
 }
 
 /// Whether the procedures are numbered in the order of their lines, each is named below its line only,
@@ -204,7 +153,7 @@ fn are_procedures_in_order(lines: &[Line], count: usize) -> bool
 {
     let mut begun = 0;
     for line in lines {
-        let Some(after) = begun_after(count, begun, *line) else {
+        let Some(after) = begun_after(count, begun, &line_parts(*line)) else {
             return false;
         };
         begun = after;

@@ -3,7 +3,8 @@ use Rattle.std.specs.List.{flat_map}
 use Rattle.user_io.proofs.Texts.{two}
 use Rattle.script_lines.specs.Known.{known_of}
 use Rattle.script_lines.specs.LineTexts.{blank_word}
-use Rattle.script_lines.specs.Words.{command_word, part_word}
+use Rattle.script_lines.specs.Rows.{command_word}
+use Rattle.script_lines.specs.Words.{part_word}
 use Rattle.script_lines.proofs.Puts.{adds_along, words_text}
 use Rattle.script_lines.proofs.line_writer.put_words.Goals as goal
 

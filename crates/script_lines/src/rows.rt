@@ -1,0 +1,153 @@
+//! One row for each line: its first word, and what stands in its places. The word and the places of a statement
+//! that makes a call are those of the call's row.
+
+ghost use Rattle.std.specs.Prelude.{◌≡◌, ◌≤◌, length, find, option_map};
+ghost use Rattle.std.specs.Str.{bytes_eq};
+ghost use Rattle.script_lines.specs.Rows.{command_word, place_of, statement_places, command_places, own_command, first_command, with_words, command_at};
+
+use crate::line::{Command, Place, Places};
+use arrayvec::ArrayVec;
+use call_table::{CallName, Field, call_form, call_named};
+
+/// The lines that make no one call.
+static OWN_COMMANDS: [Command; 12] = [
+    Command::Procedure,
+    Command::Thread,
+    Command::Let,
+    Command::If,
+    Command::Else,
+    Command::While,
+    Command::End,
+    Command::Return,
+    Command::Sleep,
+    Command::Create,
+    Command::Destroy,
+    Command::Default,
+];
+
+/// The first word of a line.
+pub fn command_word(command: Command) -> &'static [u8]
+    ensures { result.now ≡ command_word command }
+{
+    match command {
+        Command::Procedure => b"proc",
+        Command::Thread => b"thread",
+        Command::Let => b"let",
+        Command::Compute => b"let",
+        Command::If => b"if",
+        Command::Else => b"else",
+        Command::While => b"while",
+        Command::End => b"end",
+        Command::Return => b"return",
+        Command::Call(name) => call_form(name).word,
+        Command::Sleep => b"sleep",
+        Command::Create => b"create",
+        Command::Destroy => b"destroy",
+        Command::Default => b"default",
+    }
+}
+
+/// The place of a statement for a field of its call. No call has a field of the last kinds.
+fn place_of(field: Field) -> Place
+    ensures { result ≡ place_of field }
+{
+    match field {
+        Field::Number => Place::Operand,
+        Field::Message => Place::Operand,
+        Field::Signed => Place::Operand,
+        Field::Name => Place::Name,
+        Field::Procedure => Place::Procedure,
+        Field::Window => Place::Operand,
+        Field::Send => Place::Operand,
+        Field::Thread => Place::Operand,
+        Field::Count => Place::Operand,
+        Field::ShortMessage => Place::Operand,
+        Field::Pixel => Place::Operand,
+        Field::Source => Place::Operand,
+        Field::Cause => Place::Operand,
+        Field::Code => Place::Operand,
+    }
+}
+
+/// The places of a statement for the fields of a call.
+fn statement_places(name: CallName) -> Places
+    ensures { result.items ≡ statement_places name }
+{
+    let mut places = ArrayVec::new();
+    for field in call_form(name).fields {
+        places.push(place_of(*field));
+    }
+    places
+}
+
+/// These places.
+fn places_of(list: &[Place]) -> Places
+    requires { length list.now ≤ 9 }
+    ensures { result.items ≡ list.now }
+{
+    let mut places = ArrayVec::new();
+    let _ = places.try_extend_from_slice(list);
+    places
+}
+
+/// The places of a line after its first word.
+pub fn command_places(command: Command) -> Places
+    ensures { result.items ≡ command_places command }
+{
+    match command {
+        Command::Procedure => places_of(&[Place::Beginning]),
+        Command::Thread => places_of(&[]),
+        Command::Let => places_of(&[Place::Letter, Place::Operand]),
+        Command::Compute => places_of(&[
+            Place::Letter,
+            Place::Operand,
+            Place::Operator,
+            Place::Operand,
+        ]),
+        Command::If => places_of(&[Place::Operand, Place::Comparison, Place::Operand]),
+        Command::Else => places_of(&[]),
+        Command::While => places_of(&[Place::Operand, Place::Comparison, Place::Operand]),
+        Command::End => places_of(&[]),
+        Command::Return => places_of(&[Place::Operand]),
+        Command::Call(CallName::Dispatch) => places_of(&[]),
+        Command::Call(name) => statement_places(name),
+        Command::Sleep => places_of(&[Place::Operand]),
+        Command::Create => statement_places(CallName::NewWindow),
+        Command::Destroy => places_of(&[Place::Operand]),
+        Command::Default => places_of(&[]),
+    }
+}
+
+/// The first of these lines that has the word.
+fn command_in(all: &[Command], word: &[u8]) -> Option<Command>
+    ensures { result ≡ find (λ v. bytes_eq (command_word v) word.now) all.now }
+{
+    for v in all {
+        if command_word(*v) == word {
+            return Some(*v);
+        }
+    }
+    None
+}
+
+/// The line that begins with this word: one that makes no one call, else a statement of a call.
+#[tactic(auto, unfolding(crate::specs::Rows::own_command))]
+fn first_command(word: &[u8]) -> Option<Command>
+    ensures { result ≡ first_command word.now }
+{
+    match command_in(&OWN_COMMANDS, word) {
+        Some(command) => Some(command),
+        None => call_named(word).map(Command::Call),
+    }
+}
+
+/// The line with this first word and so many words in all: a `let` of more than three words has two operands.
+#[tactic(auto, unfolding(crate::specs::Rows::command_at))]
+pub fn command_at(word: &[u8], words: usize) -> Option<Command>
+    ensures { result ≡ command_at word.now words }
+{
+    match first_command(word) {
+        Some(Command::Let) if words > 3 => Some(Command::Compute),
+        found => found,
+    }
+}
