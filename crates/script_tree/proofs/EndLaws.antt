@@ -1,27 +1,26 @@
 -- A thread's program ends with `end_thread`, and makes that call nowhere else.
-use Rattle.std.proofs.Common.{◌≡◌, ◌≢◌, ℕ, suc, Bool, true, false, List, [], ◌∷◌, ◌++◌, refl, sym, ap, ◌∙◌, subst, append_assoc}
+use Rattle.std.proofs.Common.{◌≡◌, ◌≢◌, ℕ, Bool, true, false, List, [], ◌∷◌, ◌++◌, refl, sym, ap, ◌∙◌, subst, append_assoc}
 use Rattle.std.proofs.lemmas.List.Elements.{All-nil, All-cons}
 use Rattle.std.specs.Prelude.{All, ◌==◌, if◌then◌else◌}
 use Rattle.user_model.specs.declared.call.Call.{Call}
-use Rattle.user_model.specs.declared.call.Call.TheVariants.{EndThread, Doom, Leave, Send, SendTimeout, Yield}
+use Rattle.user_model.specs.declared.call.Call.TheVariants.{EndThread, Doom, Leave, Send, SendTimeout}
 use Rattle.user_model.specs.declared.entry.Answer.{Answer}
-use Rattle.user_model.specs.declared.entry.Answer.TheVariants.{Wait, Enter, Callback, Inside, Called, Begun, Refused}
-use Rattle.script_tree.specs.declared.statement.Statement.{Statement, items-the_row-Statement}
+use Rattle.user_model.specs.declared.entry.Answer.TheVariants.{Wait, Enter, Callback, Begun, Refused}
+use Rattle.script_tree.specs.declared.statement.Statement.{Statement}
 use Rattle.script_tree.specs.declared.statement.Statement.TheVariants.{Let, Compute, If', IfElse', While', Return, Call as CallOf, Sleep, Create, Destroy, Default as DefaultOf}
-use Rattle.script_tree.specs.declared.frame.Run.{Run}
 use Rattle.script_tree.specs.declared.frame.Lead.{Lead}
 use Rattle.script_tree.specs.declared.frame.Lead.TheVariants.{Calls, Runs, Ends as EndsSo}
 use Rattle.script_tree.specs.declared.variables.Parameters.{Parameters}
 use Rattle.script_tree.specs.declared.variables.Variables.{Variables}
 use Rattle.script_tree.specs.Tree.{Tree, body_of}
-use Rattle.script_tree.specs.Values.{holds, call_of}
+use Rattle.script_tree.specs.Values.{holds}
 use Rattle.script_tree.specs.Compounds.{default_result, compound_after}
 use Rattle.script_tree.specs.Pieces.{Piece, Lines, One, PassEnd, Making, Again, Giving, Settle, Quiet, Sleeping, Running, Leaving, Leaves, Left, Restore, Feed, State, Going, Returning, Given, Step, Becomes, Asks, Trace, End, Whole, Cut}
 use Rattle.script_tree.specs.Steps.{step, statement, begins, returns_to, takes, goes_on, sleeps, is_callback, default_pieces, follows, answered, variables_of}
 use Rattle.script_tree.specs.Stacks.{Kind, Goes, Returns, Gives, kind_of}
 use Rattle.script_tree.specs.Traces.{Makes, over, silent, entry, cut, IsTrace, GoesOn, EndsAfter}
 use Rattle.script_tree.proofs.Defaults.{default_either}
-use Rattle.script_tree.proofs.PlainCalls.{IsPlain, LeadIsPlain, plain_compound, plain_statement, plain_goes_on}
+use Rattle.script_tree.proofs.PlainCalls.{LeadIsPlain, plain_compound, plain_statement, plain_goes_on}
 
 -- pieces that make no `end_thread`, where each gets what it can begin with
 abbrev Fit : List Piece → Kind → Type 0

@@ -3,19 +3,17 @@ use Rattle.std.proofs.Common.{◌≡◌, ℕ, ◌+◌, ◌<◌, ◌≤◌, Bool,
 use Rattle.std.specs.Prelude.{max, ◌==◌, if◌then◌else◌}
 use Rattle.user_model.specs.declared.entry.Answer.{Answer}
 use Rattle.user_model.specs.declared.entry.Answer.TheVariants.{Refused}
-use Rattle.user_model.specs.declared.call.Call.{Call}
 use Rattle.user_model.specs.declared.call.Call.TheVariants.{Doom, Yield}
 use Rattle.script_tree.specs.declared.statement.Statement.{Statement, Row_of-Statement, end_of-Statement, more_of-Statement, items-the_row-Statement}
 use Rattle.script_tree.specs.declared.statement.Statement.TheVariants.{Let, Compute, If', IfElse', While', Return, Call as CallOf, Sleep, Create, Destroy, Default as DefaultOf}
-use Rattle.script_tree.specs.declared.frame.Run.{Run}
 use Rattle.script_tree.specs.declared.frame.Lead.{Lead}
 use Rattle.script_tree.specs.declared.frame.Lead.TheVariants.{Calls, Runs, Ends}
 use Rattle.script_tree.specs.declared.variables.Variables.{Variables}
 use Rattle.script_tree.specs.Tree.{Tree}
 use Rattle.script_tree.specs.Values.{holds}
 use Rattle.script_tree.specs.Compounds.{default_result, compound_after}
-use Rattle.script_tree.specs.Pieces.{Piece, Lines, One, PassEnd, Making, Again, Giving, Settle, Quiet, Sleeping, Running, Leaving, Leaves, Left, Restore, Feed, State, Going, Returning, Given, Step, Becomes, Asks}
-use Rattle.script_tree.specs.Steps.{step, statement, begins, returns_to, takes, goes_on, sleeps, is_callback, default_pieces}
+use Rattle.script_tree.specs.Pieces.{Piece, Lines, One, PassEnd, Making, Settle, Quiet, Sleeping, Running, Leaving, Leaves, Left, Feed, State, Going, Returning, Given, Step, Becomes, Asks}
+use Rattle.script_tree.specs.Steps.{step, statement, begins, returns_to, takes, goes_on, sleeps, is_callback}
 use Rattle.script_tree.proofs.Defaults.{default_either}
 use Rattle.script_tree.specs.Weights.{weight, row_weight, lines_weight, costs, steps_left}
 

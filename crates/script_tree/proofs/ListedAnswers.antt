@@ -1,6 +1,6 @@
 -- In a lawful past each answer of a thread's trace may stand behind its call, so its next call is answered by its row.
-use Rattle.std.proofs.Common.{◌≡◌, ◌≢◌, ◌≤◌, ◌<◌, ◌^◌, ℕ, zero, suc, ◌==◌, Bool, true, false, List, [], ◌∷◌, ◌++◌, length, Option, Some, None, refl, sym, ap, ◌∙◌, subst, inl, inr, arith, eq-eqb}
-use Rattle.std.specs.Prelude.{not, ◌&&◌, ◌||◌, if◌then◌else◌, unwrap_or, option_map, All, nat_le}
+use Rattle.std.proofs.Common.{◌≡◌, ◌≢◌, ◌≤◌, ◌<◌, ℕ, zero, suc, ◌==◌, Bool, true, false, [], ◌∷◌, ◌++◌, length, Option, Some, None, refl, sym, ap, ◌∙◌, subst, inl, inr, arith, eq-eqb}
+use Rattle.std.specs.Prelude.{not, ◌&&◌, ◌||◌, if◌then◌else◌, unwrap_or, option_map, All}
 use Rattle.std.proofs.lemmas.Bool.{ne_eqb, eqb-true, lt-leb}
 use Rattle.std.proofs.lemmas.List.Elements.{All-pop}
 use Rattle.win_num.specs.declared.code.Code.TheVariants.{Full, NotNow}
@@ -13,7 +13,7 @@ use Rattle.win_num.specs.declared.send.Cause.TheVariants.{Timeout as ByTimeout}
 use Rattle.user_model.specs.declared.entry.Setup.{Setup}
 use Rattle.user_model.specs.declared.entry.Entry.{Entry}
 use Rattle.user_model.specs.declared.entry.Answer.{Answer}
-use Rattle.user_model.specs.declared.entry.Answer.TheVariants.{Wait, Ended, Called, Inside, Begun, Left, Enter, Callback, Done, Refused}
+use Rattle.user_model.specs.declared.entry.Answer.TheVariants.{Wait, Ended, Called, Inside, Begun, Left, Enter, Callback, Done}
 use Rattle.user_model.specs.declared.call.Call.{Call}
 use Rattle.user_model.specs.declared.call.Call.TheVariants.{Peek, Get, Send, SendTimeout, SendNotify, SendCallback, Await, Leave, EndThread}
 use Rattle.user_model.specs.Past.{Past, is_refusal, is_full}

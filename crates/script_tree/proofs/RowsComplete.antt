@@ -25,11 +25,11 @@ use Rattle.script_tree.specs.declared.frame.Lead.{Lead}
 use Rattle.script_tree.specs.declared.frame.Lead.TheVariants.{Calls as CallsLead, Ends}
 use Rattle.script_tree.specs.Tree.{Tree, body_of, procedure_of}
 use Rattle.script_tree.specs.Values.{value_of, holds, call_of, creation_call, time_after, start, inside_of, settled}
-use Rattle.script_tree.specs.Compounds.{sent, undoes, default_begin, default_result, after_making, after_greeting, kept_or_undone, after_telling, after_dooming, after_unmaking, after_default, compound_after}
+use Rattle.script_tree.specs.Compounds.{sent, undoes, default_result, after_making, after_greeting, kept_or_undone, after_telling, after_dooming, after_unmaking, after_default, compound_after}
 use Rattle.script_tree.specs.Pieces.{Piece, Lines, One, PassEnd, Making, Again, Giving, Settle, Quiet, Sleeping, Running, Leaving, Leaves, Left, Restore, Feed, State, Going, Returning, Given, Step, Becomes, Asks, Trace, End}
 use Rattle.script_tree.specs.Steps.{step, statement, begins, returns_to, takes, leaving, default_pieces, is_callback, goes_on, sleeps as slept, passes, follows, following, given, answered, after_answer, is_last, parameters_of, run_of, variables_of}
 use Rattle.script_tree.specs.Traces.{Makes, over, silent, entry, cut, program, IsTrace}
-use Rattle.script_tree.specs.Rows.{Point, At, CutBefore, on, going, settling, giving, returning, restoring, defaulting, undone, ended, ends_call, is_final, is_refusal, entered, called_back, end_of, ByRows, Part, Body, Line, Asleep, Calls, Frame, Exit, DefaultFor, Destruction, Doomed, Unmaking, Unmade, Created, Greeted, Told, Thread, Rows, call_cut, after_cut, body_over, body, body_left, lets, computes, if_holds, if_fails, if_first, if_second, while_ends, while_left, while_cut, while_again, while_yields, returns, makes, sleeps, asleep_refused, asleep, defaults, destroys, creates, call_waits, call_enters, call_back, leave_back, call_inside, call_calls, call_begins, call_ends, frame, exit_returned, exit_callback, exit_default, default_close, default_greeting, default_other, destruction, doom_refused, doomed, unmaking, unmade_tell, unmade_last, unmade_refused, unmade_gone, create_refused, create_none, created, greeted_no, greeted, told_refused, told_no, told, thread}
+use Rattle.script_tree.specs.Rows.{Point, At, CutBefore, on, going, settling, giving, returning, restoring, defaulting, undone, ends_call, is_final, is_refusal, entered, called_back, end_of, ByRows, Part, Body, Line, Asleep, Calls, Frame, Exit, DefaultFor, Destruction, Doomed, Unmaking, Unmade, Created, Greeted, Told, Thread, Rows, call_cut, after_cut, body_over, body, body_left, lets, computes, if_holds, if_fails, if_first, if_second, while_ends, while_left, while_cut, while_again, while_yields, returns, makes, sleeps, asleep_refused, asleep, defaults, destroys, creates, call_waits, call_enters, call_back, leave_back, call_inside, call_calls, call_begins, call_ends, frame, exit_returned, exit_callback, exit_default, default_close, default_greeting, default_other, destruction, doom_refused, doomed, unmaking, unmade_tell, unmade_last, unmade_refused, unmade_gone, create_refused, create_none, created, greeted_no, greeted, told_refused, told_no, told, thread}
 use Rattle.script_tree.proofs.RowKinds.{IsGiven, IsReturned, IsRun, HasKind, kind}
 use Rattle.script_tree.proofs.RowSteps.{counted, uncounted, number_is, number_isnt, close_result}
 use Rattle.script_tree.proofs.Defaults.{default_either, default_append}

@@ -1,6 +1,6 @@
 -- Each trace by the rows is one of the table of steps.
 use Rattle.std.proofs.Common.{◌≡◌, ℕ, ◌+◌, suc, Bool, true, false, List, [], ◌∷◌, ◌++◌, length, refl, sym, ap, ◌∙◌, subst, append_assoc, append-nil, arith}
-use Rattle.std.specs.Prelude.{if◌then◌else◌, ◌==◌, Option, Some, None}
+use Rattle.std.specs.Prelude.{if◌then◌else◌, ◌==◌, Some, None}
 use Rattle.user_model.specs.declared.call.Call.{Call}
 use Rattle.user_model.specs.declared.call.Call.TheVariants.{Await, Leave, Doom, Unmake, Drop, Clock, SleepUntil, Yield, EndThread}
 use Rattle.user_model.specs.declared.entry.Answer.{Answer}
@@ -20,7 +20,7 @@ use Rattle.script_tree.specs.declared.frame.Place.TheVariants.{Making as MakingW
 use Rattle.script_tree.specs.declared.frame.Lead.TheVariants.{Calls as CallsLead, Runs as RunsLead, Ends}
 use Rattle.script_tree.specs.Tree.{Tree, body_of, procedure_of}
 use Rattle.script_tree.specs.Values.{value_of, computed, holds, assigned, call_of, creation_call, time_after, start, inside_of, settled}
-use Rattle.script_tree.specs.Compounds.{sent, unmakes, destruction as destruction_begin, default_begin, default_result, compound_after}
+use Rattle.script_tree.specs.Compounds.{sent, unmakes, destruction as destruction_begin, default_result, compound_after}
 use Rattle.script_tree.specs.Pieces.{Piece, Lines, One, PassEnd, Making, Again, Giving, Settle, Quiet, Sleeping, Running, Leaving, Leaves, Left, Restore, Feed, State, Going, Returning, Given, Becomes, Asks, Trace, End}
 use Rattle.script_tree.specs.Steps.{step, default_over, default_pieces, goes_on, sleeps as slept, passes, makes as calls_for, follows, following, given, answered, after_answer, is_last, parameters_of, run_of, variables_of}
 use Rattle.script_tree.specs.Traces.{Makes, over, silent, entry, cut, program, IsTrace}

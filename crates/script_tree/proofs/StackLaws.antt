@@ -9,7 +9,6 @@ use Rattle.user_model.specs.declared.entry.Answer.TheVariants.{Wait, Called, Ins
 use Rattle.user_model.specs.Stacks.{stacked}
 use Rattle.script_tree.specs.declared.statement.Statement.{Statement}
 use Rattle.script_tree.specs.declared.statement.Statement.TheVariants.{Let, Compute, If', IfElse', While', Return, Call as CallOf, Sleep, Create, Destroy, Default as DefaultOf}
-use Rattle.script_tree.specs.declared.frame.Run.{Run}
 use Rattle.script_tree.specs.declared.frame.Lead.{Lead}
 use Rattle.script_tree.specs.declared.frame.Lead.TheVariants.{Calls, Runs, Ends}
 use Rattle.script_tree.specs.declared.variables.Variables.{Variables}
@@ -17,9 +16,9 @@ use Rattle.script_tree.specs.Tree.{Tree}
 use Rattle.script_tree.specs.Values.{holds, call_of}
 use Rattle.script_tree.specs.Compounds.{default_result, compound_after}
 use Rattle.script_tree.specs.Pieces.{Piece, Lines, One, PassEnd, Making, Again, Giving, Settle, Quiet, Sleeping, Running, Leaving, Leaves, Left, Restore, Feed, State, Going, Returning, Given, Step, Becomes, Asks, Trace, End, Cut}
-use Rattle.script_tree.specs.Steps.{step, statement, begins, returns_to, takes, goes_on, sleeps, is_callback, default_pieces, follows, answered, variables_of}
+use Rattle.script_tree.specs.Steps.{step, statement, begins, returns_to, takes, goes_on, sleeps, is_callback, follows, answered, variables_of}
 use Rattle.script_tree.specs.Traces.{Makes, IsTrace, over, silent, entry, cut}
-use Rattle.script_tree.specs.Stacks.{stack_after, awaited, frames_in, is_listed, AreListed, Goes, Returns, Gives, kind_of, IsProcedure, AwaitsNone, MakingSuits, Suits, Fits}
+use Rattle.script_tree.specs.Stacks.{stack_after, awaited, frames_in, is_listed, AreListed, Goes, Returns, Gives, kind_of, AwaitsNone, MakingSuits, Suits, Fits}
 use Rattle.script_tree.proofs.Defaults.{default_either}
 use Rattle.script_tree.proofs.PlainCalls.{IsPlain, LeadIsPlain, plain_compound, plain_statement}
 

@@ -1,10 +1,9 @@
 -- The stack of a thread in a past is that of its trace, and a call that fits it is allowed.
 use Rattle.std.proofs.Common.{◌≡◌, ◌≢◌, ℕ, Bool, true, false, List, [], ◌∷◌, ◌++◌, refl, sym, ap, ◌∙◌, subst, eq-eqb}
-use Rattle.std.specs.Prelude.{◌==◌, not, if◌then◌else◌}
+use Rattle.std.specs.Prelude.{◌==◌, not}
 use Rattle.std.proofs.lemmas.Bool.{ne_eqb, eqb-true}
 use Rattle.win_num.specs.declared.send.Frame.{Frame}
-use Rattle.win_num.specs.declared.send.Frame.TheVariants.{Entered, Inside, Called, CallbackRun, Await as AwaitFrame}
-use Rattle.user_model.specs.declared.entry.Entry.{Entry}
+use Rattle.win_num.specs.declared.send.Frame.TheVariants.{Await as AwaitFrame}
 use Rattle.user_model.specs.declared.entry.Answer.{Answer}
 use Rattle.user_model.specs.declared.entry.Answer.TheVariants.{Refused}
 use Rattle.user_model.specs.declared.call.Call.{Call}
@@ -14,7 +13,7 @@ use Rattle.user_model.specs.Stacks.{stacked, stack}
 use Rattle.user_model.specs.Replies.{is_barred_by}
 use Rattle.script_tree.specs.Pieces.{Trace}
 use Rattle.script_tree.specs.Traces.{trace_of}
-use Rattle.script_tree.specs.Stacks.{stack_after, Fits, IsProcedure, AwaitsNone}
+use Rattle.script_tree.specs.Stacks.{stack_after, Fits, IsProcedure}
 use Rattle.script_tree.proofs.PastLaws.{trace_of-own, trace_of-other}
 
 different : {b : Bool} → b ≡ false → b ≡ true → ⊥

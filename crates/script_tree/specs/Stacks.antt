@@ -1,5 +1,5 @@
 -- The frames among the pieces that are left, the innermost first.
-use Rattle.std.specs.Prelude.{◌≡◌, ◌==◌, Bool, true, false, not, ◌&&◌, ◌||◌, ℕ, List, [], ◌∷◌}
+use Rattle.std.specs.Prelude.{◌≡◌, Bool, true, false, not, ◌||◌, List, [], ◌∷◌}
 use Rattle.win_num.specs.declared.send.Frame.{Frame}
 use Rattle.win_num.specs.declared.send.Frame.TheVariants.{Await as AwaitFrame}
 use Rattle.user_model.specs.declared.call.Call.{Call}

@@ -1,4 +1,4 @@
-use Rattle.std.proofs.Common.{sym, ap, ◌∙◌}
+use Rattle.std.proofs.Common.{sym, ◌∙◌}
 use Rattle.win_calls.specs.declared.stage.Around.TheVariants.{Nobody, One, Two}
 use Rattle.win_calls.proofs.TurnLaws.{carry, feed_calls, feed_runs, feed_ends, hands_to_one, hands_to_two, around_same}
 use Rattle.win_calls.proofs.ends.+gives.Goals as goal
