@@ -5,6 +5,7 @@
 //! looked. After all seats are given back, the state comes out with a history that every seat's memory fits.
 #![tactic(auto)]
 
+mod bell;
 mod close;
 mod journaled;
 mod lock;

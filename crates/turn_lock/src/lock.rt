@@ -4,6 +4,7 @@ ghost use Rattle.std.specs.Vec.{vec_capacity};
 ghost use Rattle.turn_lock.specs.Views.{first_view};
 ghost use Rattle.turn_lock.specs.Seats.{new_seats};
 
+use crate::bell::{Bell, new_bells};
 use crate::journaled::Journaled;
 use crate::plays::{Deal, Turns};
 use crate::seat::{Place, TurnSeat};
@@ -33,6 +34,7 @@ pub(crate) type Board<S> = Table<
 pub struct TurnLock<S: Journaled> {
     pub(crate) board: Board<S>,
     pub(crate) seats: u32,
+    pub(crate) bells: Vec<Bell>,
 }
 
 impl<S: Journaled> Model for TurnLock<S> {
@@ -48,8 +50,13 @@ impl<S: Journaled> Model for TurnLock<S> {
 
 impl<S: Journaled + Drop> Drop for TurnLock<S> {
     fn drop(self) {
-        let Self { board, seats: _ } = self;
+        let Self {
+            board,
+            seats: _,
+            bells,
+        } = self;
         drop(board);
+        drop(bells);
     }
 }
 
@@ -107,7 +114,11 @@ impl<S: Journaled> TurnLock<S> {
         ensures table { (result.shared.table_id ≡ self.table) × (result.shared.table_id.words ≡ 3) × (result.shared.table_id.slots ≡ 1) }
         ensures key { (result.shared.key.state.value ≡ self.opening) × (result.shared.key.seats ≡ self.seats) }
     {
-        let Self { board, seats: _ } = self;
+        let Self {
+            board,
+            seats: _,
+            bells: _,
+        } = self;
         board
     }
 
@@ -127,10 +138,20 @@ impl<S: Journaled> TurnLock<S> {
         let Ok(mut made) = Vec::with_capacity(alloc, seats as usize) else {
             return Err((AllocError, state));
         };
+        let Ok(bells) = new_bells(alloc, seats) else {
+            return Err((AllocError, state));
+        };
         match open(alloc, state, seats) {
             Ok((board, first)) => {
                 deal(&board.shared, first, seats, &mut made);
-                Ok((TurnLock { board, seats }, made))
+                Ok((
+                    TurnLock {
+                        board,
+                        seats,
+                        bells,
+                    },
+                    made,
+                ))
             }
             Err(failed) => Err(failed),
         }

@@ -2,35 +2,36 @@
 ghost use Rattle.std.specs.Prelude.{◌≡◌, ◌⊎◌, true, false, [], ◌∷◌, ◌++◌, IfOk, OnErr, MatchOption, MatchBool, Some};
 ghost use Rattle.turn_lock.specs.Seats.{IsSeatOf, IsSameSeat, Looks, Adds, Finds, InHand, Takes, at_rest, left, left_counted};
 
+use crate::bell::{Bell, call_next, wait_a_little};
 use crate::journaled::Journaled;
 use crate::lock::{Top, TurnLock};
 use crate::plays::{Count, Draw, Learn, Look, PassOn};
 use crate::seat::{Place, TurnSeat};
-use crossbeam_utils::Backoff;
 use std::alloc::AllocError;
 use std::sync::Wait;
 
 // Waits for the seat's turn, takes the state out, and sees the whole history.
-fn take<S: Journaled, R: Wait>(rt: &R, top: &Top<S>, place: &mut Place<S>) -> S
+fn take<S: Journaled, R: Wait>(rt: &R, top: &Top<S>, bells: &[Bell], place: &mut Place<S>) -> S
     requires table { (place.old.table_id ≡ top.now.table_id) × (top.now.table_id.words ≡ 3) × (top.now.table_id.slots ≡ 1) }
     requires rest { (place.old ≡ at_rest place.old) × (place.old.me.0.opening ≡ Some top.now.key.state.value) }
     ensures { Takes S.history S.setting S.lawful S.number top.now.key.state.value place.old place.new result }
 {
     let ticket = top.fetch_add::<Draw>(place, 0, 1);
-    let backoff = Backoff::new();
+    let mut looks = 0;
     for _ in rt.forever() {
-        if top.load::<Look<S>>(place, 1) == ticket {
+        let served = top.load::<Look<S>>(place, 1);
+        if served == ticket {
             let state = top.exchange(place, 0, None).unwrap();
             top.load::<Learn<S>>(place, 2);
             return state;
         }
-        backoff.snooze();
+        looks = wait_a_little(rt, top, bells, ticket, served, looks);
     }
     unreachable!()
 }
 
 // Puts the state back, and passes the turn on.
-fn leave<S: Journaled>(top: &Top<S>, place: &mut Place<S>, state: S)
+fn leave<S: Journaled>(top: &Top<S>, bells: &[Bell], place: &mut Place<S>, state: S)
     requires table { (place.old.table_id ≡ top.now.table_id) × (top.now.table_id.words ≡ 3) × (top.now.table_id.slots ≡ 1) }
     requires held { InHand S.history top.now.key.state.value place.old × (S.history state ≡ place.old.me.0.kept) × (S.setting state ≡ S.setting top.now.key.state.value) }
     ensures { place.new ≡ left place.old }
@@ -38,10 +39,11 @@ fn leave<S: Journaled>(top: &Top<S>, place: &mut Place<S>, state: S)
     let home = top.exchange(place, 0, Some(state));
     let None = home else { unreachable!() };
     top.fetch_add::<PassOn>(place, 1, 1);
+    call_next(bells, top.peek(1));
 }
 
 // Puts the state back with one entry more, counts it, and passes the turn on.
-fn leave_counted<S: Journaled>(top: &Top<S>, place: &mut Place<S>, state: S)
+fn leave_counted<S: Journaled>(top: &Top<S>, bells: &[Bell], place: &mut Place<S>, state: S)
     requires table { (place.old.table_id ≡ top.now.table_id) × (top.now.table_id.words ≡ 3) × (top.now.table_id.slots ≡ 1) }
     requires held { InHand S.history top.now.key.state.value place.old × (S.setting state ≡ S.setting top.now.key.state.value) × S.lawful (S.setting state) (S.history state) }
     requires entry { (e : S.Call × S.Answer) × (S.history state ≡ place.old.me.0.kept ++ e ∷ []) × (S.number e.0 ≡ place.old.me.0.number) }
@@ -51,11 +53,13 @@ fn leave_counted<S: Journaled>(top: &Top<S>, place: &mut Place<S>, state: S)
     let None = home else { unreachable!() };
     top.fetch_add::<Count<S>>(place, 2, 1);
     top.fetch_add::<PassOn>(place, 1, 1);
+    call_next(bells, top.peek(1));
 }
 
 // Makes the call on the state that the seat has taken, and ends its turn.
 fn make<S: Journaled>(
     top: &Top<S>,
+    bells: &[Bell],
     place: &mut Place<S>,
     mut state: S,
     call: S::Call,
@@ -71,15 +75,15 @@ fn make<S: Journaled>(
     let full = state.full();
     match state.step(call) {
         Err(failed) => {
-            leave(top, place, state);
+            leave(top, bells, place, state);
             Err(failed)
         }
         Ok(answer) if full => {
-            leave(top, place, state);
+            leave(top, bells, place, state);
             Ok(answer)
         }
         Ok(answer) => {
-            leave_counted(top, place, state);
+            leave_counted(top, bells, place, state);
             Ok(answer)
         }
     }
@@ -101,8 +105,14 @@ impl<S: Journaled> TurnLock<S> {
             ⊎ Finds S.history S.setting (λ g h. (S.is_full g h ≡ true) × (a ≡ S.refusal g h call)) self.now.opening seat.old seat.new) }
         ensures no_memory { OnErr result (seat.new.mine ≡ seat.old.mine) }
     {
-        let state = take(rt, &self.board.shared, &mut seat.place);
-        make(&self.board.shared, &mut seat.place, state, call)
+        let state = take(rt, &self.board.shared, &self.bells, &mut seat.place);
+        make(
+            &self.board.shared,
+            &self.bells,
+            &mut seat.place,
+            state,
+            call,
+        )
     }
 
     /// Waits for the seat's turn and makes the call, if it has to wait for no other.
@@ -123,12 +133,12 @@ impl<S: Journaled> TurnLock<S> {
         ensures no_memory { OnErr result (seat.new.mine ≡ seat.old.mine) }
     {
         let top = &self.board.shared;
-        let state = take(rt, top, &mut seat.place);
+        let state = take(rt, top, &self.bells, &mut seat.place);
         if state.barred(&call) {
-            leave(top, &mut seat.place, state);
+            leave(top, &self.bells, &mut seat.place, state);
             return Ok(None);
         }
-        match make(top, &mut seat.place, state, call) {
+        match make(top, &self.bells, &mut seat.place, state, call) {
             Ok(answer) => Ok(Some(answer)),
             Err(failed) => Err(failed),
         }

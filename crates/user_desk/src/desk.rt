@@ -22,6 +22,13 @@ pub struct Desk<M: Machine> {
     lock: TurnLock<Shared<M>>,
 }
 
+impl<M: Machine + Drop> Drop for Desk<M> {
+    fn drop(self) {
+        let Self { lock } = self;
+        drop(lock);
+    }
+}
+
 impl<M: Machine> Model for Desk<M> {
     ghost use Rattle.std.specs.Prelude.{◌≤◌};
     ghost use Rattle.turn_lock.specs.Seats.{Lock};
