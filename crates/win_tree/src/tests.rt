@@ -93,6 +93,31 @@ fn a_family_is_destroyed_in_order(rt: HostRuntime) -> Result<(), Fail> {
 }
 
 #[test]
+fn other_windows_come_and_go_meanwhile(rt: HostRuntime) -> Result<(), Fail> {
+    let mut tree = Tree::new(rt.alloc());
+    family(&mut tree)?;
+    assert_eq!(rt; tree.doom(Hwnd(16)), Ok(()));
+    assert_eq!(rt; tree.unmake(Hwnd(16)), Unmade::Tell(Hwnd(19)));
+    assert_eq!(rt; tree.add(row(0, 0, 0)?), Ok(Hwnd(21)));
+    assert_eq!(rt; tree.unmake(Hwnd(16)), Unmade::Last(Hwnd(19)));
+    assert_eq!(rt; tree.unmake(Hwnd(17)), Unmade::Tell(Hwnd(17)));
+    assert_eq!(rt; tree.next_step(Hwnd(16)), Unmade::Tell(Hwnd(16)));
+    assert_eq!(rt; tree.drop_one(Hwnd(19)), Ok(()));
+    let steps = [
+        Unmade::Tell(Hwnd(16)),
+        Unmade::Tell(Hwnd(18)),
+        Unmade::Last(Hwnd(18)),
+        Unmade::Last(Hwnd(17)),
+        Unmade::Last(Hwnd(16)),
+    ];
+    for step in steps {
+        assert_eq!(rt; tree.unmake(Hwnd(16)), step);
+    }
+    assert_eq!(rt; tree.unmake(Hwnd(17)), Unmade::Last(Hwnd(17)));
+    Ok(())
+}
+
+#[test]
 fn rows_and_walks(rt: HostRuntime) -> Result<(), Fail> {
     let mut tree = Tree::new(rt.alloc());
     family(&mut tree)?;

@@ -139,7 +139,7 @@ impl Tree {
 
     /// Marks a window with all that stands below it or is owned by it, by however many steps (Microsoft,
     /// DestroyWindow function). `Win(1400)` comes exactly where it isn't live or is marked, and changes
-    /// nothing. Takes no memory.
+    /// nothing. Takes memory for the steps to come where there is some, and goes on without where not.
     pub fn doom(&mut self, w: Hwnd) -> Result<(), Code>
         ensures ok { OnOk result (self.new ≡ record self.old { live = doomed self.old.live w.0 }) }
         ensures cause { MatchResult result (λ _. doom_refusal self.old.live w.0 ≡ None) (λ code. doom_refusal self.old.live w.0 ≡ Some code) }
