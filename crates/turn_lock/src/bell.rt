@@ -6,19 +6,17 @@ ghost use Rattle.std.specs.Prelude.{◌<◌};
 use crate::journaled::Journaled;
 use crate::lock::Top;
 use std::alloc::{AllocError, Global};
+use std::hint;
 use std::sync::Wait;
 use std::sync::atomic::{AtomicU64, Ordering};
 use std::time::Duration;
-use std::{hint, thread};
 
-/// How often a seat whose turn is next looks again before it gives its processor away.
-const SPINS: u32 = 200;
-
-/// How often a seat then gives its processor away before it sleeps.
-const YIELDS: u32 = 4;
+/// How often a seat whose turn is next looks again before it sleeps. It never gives its processor away awake: on a
+/// busy machine that would cost a whole slice of time.
+const SPINS: u32 = 50;
 
 /// How many hints to the processor there are between two looks.
-const PAUSES: u32 = 8;
+const PAUSES: u32 = 4;
 
 /// How long a sleep is at most, in milliseconds. A seat is woken where its turn comes near, so this matters only where a wake is lost.
 const LONGEST: u64 = 50;
@@ -71,8 +69,8 @@ pub(crate) fn call_next(bells: &[Bell], served: u64) {
     }
 }
 
-/// Waits a little before the next look. The seat with this ticket has looked so often since it was woken or its turn
-/// became next; `served` is the ticket that it saw. It spins where its turn is next, then gives its processor away, and then sleeps.
+/// Waits a little before the next look. The seat with this ticket has looked so often since it was woken; `served` is
+/// the ticket that it saw. It spins where its turn is next, and then sleeps; where more seats stand before it, it sleeps at once.
 pub(crate) fn wait_a_little<S: Journaled, R: Wait>(
     rt: &R,
     top: &Top<S>,
@@ -89,10 +87,6 @@ pub(crate) fn wait_a_little<S: Journaled, R: Wait>(
             hint::spin_loop();
         }
         return looks + 1;
-    }
-    if looks < SPINS + YIELDS {
-        thread::yield_now();
-        return looks.max(SPINS) + 1;
     }
     sleep(rt, top, bells, ticket, ahead);
     0
