@@ -3,10 +3,12 @@
 #![tactic(auto)]
 
 mod machines;
+mod refusals;
 mod sends;
 mod times;
 
 pub use machines::{send_law, sum_law};
+pub use refusals::{posts_leave_in_order, refusals_change_nothing};
 pub use sends::{
     all_sends_come_to_an_end, answers_stay, awaits_pop_their_frames, frames_and_sends_are_few,
     leaves_pop_their_frames, sends_are_numbered, sends_keep_their_order, stacks_are_in_order,
