@@ -6,6 +6,7 @@ mod machines;
 mod refusals;
 mod sends;
 mod times;
+mod words;
 
 pub use machines::{send_law, sum_law};
 pub use refusals::{posts_leave_in_order, refusals_change_nothing};
@@ -18,6 +19,10 @@ pub use times::{
     clock_has_a_bound, clock_never_goes_back, clock_wakes_a_thread, soonest_time_is_to_come,
 };
 pub use user_core::SendStory;
+pub use words::{
+    each_of_is_added, ever_is_done, first_of_is_said_first, last_of_is_said_last,
+    standing_is_added_for_good,
+};
 
 #[cfg(test)]
 mod tests;
