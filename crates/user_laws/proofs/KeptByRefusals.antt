@@ -13,7 +13,7 @@ use Rattle.user_model.specs.declared.entry.Answer.TheVariants.{Refused}
 use Rattle.user_model.specs.declared.entry.Entry.{Entry}
 use Rattle.user_model.specs.declared.entry.Setup.{Setup}
 use Rattle.user_model.specs.Past.{Past, is_full, is_refused, is_refusal}
-use Rattle.user_model.specs.Posts.{PostedMsg, first_post, passes, posted, quit}
+use Rattle.user_model.specs.Posts.{PostedMsg, first_post, passes, posted}
 use Rattle.user_model.specs.Next.{is_empty, next_quit}
 use Rattle.user_model.specs.Refusals.{refuse}
 use Rattle.user_model.specs.Replies.{thread_reply}
