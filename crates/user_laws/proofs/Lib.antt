@@ -1,1 +1,4 @@
 pub mod Stories
+pub mod KeptByRefusals
+pub mod WordLaws
+pub mod Standing

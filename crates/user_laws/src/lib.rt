@@ -3,19 +3,28 @@
 #![tactic(auto)]
 
 mod machines;
+mod refusals;
 mod sends;
+mod stands;
 mod times;
+mod words;
 
 pub use machines::{send_law, sum_law};
+pub use refusals::{posts_leave_in_order, refusals_change_nothing};
 pub use sends::{
     all_sends_come_to_an_end, answers_stay, awaits_pop_their_frames, frames_and_sends_are_few,
     leaves_pop_their_frames, sends_are_numbered, sends_keep_their_order, stacks_are_in_order,
     stacks_change_at_the_top,
 };
+pub use stands::{posts_stand_until_taken, windows_live_until_dropped};
 pub use times::{
     clock_has_a_bound, clock_never_goes_back, clock_wakes_a_thread, soonest_time_is_to_come,
 };
 pub use user_core::SendStory;
+pub use words::{
+    each_of_is_added, ever_is_done, first_of_is_said_first, last_of_is_said_last,
+    standing_is_added_for_good,
+};
 
 #[cfg(test)]
 mod tests;

@@ -1,0 +1,104 @@
+-- A refused entry changes nothing, and posts leave in posted order.
+use Rattle.std.proofs.Common.{◌≡◌, ◌≢◌, ◌≤◌, ◌<◌, ℕ, suc, Bool, true, false, cond, eqb, List, [], ◌∷◌, length, Option, Some, None, refl, sym, ap, ◌∙◌, subst, arith}
+use Rattle.std.specs.Prelude.{nat_le, find}
+use Rattle.std.specs.List.{AllByRecursion}
+use Rattle.std.proofs.lemmas.Bool.{false≢true, eqb-true}
+use Rattle.std.proofs.lemmas.Bool.Decides.{nat_tests}
+use Rattle.win_num.specs.declared.message.Thread.{Thread}
+use Rattle.win_num.specs.declared.message.Filter.{Filter}
+use Rattle.win_num.specs.declared.code.Code.TheVariants.{Full}
+use Rattle.user_model.specs.declared.call.Call.{Call}
+use Rattle.user_model.specs.declared.entry.Answer.{Answer}
+use Rattle.user_model.specs.declared.entry.Answer.TheVariants.{Refused}
+use Rattle.user_model.specs.declared.entry.Entry.{Entry}
+use Rattle.user_model.specs.declared.entry.Setup.{Setup}
+use Rattle.user_model.specs.Past.{Past, is_full, is_refused, is_refusal}
+use Rattle.user_model.specs.Posts.{PostedMsg, first_post, passes, posted}
+use Rattle.user_model.specs.Next.{is_empty, next_quit}
+use Rattle.user_model.specs.Refusals.{refuse}
+use Rattle.user_model.specs.Replies.{thread_reply}
+use Rattle.user_model.specs.Idle.{reply, clock_row}
+use Rattle.user_model.specs.Legal.{IsLawful}
+use Rattle.user_model.specs.Machines.{entry_of}
+use Rattle.user_model.proofs.PostLaws.{IsRising, posted_rises}
+use Rattle.user_laws.specs.Kept.{ChangesNothing}
+
+changes_none : (past : Past) (who : Thread) (call : Call) (a : Answer) → is_refusal a ≡ true → ChangesNothing past (entry_of who call a)
+changes_none past who call (Refused code) is = record {
+  same_clock = refl;
+  same_cursor = refl;
+  same_ends = λ t. refl;
+  same_windows = refl;
+  same_numbers = refl;
+  same_style = λ w. refl;
+  same_extended_style = λ w. refl;
+  same_place = λ w. refl;
+  same_marks = λ w. refl;
+  same_steps = λ step. refl;
+  same_classes = refl;
+  same_atoms = refl;
+  same_message_names = refl;
+  same_post_numbers = refl;
+  same_posts = λ t. refl;
+  same_quit = λ t. refl;
+  same_stacks = λ t. refl;
+  same_sends = refl;
+  same_enterings = λ s. refl;
+  same_answers = λ s. refl;
+  same_results = λ x. refl;
+  same_unfinished = refl;
+  same_ready = λ t. refl;
+}
+changes_none past who call _ is = absurd (false≢true is)
+
+-- a refused entry changes nothing
+pub changes_nothing : (past : Past) (e : Entry) → is_refused e ≡ true → ChangesNothing past e
+changes_nothing past e is = changes_none past e.who e.call e.answer is
+
+fewer : (n : ℕ) → nat_le 2097152 (suc n) ≡ false → nat_le 2097152 n ≡ false
+fewer n is = grind (arith, nat_tests, is)
+
+thread_same : (setup : Setup) (past : Past) (by : Thread) (asked : Call) (a : Answer) → is_refusal a ≡ true → (who : ℕ) (call : Call) → thread_reply setup (entry_of by asked a ∷ past) who call ≡ thread_reply setup past who call
+thread_same setup past by asked (Refused code) is who call = refl
+thread_same setup past by asked _ is who call = absurd (false≢true is)
+
+-- a thread's next reply is the same
+pub same_reply : (setup : Setup) (past : Past) (e : Entry) → is_refused e ≡ true → is_full (e ∷ past) ≡ false → (who : ℕ) (call : Call) → who ≢ 0 → reply setup (e ∷ past) who call ≡ reply setup past who call
+unfolding reply
+same_reply setup past e is room who call thread = by_actor (eqb who 0) refl
+  where
+    by_actor : (zero : Bool) → eqb who 0 ≡ zero → refuse (is_full (e ∷ past)) Full (cond (eqb who 0) (clock_row setup (e ∷ past) call) (thread_reply setup (e ∷ past) who call)) ≡ refuse (is_full past) Full (cond (eqb who 0) (clock_row setup past call) (thread_reply setup past who call))
+    by_actor true at = absurd (thread (eqb-true who 0 at))
+    by_actor false at =
+        ap (λ b. refuse (is_full (e ∷ past)) Full (cond b (clock_row setup (e ∷ past) call) (thread_reply setup (e ∷ past) who call))) at
+        ∙ ap (λ b. refuse b Full (thread_reply setup (e ∷ past) who call)) (room ∙ sym (fewer (length past) room))
+        ∙ ap (refuse (is_full past) Full) (thread_same setup past e.who e.call e.answer is who call)
+        ∙ sym (ap (λ b. refuse (is_full past) Full (cond b (clock_row setup past call) (thread_reply setup past who call))) at)
+
+all_above : (p : PostedMsg → Bool) (n m : ℕ) (xs : List PostedMsg) → m ≤ n → AllByRecursion (λ x. n < x.number) xs → AllByRecursion (λ x. p x ≡ true → m ≤ x.number) xs
+all_above p n m [] low above = tt
+all_above p n m (x ∷ xs) low above = let here = above.0 in (λ passed. omega (arith, low, here), all_above p n m xs low above.1)
+
+some_same : {x y : PostedMsg} → Some x ≡ Some y → x ≡ y
+some_same is = cc
+
+-- the first that passes has the least number of those that pass
+first_least : (p : PostedMsg → Bool) (xs : List PostedMsg) (y : PostedMsg) → IsRising xs → find p xs ≡ Some y → AllByRecursion (λ x. p x ≡ true → y.number ≤ x.number) xs
+first_least p [] y rising found = tt
+first_least p (x ∷ xs) y rising found = by_test (first_least p xs y rising.1) (p x) refl found
+  where
+    by_test : (find p xs ≡ Some y → AllByRecursion (λ z. p z ≡ true → y.number ≤ z.number) xs) → (b : Bool) → p x ≡ b → cond b (Some x) (find p xs) ≡ Some y → AllByRecursion (λ z. p z ≡ true → y.number ≤ z.number) (x ∷ xs)
+    by_test rest true is found = let same : x ≡ y = some_same found in (λ passed. subst (λ z. y.number ≤ z.number) (sym same) (omega arith), all_above p x.number y.number xs (subst (λ z. z.number ≤ x.number) same (omega arith)) rising.0)
+    by_test rest false is found = (λ passed. absurd (false≢true (sym is ∙ passed)), rest found)
+
+-- the first post that passes has the least number of those that pass
+pub leave_in_order : (setup : Setup) (past : Past) (t : ℕ) (f : Filter) (first : PostedMsg) → IsLawful setup past → first_post past t f ≡ Some first → AllByRecursion (λ x. passes past f x ≡ true → first.number ≤ x.number) (posted past t)
+leave_in_order setup past t f first lawful found = first_least (passes past f) (posted past t) first (posted_rises setup past t lawful) found
+
+none_left : (ps : List PostedMsg) (o : Option Answer) (a : Answer) → cond (is_empty ps) o None ≡ Some a → ps ≡ []
+none_left [] o a is = refl
+none_left (p ∷ ps) o a is = absurd cc
+
+-- quit comes where no post is left
+pub quit_comes_last : (past : Past) (t : ℕ) (answer : Answer) → next_quit past t ≡ Some answer → posted past t ≡ []
+quit_comes_last past t answer is = none_left (posted past t) _ answer is

@@ -1,0 +1,38 @@
+-- What a refused entry leaves as it was: all that the definitions keep.
+use Rattle.std.specs.Prelude.{◌≡◌, ℕ, ◌∷◌}
+use Rattle.user_model.specs.declared.entry.Entry.{Entry}
+use Rattle.user_model.specs.Past.{Past}
+use Rattle.user_model.specs.Places.{clock, cursor, has_ended}
+use Rattle.user_model.specs.Windows.{live, windows_made, style_of, ex_of, place_of}
+use Rattle.user_model.specs.Destruction.{Step, is_marked, was_given}
+use Rattle.user_model.specs.Classes.{classes, registered_count, message_names}
+use Rattle.user_model.specs.Posts.{posts, posted, quit}
+use Rattle.user_model.specs.Stacks.{stack}
+use Rattle.user_model.specs.Sends.{SentMsg, sends, is_entered, answer, unfinished, was_called_back}
+use Rattle.user_model.specs.Ready.{ready}
+
+-- after the entry each value is the one before it
+pub record ChangesNothing (past : Past) (e : Entry) : Type 0 where
+  pub same_clock : clock (e ∷ past) ≡ clock past
+  pub same_cursor : cursor (e ∷ past) ≡ cursor past
+  pub same_ends : (t : ℕ) → has_ended (e ∷ past) t ≡ has_ended past t
+  pub same_windows : live (e ∷ past) ≡ live past
+  pub same_numbers : windows_made (e ∷ past) ≡ windows_made past
+  pub same_style : (w : ℕ) → style_of (e ∷ past) w ≡ style_of past w
+  pub same_extended_style : (w : ℕ) → ex_of (e ∷ past) w ≡ ex_of past w
+  pub same_place : (w : ℕ) → place_of (e ∷ past) w ≡ place_of past w
+  pub same_marks : (w : ℕ) → is_marked (e ∷ past) w ≡ is_marked past w
+  pub same_steps : (step : Step) → was_given (e ∷ past) step ≡ was_given past step
+  pub same_classes : classes (e ∷ past) ≡ classes past
+  pub same_atoms : registered_count (e ∷ past) ≡ registered_count past
+  pub same_message_names : message_names (e ∷ past) ≡ message_names past
+  pub same_post_numbers : posts (e ∷ past) ≡ posts past
+  pub same_posts : (t : ℕ) → posted (e ∷ past) t ≡ posted past t
+  pub same_quit : (t : ℕ) → quit (e ∷ past) t ≡ quit past t
+  pub same_stacks : (t : ℕ) → stack (e ∷ past) t ≡ stack past t
+  pub same_sends : sends (e ∷ past) ≡ sends past
+  pub same_enterings : (s : ℕ) → is_entered (e ∷ past) s ≡ is_entered past s
+  pub same_answers : (s : ℕ) → answer (e ∷ past) s ≡ answer past s
+  pub same_results : (x : SentMsg) → was_called_back (e ∷ past) x ≡ was_called_back past x
+  pub same_unfinished : unfinished (e ∷ past) ≡ unfinished past
+  pub same_ready : (t : ℕ) → ready (e ∷ past) t ≡ ready past t

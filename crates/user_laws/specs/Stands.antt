@@ -1,0 +1,24 @@
+-- What stands of windows and of posts.
+use Rattle.std.specs.Prelude.{◌≡◌, ◌⊎◌, ◌<◌, ℕ, Bool, List, [], ◌∷◌, true}
+use Rattle.std.specs.List.{AllByRecursion}
+use Rattle.user_model.specs.declared.entry.Entry.{Entry}
+use Rattle.user_model.specs.Past.{Past}
+use Rattle.user_model.specs.Windows.{Window, live, made_by, drops, is_live, thread_of}
+use Rattle.user_model.specs.Posts.{PostedMsg}
+
+-- the window that the entry makes
+abbrev pub makes_window : Entry → Past → List Window
+makes_window e before = made_by e.who.0 e.answer e.call (live before)
+
+-- whether the entry drops the window
+abbrev pub drops_it : Entry → Past → Window → Bool
+drops_it e before x = drops e (live before) x
+
+-- the post is for no window, or for a live window of the thread
+abbrev pub IsForItsThread : Past → ℕ → PostedMsg → Type 0
+IsForItsThread past t x = (x.msg.hwnd.0 ≡ 0) ⊎ ((is_live past x.msg.hwnd.0 ≡ true) × (thread_of past x.msg.hwnd.0 ≡ t))
+
+-- each post has a greater number than those before it
+abbrev pub RisesByNumber : List PostedMsg → Type 0
+RisesByNumber [] = Unit {0}
+RisesByNumber (x ∷ xs) = AllByRecursion (λ y. x.number < y.number) xs × RisesByNumber xs

@@ -1,0 +1,26 @@
+//! Laws of what stands: windows, and posted messages. Each is a function that does nothing; its contract is the law.
+
+ghost use Rattle.std.specs.Prelude.{◌≡◌, ◌↔◌, ℕ, List};
+ghost use Rattle.std.specs.List.{AllByRecursion};
+ghost use Rattle.user_model.specs.declared.entry.Entry.{Entry};
+ghost use Rattle.user_model.specs.declared.entry.Setup.{Setup};
+ghost use Rattle.user_model.specs.Windows.{Window, live};
+ghost use Rattle.user_model.specs.Posts.{PostedMsg, posted, posts_to, ends_post};
+ghost use Rattle.user_model.specs.Legal.{IsLawful};
+ghost use Rattle.user_laws.specs.Words.{IsIn, IsAddedForGood};
+ghost use Rattle.user_laws.specs.Stands.{makes_window, drops_it, IsForItsThread, RisesByNumber};
+
+/// The live windows are exactly those that some unrefused entry made and no later one dropped, by a drop of theirs or of
+/// what they stand under, or by the end of their thread (Microsoft, DestroyWindow function).
+pub fn windows_live_until_dropped()
+    ensures { (past : List Entry) (x : Window) → IsIn x (live past) ↔ IsAddedForGood makes_window drops_it past x }
+{}
+
+/// The posts that stand are exactly those that some unrefused entry posted to the thread, and that no later retrieval
+/// removed, no drop of their window took along and no end of their thread. Each is for no window or for a live window of
+/// the thread, and they rise by number (Microsoft, PostMessage function).
+pub fn posts_stand_until_taken()
+    ensures values { (past : List Entry) (t : ℕ) (x : PostedMsg) → IsIn x (posted past t) ↔ IsAddedForGood (posts_to t) (ends_post t) past x }
+    ensures windows { (setup : Setup) (past : List Entry) (t : ℕ) → IsLawful setup past → AllByRecursion (IsForItsThread past t) (posted past t) }
+    ensures rising { (setup : Setup) (past : List Entry) (t : ℕ) → IsLawful setup past → RisesByNumber (posted past t) }
+{}
