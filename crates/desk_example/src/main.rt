@@ -1,10 +1,14 @@
-//! Two threads that share one machine: each yields, posts the numbers below 100 to the other, and adds up what it
-//! gets. What is printed doesn't depend on who moves when.
+//! A desk with two threads. First worked sequences of calls, whose answers are printed. Then the threads run beside each
+//! other: each yields, posts the numbers below 100 to the other, and adds up what it gets. What is printed doesn't
+//! depend on who moves when.
 #![tactic(auto)]
 
 ghost use Rattle.std.specs.Prelude.{◌≡◌, IfOk, IfSome};
 ghost use Rattle.turn_lock.specs.Seats.{new_seats};
 ghost use Rattle.user_desk.specs.Desks.{IsDeskSeat};
+
+mod locked;
+mod sequences;
 
 use std::alloc::{AllocError, Global};
 use std::sync::Wait;
@@ -52,12 +56,7 @@ fn yield_often<R: Wait>(rt: &R, desk: &Desk<User>, mut seat: Seat) -> Result<Sea
 }
 
 /// Posts the numbers to another thread.
-fn post_all<R: Wait>(
-    rt: &R,
-    desk: &Desk<User>,
-    mut seat: Seat,
-    to: u64,
-) -> Result<Seat, AllocError>
+fn post_all<R: Wait>(rt: &R, desk: &Desk<User>, mut seat: Seat, to: u64) -> Result<Seat, AllocError>
     requires { IsDeskSeat desk.now seat }
     ensures { IfOk result (λ s. IsDeskSeat desk.now s) }
 {
@@ -68,11 +67,7 @@ fn post_all<R: Wait>(
 }
 
 /// Gets as many messages, and adds up the numbers in them.
-fn add_all<R: Wait>(
-    rt: &R,
-    desk: &Desk<User>,
-    mut seat: Seat,
-) -> Result<(Seat, u64), AllocError>
+fn add_all<R: Wait>(rt: &R, desk: &Desk<User>, mut seat: Seat) -> Result<(Seat, u64), AllocError>
     requires { IsDeskSeat desk.now seat }
     ensures { IfOk result (λ r. IsDeskSeat desk.now r.0) }
 {
@@ -103,7 +98,13 @@ fn part<R: Wait>(
 }
 
 /// Closes the desk with its three seats.
-fn close_all(alloc: Global, desk: Desk<User>, clock: Seat, first: Seat, second: Seat) -> Option<User>
+fn close_all(
+    alloc: Global,
+    desk: Desk<User>,
+    clock: Seat,
+    first: Seat,
+    second: Seat,
+) -> Option<User>
     requires { IsDeskSeat desk clock × IsDeskSeat desk first × IsDeskSeat desk second }
 {
     let mut seats = Vec::new(alloc);
@@ -122,11 +123,14 @@ fn yields(history: &[Entry], thread: u8) -> usize {
 }
 
 fn main(rt: HostRuntime) -> anyhow::Result<()> {
+    locked::lock_alone(&rt, rt.alloc())?;
     let machine = User::new(rt.alloc(), Setup::new(2, 8, 4))?;
     let Ok((desk, seats)) = Desk::new(rt.alloc(), machine, 2) else {
         anyhow::bail!("no memory for the desk");
     };
-    let (clock, first, second) = three(&desk, seats);
+    let (clock, mut first, mut second) = three(&desk, seats);
+    sequences::filters(&rt, &desk, &mut first)?;
+    sequences::sends(&rt, &desk, &mut first, &mut second)?;
     let (a, b) = join(
         &rt,
         || -> Result<(Seat, u64), AllocError>
