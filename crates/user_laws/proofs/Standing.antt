@@ -1,17 +1,20 @@
 -- What stands of windows and of posts.
-use Rattle.std.proofs.Common.{◌≡◌, inl, inr, ℕ, true, false, not, List, [], ◌∷◌, ◌++◌, filter, refl, sym, ap, ◌∙◌, subst}
+use Rattle.std.proofs.Common.{◌≡◌, inl, inr, ◌≤◌, ◌+◌, ℕ, zero, suc, eqb, eq-eqb, length, arith, Bool, true, false, not, List, [], ◌∷◌, ◌++◌, filter, refl, sym, ap, ◌∙◌, subst}
 use Rattle.std.specs.Prelude.{unwrap_or, option_map, is_some}
 use Rattle.std.specs.List.{AllByRecursion}
+use Rattle.std.proofs.lemmas.Bool.{false≢true, eqb-true, eqb-false}
 use Rattle.user_model.specs.declared.entry.Setup.{Setup}
 use Rattle.user_model.specs.Past.{Past, is_refused, standing}
-use Rattle.user_model.specs.Windows.{Window, live}
+use Rattle.user_model.specs.Windows.{Window, live, above, is_kin, kin_within, windows_made}
 use Rattle.user_model.specs.Posts.{PostedMsg, posted, posts_to, ends_post}
 use Rattle.user_model.specs.Legal.{IsLawful}
 use Rattle.user_model.proofs.ListLaws.{all_weaker}
 use Rattle.user_model.proofs.PostLaws.{IsRising, posted_rises}
 use Rattle.user_model.proofs.PostOwners.{IsHeld, all_held}
+use Rattle.user_model.proofs.Forests.{IsRising as NumbersRise, kin_enough, is_kin-up}
+use Rattle.user_model.proofs.LiveWindows.{sound}
 use Rattle.user_laws.specs.Words.{IsIn, IsAddedForGood}
-use Rattle.user_laws.specs.Stands.{makes_window, drops_it, IsForItsThread, RisesByNumber}
+use Rattle.user_laws.specs.Stands.{makes_window, drops_it, IsForItsThread, LeadsTo, itself, further, RisesByNumber}
 use Rattle.user_laws.proofs.WordLaws.{stands_exactly}
 
 -- the live windows are what stands of those that were made
@@ -46,3 +49,30 @@ rises (x ∷ xs) is = (is.0, rises xs is.1)
 -- and they rise by number
 pub posts_rise : (setup : Setup) (past : Past) (t : ℕ) → IsLawful setup past → RisesByNumber (posted past t)
 posts_rise setup past t lawful = rises (posted past t) (posted_rises setup past t lawful)
+
+leads_so : (ws : List Window) (v n w : ℕ) → kin_within n ws v w ≡ true → LeadsTo ws v w
+leads_so ws v zero w is = absurd (false≢true is)
+leads_so ws v (suc n) w is = by (leads_so ws v n (above ws w)) (eqb w 0) refl (eqb w v) refl is
+  where
+    by : (kin_within n ws v (above ws w) ≡ true → LeadsTo ws v (above ws w)) → (b : Bool) → eqb w 0 ≡ b → (c : Bool) → eqb w v ≡ c
+        → (elim b as (λ x. Bool) [ true ↦ false | false ↦ elim (eqb w v) as (λ y. Bool) [ true ↦ true | false ↦ kin_within n ws v (above ws w) ] ]) ≡ true → LeadsTo ws v w
+    by rest true none c here is = absurd (false≢true is)
+    by rest false some true here is = let same : w ≡ v = eqb-true w v here in subst (LeadsTo ws v) (sym same) (itself (λ zero_v. eqb-false w 0 some (same ∙ zero_v)))
+    by rest false some false here is =
+        further (eqb-false w 0 some) (rest (sym (ap (λ y. elim y as (λ z. Bool) [ true ↦ true | false ↦ kin_within n ws v (above ws w) ]) here) ∙ is))
+
+leads_back : (from last : ℕ) (ws : List Window) (v w : ℕ) → NumbersRise from last ws → LeadsTo ws v w → is_kin ws v w ≡ true
+leads_back from last ws v w rising (itself some) = is_kin-up from last ws v v rising some ∙ ap (λ y. elim y as (λ z. Bool) [ true ↦ true | false ↦ is_kin ws v (above ws v) ]) (eq-eqb v v refl)
+leads_back from last ws v w rising (further some chain) = is_kin-up from last ws v w rising some ∙ by (leads_back from last ws v (above ws w) rising chain) (eqb w v)
+  where
+    by : is_kin ws v (above ws w) ≡ true → (c : Bool) → (elim c as (λ z. Bool) [ true ↦ true | false ↦ is_kin ws v (above ws w) ]) ≡ true
+    by rest true = refl
+    by rest false = rest
+
+-- kin are those from which a chain leads
+pub kin_exactly : (setup : Setup) (past : Past) (v w : ℕ) → IsLawful setup past → (is_kin (live past) v w ≡ true → LeadsTo (live past) v w) × (LeadsTo (live past) v w → is_kin (live past) v w ≡ true)
+kin_exactly setup past v w lawful = (leads_so (live past) v w w, leads_back 15 (15 + length (windows_made past)) (live past) v w (sound setup past lawful).rising)
+
+-- a longer walk finds no more
+pub walk_enough : (setup : Setup) (past : Past) (n v w : ℕ) → IsLawful setup past → w ≤ n → kin_within n (live past) v w ≡ is_kin (live past) v w
+walk_enough setup past n v w lawful long = kin_enough 15 (15 + length (windows_made past)) (live past) v (sound setup past lawful).rising n w w long (omega arith)

@@ -1,9 +1,9 @@
 -- What stands of windows and of posts.
-use Rattle.std.specs.Prelude.{◌≡◌, ◌⊎◌, ◌<◌, ℕ, Bool, List, [], ◌∷◌, true}
+use Rattle.std.specs.Prelude.{◌≡◌, ◌≢◌, ◌⊎◌, ◌<◌, ℕ, Bool, List, [], ◌∷◌, true}
 use Rattle.std.specs.List.{AllByRecursion}
 use Rattle.user_model.specs.declared.entry.Entry.{Entry}
 use Rattle.user_model.specs.Past.{Past}
-use Rattle.user_model.specs.Windows.{Window, live, made_by, drops, is_live, thread_of}
+use Rattle.user_model.specs.Windows.{Window, live, above, made_by, drops, is_live, thread_of}
 use Rattle.user_model.specs.Posts.{PostedMsg}
 
 -- the window that the entry makes
@@ -22,3 +22,8 @@ IsForItsThread past t x = (x.msg.hwnd.0 ≡ 0) ⊎ ((is_live past x.msg.hwnd.0 �
 abbrev pub RisesByNumber : List PostedMsg → Type 0
 RisesByNumber [] = Unit {0}
 RisesByNumber (x ∷ xs) = AllByRecursion (λ y. x.number < y.number) xs × RisesByNumber xs
+
+-- from a window a chain of what stands above leads to v: the window is v, or what it stands under or is owned by leads there
+pub data LeadsTo (ws : List Window) (v : ℕ) : ℕ → Type 0 where
+  itself : v ≢ 0 → LeadsTo ws v v
+  further : {w : ℕ} → w ≢ 0 → LeadsTo ws v (above ws w) → LeadsTo ws v w

@@ -1,14 +1,14 @@
 //! Laws of what stands: windows, and posted messages. Each is a function that does nothing; its contract is the law.
 
-ghost use Rattle.std.specs.Prelude.{◌≡◌, ◌↔◌, ℕ, List};
+ghost use Rattle.std.specs.Prelude.{◌≡◌, ◌≤◌, ◌↔◌, ℕ, List, true};
 ghost use Rattle.std.specs.List.{AllByRecursion};
 ghost use Rattle.user_model.specs.declared.entry.Entry.{Entry};
 ghost use Rattle.user_model.specs.declared.entry.Setup.{Setup};
-ghost use Rattle.user_model.specs.Windows.{Window, live};
+ghost use Rattle.user_model.specs.Windows.{Window, live, is_kin, kin_within};
 ghost use Rattle.user_model.specs.Posts.{PostedMsg, posted, posts_to, ends_post};
 ghost use Rattle.user_model.specs.Legal.{IsLawful};
 ghost use Rattle.user_laws.specs.Words.{IsIn, IsAddedForGood};
-ghost use Rattle.user_laws.specs.Stands.{makes_window, drops_it, IsForItsThread, RisesByNumber};
+ghost use Rattle.user_laws.specs.Stands.{makes_window, drops_it, IsForItsThread, LeadsTo, RisesByNumber};
 
 /// The live windows are exactly those that some unrefused entry made and no later one dropped, by a drop of theirs or of
 /// what they stand under, or by the end of their thread (Microsoft, DestroyWindow function).
@@ -23,4 +23,11 @@ pub fn posts_stand_until_taken()
     ensures values { (past : List Entry) (t : ℕ) (x : PostedMsg) → IsIn x (posted past t) ↔ IsAddedForGood (posts_to t) (ends_post t) past x }
     ensures windows { (setup : Setup) (past : List Entry) (t : ℕ) → IsLawful setup past → AllByRecursion (IsForItsThread past t) (posted past t) }
     ensures rising { (setup : Setup) (past : List Entry) (t : ℕ) → IsLawful setup past → RisesByNumber (posted past t) }
+{}
+
+/// A window is of another one's kin exactly where a chain of parents and owners leads from it to that one, and no walk
+/// that is longer than the window's number finds more.
+pub fn kin_is_a_chain()
+    ensures chain { (setup : Setup) (past : List Entry) (v w : ℕ) → IsLawful setup past → is_kin (live past) v w ≡ true ↔ LeadsTo (live past) v w }
+    ensures enough { (setup : Setup) (past : List Entry) (n v w : ℕ) → IsLawful setup past → w ≤ n → kin_within n (live past) v w ≡ is_kin (live past) v w }
 {}
