@@ -7,6 +7,7 @@ use Rattle.user_model.specs.declared.entry.Setup.{Setup}
 use Rattle.user_model.specs.Past.{Past, is_refused, standing}
 use Rattle.user_model.specs.Windows.{Window, live, above, is_kin, kin_within, windows_made}
 use Rattle.user_model.specs.Posts.{PostedMsg, posted, posts_to, ends_post}
+use Rattle.user_model.specs.Ready.{ReadyMsg, arrives, departs, ready}
 use Rattle.user_model.specs.Legal.{IsLawful}
 use Rattle.user_model.proofs.ListLaws.{all_weaker}
 use Rattle.user_model.proofs.PostLaws.{IsRising, posted_rises}
@@ -76,3 +77,7 @@ kin_exactly setup past v w lawful = (leads_so (live past) v w w, leads_back 15 (
 -- a longer walk finds no more
 pub walk_enough : (setup : Setup) (past : Past) (n v w : ℕ) → IsLawful setup past → w ≤ n → kin_within n (live past) v w ≡ is_kin (live past) v w
 walk_enough setup past n v w lawful long = kin_enough 15 (15 + length (windows_made past)) (live past) v (sound setup past lawful).rising n w w long (omega arith)
+
+-- exactly what became ready and wasn't served
+pub ready_exactly : (past : Past) (t : ℕ) (r : ReadyMsg) → (IsIn r (ready past t) → IsAddedForGood (arrives t) (departs t) past r) × (IsAddedForGood (arrives t) (departs t) past r → IsIn r (ready past t))
+ready_exactly past t r = stands_exactly (arrives t) (departs t) past r

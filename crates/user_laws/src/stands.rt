@@ -6,6 +6,7 @@ ghost use Rattle.user_model.specs.declared.entry.Entry.{Entry};
 ghost use Rattle.user_model.specs.declared.entry.Setup.{Setup};
 ghost use Rattle.user_model.specs.Windows.{Window, live, is_kin, kin_within};
 ghost use Rattle.user_model.specs.Posts.{PostedMsg, posted, posts_to, ends_post};
+ghost use Rattle.user_model.specs.Ready.{ReadyMsg, arrives, departs, ready};
 ghost use Rattle.user_model.specs.Legal.{IsLawful};
 ghost use Rattle.user_laws.specs.Words.{IsIn, IsAddedForGood};
 ghost use Rattle.user_laws.specs.Stands.{makes_window, drops_it, IsForItsThread, LeadsTo, RisesByNumber};
@@ -30,4 +31,11 @@ pub fn posts_stand_until_taken()
 pub fn kin_is_a_chain()
     ensures chain { (setup : Setup) (past : List Entry) (v w : ℕ) → IsLawful setup past → is_kin (live past) v w ≡ true ↔ LeadsTo (live past) v w }
     ensures enough { (setup : Setup) (past : List Entry) (n v w : ℕ) → IsLawful setup past → w ≤ n → kin_within n (live past) v w ≡ is_kin (live past) v w }
+{}
+
+/// What a thread has ready is exactly the sends to it that some unrefused entry began and no later one entered or
+/// answered, and the results of its callback sends that some unrefused entry answered and no later one handed over; all of
+/// it goes where the thread ends (Microsoft, SendMessage and SendMessageCallback functions).
+pub fn ready_until_served()
+    ensures { (past : List Entry) (t : ℕ) (r : ReadyMsg) → IsIn r (ready past t) ↔ IsAddedForGood (arrives t) (departs t) past r }
 {}
