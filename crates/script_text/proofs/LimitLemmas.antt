@@ -7,12 +7,11 @@ use Rattle.std.proofs.lemmas.Bool.Decides.{nat_tests}
 use Rattle.std.proofs.lemmas.List.{drop_more, length-map}
 use Rattle.script_tree.specs.Tree.{Tree}
 use Rattle.script_lines.specs.declared.line.Line.{Line}
-use Rattle.script_lines.specs.declared.line.Part.{Part}
 use Rattle.script_lines.specs.LineLimits.{IsLine}
 use Rattle.script_lines.specs.LineParts.{line_parts}
 use Rattle.script_lines.specs.Known.{known_of}
-use Rattle.script_lines.specs.NameLimits.{AreKnown, all_seen, seen_with_part, begun_with_part, seen_after, seen_all, are_in_order, begun_after, begun_all, are_procedures_in_order}
-use Rattle.script_lines.proofs.LinesAgain.{none_after, none_begun_after, none_seen, none_begun}
+use Rattle.script_lines.specs.NameLimits.{AreKnown, all_seen, seen_after, seen_all, are_in_order, begun_after, begun_all, are_procedures_in_order}
+use Rattle.script_lines.proofs.LinesAgain.{none_seen, none_begun}
 use Rattle.script_text.specs.Limits.{IsScript, is_turn, is_within}
 use Rattle.script_text.specs.Lines.{names_of, script_lines}
 use Rattle.script_text.specs.Nesting.{nests}
@@ -30,6 +29,10 @@ pub unbegun : (count : ℕ) (lines : List Line) (i : ℕ) (d : Line) (begun : �
 unbegun count lines i d begun lt none so_far =
     let total : begun_all count (Some 0) lines ≡ None = sym so_far ∙ ap (begun_all count (Some begun)) (drop_more lines i d lt) ∙ ap (λ (o : Option ℕ). begun_all count o (drop (i + 1) lines)) none ∙ none_begun count (drop (i + 1) lines) in
     ap (all_seen count) total
+
+pub and_false : (a b : Bool) → b ≡ false → (a && b) ≡ false
+and_false true b e = e
+and_false false b e = refl
 
 both : (a b : Bool) → a ≡ true → b ≡ true → (a && b) ≡ true
 both true b p q = q
@@ -90,12 +93,3 @@ fitting_script s bytes h e short =
     let begun : are_procedures_in_order (length s.procedures) (script_lines s) ≡ true = ap (λ (n : ℕ). are_procedures_in_order n (script_lines s)) (sym many) ∙ h.program.procedures_in_order in
     let len : length (spelling s) ≤ 1048576 = omega (arith, short, ap length e) in
     script_of s h.within h.program.named h.program.fits h.program.in_order begun h.program.nested len
-
--- a part whose name, or whose procedure, is out of order
-pub unseen_part : (count m : ℕ) (parts : List Part) (i : ℕ) (d : Part) (seen : ℕ) → i < length parts → seen_with_part count (Some seen) (get_or parts i d) ≡ None → seen_after count (Some seen) (drop i parts) ≡ seen_after count (Some m) parts → seen_after count (Some m) parts ≡ None
-unseen_part count m parts i d seen lt none so_far =
-    sym so_far ∙ ap (seen_after count (Some seen)) (drop_more parts i d lt) ∙ ap (λ (o : Option ℕ). seen_after count o (drop (i + 1) parts)) none ∙ none_after count (drop (i + 1) parts)
-
-pub unbegun_part : (count m : ℕ) (parts : List Part) (i : ℕ) (d : Part) (begun : ℕ) → i < length parts → begun_with_part count (Some begun) (get_or parts i d) ≡ None → begun_after count (Some begun) (drop i parts) ≡ begun_after count (Some m) parts → begun_after count (Some m) parts ≡ None
-unbegun_part count m parts i d begun lt none so_far =
-    sym so_far ∙ ap (begun_after count (Some begun)) (drop_more parts i d lt) ∙ ap (λ (o : Option ℕ). begun_after count o (drop (i + 1) parts)) none ∙ none_begun_after count (drop (i + 1) parts)

@@ -2,11 +2,13 @@
 
 ghost use Rattle.std.specs.Prelude.{◌≡◌, ◌&&◌, Some};
 ghost use Rattle.std.specs.List.{list_all};
-ghost use Rattle.script_lines.specs.NameLimits.{seen_with, seen_with_part, seen_after, are_in_order, begun_with, named_with, begun_with_part, begun_after, are_procedures_in_order};
+ghost use Rattle.script_lines.specs.LineParts.{line_parts};
+ghost use Rattle.script_lines.specs.NameLimits.{seen_with, seen_after, are_in_order, begun_with, named_with, begun_after, are_procedures_in_order};
+ghost use Rattle.script_lines.specs.Statements.{statement_parts};
 ghost use Rattle.script_text.specs.Limits.{is_within, is_turn};
 
-use script_lines::{Line, Part, line_parts};
-use script_tree::Script;
+use script_lines::Line;
+use script_tree::{CallStatement, Script};
 
 /// How many bytes the text of a script has at most.
 pub const SCRIPT_LIMIT: usize = 1048576;
@@ -57,44 +59,30 @@ fn seen_with(count: usize, seen: usize, place: u32) -> Option<usize>
     None
 }
 
-/// How many names there are after a part of a line, where there were so many.
-fn seen_with_part(count: usize, seen: usize, part: Part) -> Option<usize>
-    ensures { result ≡ seen_with_part count (Some seen) part }
+/// How many names there are after a statement of a call, where there were so many.
+fn seen_in_call(count: usize, seen: usize, call: &CallStatement) -> Option<usize>
+    ensures { result ≡ seen_after count (Some seen) (statement_parts call.now) }
 {
-    match part {
-        Part::Name(place) => seen_with(count, seen, place),
-        Part::Letter(_) => Some(seen),
-        Part::Operand(_) => Some(seen),
-        Part::Operator(_) => Some(seen),
-        Part::Comparison(_) => Some(seen),
-        Part::Beginning(_) => Some(seen),
-        Part::Procedure(_) => Some(seen),
+    match call {
+        CallStatement::Message(name) => seen_with(count, seen, *name),
+        CallStatement::Register(class, _, _) => seen_with(count, seen, *class),
+        CallStatement::Unregister(class) => seen_with(count, seen, *class),
+        _ => Some(seen),
     }
 }
 
-/// How many names there are after the parts of a line, where there were so many.
-fn seen_after(count: usize, seen: usize, parts: &[Part]) -> Option<usize>
-    ensures { result ≡ seen_after count (Some seen) parts.now }
+/// How many names there are after a line, where there were so many.
+fn seen_in_line(count: usize, seen: usize, line: &Line) -> Option<usize>
+    ensures { result ≡ seen_after count (Some seen) (line_parts line.now) }
 {
-    let mut seen = seen;
-    for part in parts {
-        seen = seen_with_part(count, seen, *part)?;
+    match line {
+        Line::Call(call) => seen_in_call(count, seen, call),
+        Line::Create(creation) => {
+            let with_class = seen_with(count, seen, creation.class)?;
+            seen_with(count, with_class, creation.title)
+        }
+        _ => Some(seen),
     }
-    Some(seen)
-}
-
-/// Whether the names are numbered in the order in which they first appear, and there are so many.
-fn are_in_order(lines: &[Line], count: usize) -> bool
-    ensures { result ≡ are_in_order count lines.now }
-{
-    let mut seen = 0;
-    for line in lines {
-        let Some(after) = seen_after(count, seen, &line_parts(*line)) else {
-            return false;
-        };
-        seen = after;
-    }
-    seen == count
 }
 
 /// How many procedures have begun after one more begins, where so many had. None comes where it isn't the
@@ -120,50 +108,43 @@ fn named_with(begun: usize, place: u32) -> Option<usize>
     }
 }
 
-/// How many procedures have begun after a part of a line, where so many had.
-fn begun_with_part(count: usize, begun: usize, part: Part) -> Option<usize>
-    ensures { result ≡ begun_with_part count (Some begun) part }
+/// How many procedures have begun after a statement of a call, where so many had.
+fn begun_in_call(count: usize, begun: usize, call: &CallStatement) -> Option<usize>
+    ensures { result ≡ begun_after count (Some begun) (statement_parts call.now) }
 {
-    match part {
-        Part::Beginning(place) => begun_with(count, begun, place),
-        Part::Procedure(place) => named_with(begun, place),
-        Part::Letter(_) => Some(begun),
-        Part::Operand(_) => Some(begun),
-        Part::Operator(_) => Some(begun),
-        Part::Comparison(_) => Some(begun),
-        Part::Name(_) => Some(begun),
+    match call {
+        CallStatement::SendCallback(_, _, _, _, procedure, _) => named_with(begun, *procedure),
+        CallStatement::Register(_, procedure, _) => named_with(begun, *procedure),
+        _ => Some(begun),
     }
 }
 
-/// How many procedures have begun after the parts of a line, where so many had.
-fn begun_after(count: usize, begun: usize, parts: &[Part]) -> Option<usize>
-    ensures { result ≡ begun_after count (Some begun) parts.now }
+/// How many procedures have begun after a line, where so many had.
+fn begun_in_line(count: usize, begun: usize, line: &Line) -> Option<usize>
+    ensures { result ≡ begun_after count (Some begun) (line_parts line.now) }
 {
-    let mut begun = begun;
-    for part in parts {
-        begun = begun_with_part(count, begun, *part)?;
+    match line {
+        Line::Call(call) => begun_in_call(count, begun, call),
+        Line::Procedure(place) => begun_with(count, begun, *place),
+        _ => Some(begun),
     }
-    Some(begun)
-}
-
-/// Whether the procedures are numbered in the order of their lines, each is named below its line only,
-/// and there are so many.
-fn are_procedures_in_order(lines: &[Line], count: usize) -> bool
-    ensures { result ≡ are_procedures_in_order count lines.now }
-{
-    let mut begun = 0;
-    for line in lines {
-        let Some(after) = begun_after(count, begun, &line_parts(*line)) else {
-            return false;
-        };
-        begun = after;
-    }
-    begun == count
 }
 
 /// Whether so many names and so many procedures stand in order in the lines.
 pub fn are_all_in_order(lines: &[Line], names: usize, procedures: usize) -> bool
     ensures { result ≡ (are_in_order names lines.now && are_procedures_in_order procedures lines.now) }
 {
-    are_in_order(lines, names) && are_procedures_in_order(lines, procedures)
+    let mut seen = 0;
+    let mut begun = 0;
+    for line in lines {
+        let Some(more_seen) = seen_in_line(names, seen, line) else {
+            return false;
+        };
+        let Some(more_begun) = begun_in_line(procedures, begun, line) else {
+            return false;
+        };
+        seen = more_seen;
+        begun = more_begun;
+    }
+    seen == names && begun == procedures
 }

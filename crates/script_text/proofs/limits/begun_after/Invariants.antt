@@ -1,6 +1,0 @@
-use Rattle.std.proofs.Common.{◌≡◌, drop, Some}
-use Rattle.script_lines.specs.NameLimits.{begun_after}
-use Rattle.script_text.proofs.limits.begun_after.Given as goal
-
-abbrev pub invariant-loop-part : goal.invariant-loop-part
-invariant-loop-part l = begun_after l.count (Some l.begun) (drop l.part-index l.parts) ≡ begun_after l.count (Some l.initial.begun) l.parts
