@@ -1,8 +1,7 @@
-//! Dispatches, sends and the calls of time.
+//! Dispatches, sends and the calls of time, with the answers that they must have.
 
-use super::*;
-use crate::tests::{Made, replay, replayed, with_windows};
-use std::test::Fail;
+use crate::calls::{Made, replay, replayed, with_windows};
+use std::alloc::{AllocError, Global};
 use user_model::{Answer, Call, Machine, SendCount};
 use win_num::{Cause, Code, Hwnd, SendId, Thread, names};
 
@@ -80,8 +79,8 @@ macro_rules! callback {
     };
 }
 
-#[test]
-fn a_send_back_is_served_by_the_waiting_sender(rt: HostRuntime) -> Result<(), Fail> {
+/// A sender that waits serves a send back.
+pub fn a_send_back_is_served_by_the_waiting_sender(alloc: Global) -> Result<bool, AllocError> {
     static ENTRIES: [Made; 12] = [
         (1, send!(17, 1024, 5), begun!(1)),
         (1, Call::Await(1), Answer::Wait),
@@ -96,12 +95,11 @@ fn a_send_back_is_served_by_the_waiting_sender(rt: HostRuntime) -> Result<(), Fa
         (1, Call::Await(1), done!(10, Proc)),
         (2, Call::Get(0, 0, 0), Answer::Wait),
     ];
-    assert_eq!(rt; replayed(rt.alloc(), 2, &ENTRIES)?, ENTRIES.len());
-    Ok(())
+    Ok(replayed(alloc, 2, &ENTRIES)? == ENTRIES.len())
 }
 
-#[test]
-fn three_frames_deep(rt: HostRuntime) -> Result<(), Fail> {
+/// Three threads that wait in each other.
+pub fn three_frames_deep(alloc: Global) -> Result<bool, AllocError> {
     static ENTRIES: [Made; 12] = [
         (1, send!(17, 1024, 1), begun!(1)),
         (2, Call::Get(0, 0, 0), enter!(1, 17, 1024, 1)),
@@ -116,12 +114,11 @@ fn three_frames_deep(rt: HostRuntime) -> Result<(), Fail> {
         (2, Call::Leave(10), left!(1)),
         (1, Call::Await(1), done!(10, Proc)),
     ];
-    assert_eq!(rt; replayed(rt.alloc(), 3, &ENTRIES)?, ENTRIES.len());
-    Ok(())
+    Ok(replayed(alloc, 3, &ENTRIES)? == ENTRIES.len())
 }
 
-#[test]
-fn results_and_sends_come_by_place(rt: HostRuntime) -> Result<(), Fail> {
+/// Results of callback sends and sends come by their places.
+pub fn results_and_sends_come_by_place(alloc: Global) -> Result<bool, AllocError> {
     static ENTRIES: [Made; 10] = [
         (1, Call::SendCallback(17, 1024, 1, 0, 1, 77), begun!(1)),
         (2, Call::Get(0, 0, 0), enter!(1, 17, 1024, 1)),
@@ -134,12 +131,11 @@ fn results_and_sends_come_by_place(rt: HostRuntime) -> Result<(), Fail> {
         (1, Call::Leave(0), left!(0)),
         (1, Call::Get(0, 0, 0), enter!(3, 16, 1026, 3)),
     ];
-    assert_eq!(rt; replayed(rt.alloc(), 3, &ENTRIES)?, ENTRIES.len());
-    Ok(())
+    Ok(replayed(alloc, 3, &ENTRIES)? == ENTRIES.len())
 }
 
-#[test]
-fn blocking_senders_serve_nobody(rt: HostRuntime) -> Result<(), Fail> {
+/// Senders that block serve nobody until their time is over.
+pub fn blocking_senders_serve_nobody(alloc: Global) -> Result<bool, AllocError> {
     static ENTRIES: [Made; 11] = [
         (1, Call::SendTimeout(17, 1024, 0, 0, 1, 100), begun!(1)),
         (2, Call::SendTimeout(16, 1024, 0, 0, 1, 200), begun!(2)),
@@ -153,12 +149,11 @@ fn blocking_senders_serve_nobody(rt: HostRuntime) -> Result<(), Fail> {
         (2, Call::Await(2), done!(4, Proc)),
         (2, Call::Get(0, 0, 0), Answer::Wait),
     ];
-    assert_eq!(rt; replayed(rt.alloc(), 2, &ENTRIES)?, ENTRIES.len());
-    Ok(())
+    Ok(replayed(alloc, 2, &ENTRIES)? == ENTRIES.len())
 }
 
-#[test]
-fn a_send_times_out_inside_its_procedure(rt: HostRuntime) -> Result<(), Fail> {
+/// The time of a send ends while its procedure runs.
+pub fn a_send_times_out_inside_its_procedure(alloc: Global) -> Result<bool, AllocError> {
     static ENTRIES: [Made; 7] = [
         (1, Call::SendTimeout(17, 1024, 0, 0, 0, 50), begun!(1)),
         (2, Call::Get(0, 0, 0), enter!(1, 17, 1024, 0)),
@@ -168,12 +163,11 @@ fn a_send_times_out_inside_its_procedure(rt: HostRuntime) -> Result<(), Fail> {
         (2, Call::Reply(3), Answer::Value(0)),
         (2, Call::Leave(7), left!(1)),
     ];
-    assert_eq!(rt; replayed(rt.alloc(), 2, &ENTRIES)?, ENTRIES.len());
-    Ok(())
+    Ok(replayed(alloc, 2, &ENTRIES)? == ENTRIES.len())
 }
 
-#[test]
-fn an_early_reply(rt: HostRuntime) -> Result<(), Fail> {
+/// A reply before the end of the procedure.
+pub fn an_early_reply(alloc: Global) -> Result<bool, AllocError> {
     static ENTRIES: [Made; 8] = [
         (1, send!(17, 1024, 0), begun!(1)),
         (2, Call::Get(0, 0, 0), enter!(1, 17, 1024, 0)),
@@ -184,12 +178,11 @@ fn an_early_reply(rt: HostRuntime) -> Result<(), Fail> {
         (1, Call::Await(1), done!(3, Reply)),
         (2, Call::Leave(7), left!(1)),
     ];
-    assert_eq!(rt; replayed(rt.alloc(), 2, &ENTRIES)?, ENTRIES.len());
-    Ok(())
+    Ok(replayed(alloc, 2, &ENTRIES)? == ENTRIES.len())
 }
 
-#[test]
-fn the_sender_of_a_callback_ends(rt: HostRuntime) -> Result<(), Fail> {
+/// The sender of a callback send ends before the procedure does.
+pub fn the_sender_of_a_callback_ends(alloc: Global) -> Result<bool, AllocError> {
     static ENTRIES: [Made; 4] = [
         (1, Call::SendCallback(17, 1024, 0, 0, 0, 0), begun!(1)),
         (2, Call::Get(0, 0, 0), enter!(1, 17, 1024, 0)),
@@ -205,14 +198,12 @@ fn the_sender_of_a_callback_ends(rt: HostRuntime) -> Result<(), Fail> {
         by_timeout: 0,
         unfinished: 0,
     };
-    let mut user = with_windows(rt.alloc(), 2)?;
-    assert_eq!(rt; replay(&mut user, &ENTRIES)?, ENTRIES.len());
-    assert_eq!(rt; user.send_count(), count);
-    Ok(())
+    let mut user = with_windows(alloc, 2)?;
+    Ok(replay(&mut user, &ENTRIES)? == ENTRIES.len() && user.send_count() == count)
 }
 
-#[test]
-fn a_thread_ends_before_it_enters(rt: HostRuntime) -> Result<(), Fail> {
+/// A receiver ends before it has entered a send.
+pub fn a_thread_ends_before_it_enters(alloc: Global) -> Result<bool, AllocError> {
     static ENTRIES: [Made; 5] = [
         (1, send!(17, 1024, 0), begun!(1)),
         (2, Call::EndThread, Answer::Ended),
@@ -220,12 +211,11 @@ fn a_thread_ends_before_it_enters(rt: HostRuntime) -> Result<(), Fail> {
         (1, Call::Post(17, 1025, 0, 0), refused!(1400)),
         (1, Call::PostThread(2, 1025, 0, 0), refused!(1444)),
     ];
-    assert_eq!(rt; replayed(rt.alloc(), 2, &ENTRIES)?, ENTRIES.len());
-    Ok(())
+    Ok(replayed(alloc, 2, &ENTRIES)? == ENTRIES.len())
 }
 
-#[test]
-fn a_dropped_window_loses_its_send(rt: HostRuntime) -> Result<(), Fail> {
+/// A destroyed window answers the sends that nobody entered by loss.
+pub fn a_dropped_window_loses_its_send(alloc: Global) -> Result<bool, AllocError> {
     static ENTRIES: [Made; 13] = [
         (1, Call::Post(17, 1025, 0, 0), Answer::Posted(1)),
         (1, Call::Post(17, 1026, 0, 0), Answer::Posted(2)),
@@ -241,12 +231,11 @@ fn a_dropped_window_loses_its_send(rt: HostRuntime) -> Result<(), Fail> {
         (2, Call::Peek(0, 0, 0, 1), Answer::Nothing),
         (1, Call::Post(17, 1025, 0, 0), refused!(1400)),
     ];
-    assert_eq!(rt; replayed(rt.alloc(), 2, &ENTRIES)?, ENTRIES.len());
-    Ok(())
+    Ok(replayed(alloc, 2, &ENTRIES)? == ENTRIES.len())
 }
 
-#[test]
-fn an_entered_window_is_dropped(rt: HostRuntime) -> Result<(), Fail> {
+/// A send that was entered survives its window.
+pub fn an_entered_window_is_dropped(alloc: Global) -> Result<bool, AllocError> {
     static ENTRIES: [Made; 8] = [
         (1, send!(17, 1024, 0), begun!(1)),
         (2, Call::Get(0, 0, 0), enter!(1, 17, 1024, 0)),
@@ -257,12 +246,11 @@ fn an_entered_window_is_dropped(rt: HostRuntime) -> Result<(), Fail> {
         (2, Call::Leave(6), left!(1)),
         (1, Call::Await(1), done!(6, Proc)),
     ];
-    assert_eq!(rt; replayed(rt.alloc(), 2, &ENTRIES)?, ENTRIES.len());
-    Ok(())
+    Ok(replayed(alloc, 2, &ENTRIES)? == ENTRIES.len())
 }
 
-#[test]
-fn calls_are_refused_before_their_arguments(rt: HostRuntime) -> Result<(), Fail> {
+/// Calls at the wrong time are refused before their arguments are looked at.
+pub fn calls_are_refused_before_their_arguments(alloc: Global) -> Result<bool, AllocError> {
     static ENTRIES: [Made; 31] = [
         (1, Call::Await(5), Answer::Refused(Code::NotNow)),
         (1, Call::Leave(0), Answer::Refused(Code::NotNow)),
@@ -300,12 +288,11 @@ fn calls_are_refused_before_their_arguments(rt: HostRuntime) -> Result<(), Fail>
         (1, Call::Leave(7), left!(1)),
         (2, Call::Await(1), done!(7, Proc)),
     ];
-    assert_eq!(rt; replayed(rt.alloc(), 2, &ENTRIES)?, ENTRIES.len());
-    Ok(())
+    Ok(replayed(alloc, 2, &ENTRIES)? == ENTRIES.len())
 }
 
-#[test]
-fn a_stack_holds_64_frames(rt: HostRuntime) -> Result<(), Fail> {
+/// A stack holds 64 frames.
+pub fn a_stack_holds_64_frames(alloc: Global) -> Result<bool, AllocError> {
     static ENTRIES: [Made; 14] = [
         (1, send!(16, 1024, 0), refused!(1001)),
         (1, send!(17, 1024, 0), refused!(1001)),
@@ -322,17 +309,18 @@ fn a_stack_holds_64_frames(rt: HostRuntime) -> Result<(), Fail> {
         (1, Call::Dispatch(16, 1024, 0, 0), Answer::Called(0)),
         (1, Call::Leave(9), left!(0)),
     ];
-    let mut user = with_windows(rt.alloc(), 2)?;
+    let mut user = with_windows(alloc, 2)?;
     for number in 1..=64u32 {
         let answer = user.step(Thread(1), send!(16, 1024, 0))?;
-        assert_eq!(rt; answer, Answer::Inside(SendId(number), 0));
+        if answer != Answer::Inside(SendId(number), 0) {
+            return Ok(false);
+        }
     }
-    assert_eq!(rt; replay(&mut user, &ENTRIES)?, ENTRIES.len());
-    Ok(())
+    Ok(replay(&mut user, &ENTRIES)? == ENTRIES.len())
 }
 
-#[test]
-fn a_callback_to_an_own_window_runs_at_once(rt: HostRuntime) -> Result<(), Fail> {
+/// A callback send to an own window runs at once.
+pub fn a_callback_to_an_own_window_runs_at_once(alloc: Global) -> Result<bool, AllocError> {
     static ENTRIES: [Made; 6] = [
         (
             1,
@@ -345,12 +333,11 @@ fn a_callback_to_an_own_window_runs_at_once(rt: HostRuntime) -> Result<(), Fail>
         (1, Call::Leave(0), left!(0)),
         (1, Call::Leave(0), Answer::Refused(Code::NotNow)),
     ];
-    assert_eq!(rt; replayed(rt.alloc(), 1, &ENTRIES)?, ENTRIES.len());
-    Ok(())
+    Ok(replayed(alloc, 1, &ENTRIES)? == ENTRIES.len())
 }
 
-#[test]
-fn the_clock_goes_to_the_soonest_time(rt: HostRuntime) -> Result<(), Fail> {
+/// Where every thread waits, the clock goes on to the soonest time.
+pub fn the_clock_goes_to_the_soonest_time(alloc: Global) -> Result<bool, AllocError> {
     static ENTRIES: [Made; 22] = [
         (1, Call::SleepUntil(30), Answer::Wait),
         (2, Call::SendTimeout(16, 1024, 0, 0, 0, 20), begun!(1)),
@@ -375,12 +362,11 @@ fn the_clock_goes_to_the_soonest_time(rt: HostRuntime) -> Result<(), Fail> {
         (1, Call::EndThread, Answer::Ended),
         (0, Call::Advance, Answer::Stuck),
     ];
-    assert_eq!(rt; replayed(rt.alloc(), 3, &ENTRIES)?, ENTRIES.len());
-    Ok(())
+    Ok(replayed(alloc, 3, &ENTRIES)? == ENTRIES.len())
 }
 
-#[test]
-fn a_thousand_sends_are_unfinished(rt: HostRuntime) -> Result<(), Fail> {
+/// At most 1,024 sends are unfinished.
+pub fn a_thousand_sends_are_unfinished(alloc: Global) -> Result<bool, AllocError> {
     static ENTRIES: [Made; 8] = [
         (
             1,
@@ -403,11 +389,11 @@ fn a_thousand_sends_are_unfinished(rt: HostRuntime) -> Result<(), Fail> {
             Answer::Inside(SendId(1026), 0),
         ),
     ];
-    let mut user = with_windows(rt.alloc(), 2)?;
+    let mut user = with_windows(alloc, 2)?;
     for number in 1..=1024u32 {
-        let answer = user.step(Thread(1), Call::SendNotify(17, 1024, 0, 0))?;
-        assert_eq!(rt; answer, begun!(number));
+        if user.step(Thread(1), Call::SendNotify(17, 1024, 0, 0))? != begun!(number) {
+            return Ok(false);
+        }
     }
-    assert_eq!(rt; replay(&mut user, &ENTRIES)?, ENTRIES.len());
-    Ok(())
+    Ok(replay(&mut user, &ENTRIES)? == ENTRIES.len())
 }

@@ -1,11 +1,10 @@
-//! Stories of sends and their counts in worked examples.
+//! What became of each send in the worked examples, and their counts.
 
 ghost use Rattle.std.specs.Prelude.{◌<◌, ◌≤◌};
 
-use super::*;
 use std::alloc::{AllocError, Global};
-use std::test::Fail;
 use user_core::User;
+use user_laws::{send_law, sum_law};
 use user_model::{Call, Machine, Setup};
 use win_num::{Cause, SendId, Thread};
 
@@ -65,8 +64,8 @@ fn are_told(alloc: Global, threads: u8, steps: &[Step], sends: &[Told]) -> Resul
     Ok(sum_law(&user).is_none())
 }
 
-#[test]
-fn sends_that_procedures_answer(rt: HostRuntime) -> Result<(), Fail> {
+/// Stories of sends that procedures answered: a send back, three frames deep, results by their places.
+pub fn sends_that_procedures_answer(alloc: Global) -> Result<bool, AllocError> {
     static BACK: [Step; 12] = [
         (1, Call::Send(17, 1024, 5, 0)),
         (1, Call::Await(1)),
@@ -119,14 +118,15 @@ fn sends_that_procedures_answer(rt: HostRuntime) -> Result<(), Fail> {
         by_proc!(2, 5, 6),
         (3, Some(9), None, None),
     ];
-    assert!(rt; are_told(rt.alloc(), 2, &BACK, &TOLD_BACK)?);
-    assert!(rt; are_told(rt.alloc(), 3, &DEEP, &TOLD_DEEP)?);
-    assert!(rt; are_told(rt.alloc(), 3, &BY_PLACE, &TOLD_BY_PLACE)?);
-    Ok(())
+    Ok(
+        are_told(alloc, 2, &BACK, &TOLD_BACK)?
+            && are_told(alloc, 3, &DEEP, &TOLD_DEEP)?
+            && are_told(alloc, 3, &BY_PLACE, &TOLD_BY_PLACE)?,
+    )
 }
 
-#[test]
-fn sends_that_end_otherwise(rt: HostRuntime) -> Result<(), Fail> {
+/// Stories of sends that end otherwise: by time, by an early reply, with their window, with a thread.
+pub fn sends_that_end_otherwise(alloc: Global) -> Result<bool, AllocError> {
     static BLOCKING: [Step; 11] = [
         (1, Call::SendTimeout(17, 1024, 0, 0, 1, 100)),
         (2, Call::SendTimeout(16, 1024, 0, 0, 1, 200)),
@@ -191,26 +191,26 @@ fn sends_that_end_otherwise(rt: HostRuntime) -> Result<(), Fail> {
     static TOLD_DROPPED: [Told; 1] = [(1, None, Some(7), Some(Cause::Loss))];
     static TOLD_CALLBACK: [Told; 1] = [by_proc!(1, 1, 3)];
     static TOLD_ENDED: [Told; 1] = [(1, None, Some(1), Some(Cause::Loss))];
-    assert!(rt; are_told(rt.alloc(), 2, &BLOCKING, &TOLD_BLOCKING)?);
-    assert!(rt; are_told(rt.alloc(), 2, &OVER, &TOLD_OVER)?);
-    assert!(rt; are_told(rt.alloc(), 2, &EARLY, &TOLD_EARLY)?);
-    assert!(rt; are_told(rt.alloc(), 2, &DROPPED, &TOLD_DROPPED)?);
-    assert!(rt; are_told(rt.alloc(), 2, &CALLBACK, &TOLD_CALLBACK)?);
-    assert!(rt; are_told(rt.alloc(), 2, &ENDED, &TOLD_ENDED)?);
-    Ok(())
+    Ok(
+        are_told(alloc, 2, &BLOCKING, &TOLD_BLOCKING)?
+            && are_told(alloc, 2, &OVER, &TOLD_OVER)?
+            && are_told(alloc, 2, &EARLY, &TOLD_EARLY)?
+            && are_told(alloc, 2, &DROPPED, &TOLD_DROPPED)?
+            && are_told(alloc, 2, &CALLBACK, &TOLD_CALLBACK)?
+            && are_told(alloc, 2, &ENDED, &TOLD_ENDED)?,
+    )
 }
 
-#[test]
-fn counts_are_told_at_the_end(rt: HostRuntime) -> Result<(), Fail> {
-    let alloc: Global = rt.alloc();
+/// The counts once all threads have ended, and none before.
+pub fn counts_are_told_at_the_end(alloc: Global) -> Result<bool, AllocError> {
     let mut user = User::new(alloc, Setup::new(2, 8, 4))?;
     user.step(Thread(1), Call::Register(1, 0, 0))?;
     user.step(Thread(2), Call::NewWindow(1, 2, 0, 0, 0, 0, 0, 0, 0))?;
     user.step(Thread(1), Call::Send(16, 1024, 0, 0))?;
     user.step(Thread(2), Call::EndThread)?;
-    assert!(rt; sum_law(&user).is_none());
+    let before = sum_law(&user);
     user.step(Thread(1), Call::Await(1))?;
     user.step(Thread(1), Call::EndThread)?;
-    assert_eq!(rt; sum_law(&user).map_or(0, |count| count.by_loss), 1);
-    Ok(())
+    let by_loss = sum_law(&user).map(|count| count.by_loss);
+    Ok(before.is_none() && by_loss == Some(1))
 }

@@ -1,12 +1,13 @@
+//! Scripts with the logs that they must have, faults of the input and the output, and turns of single threads.
+
 ghost use Rattle.std.specs.Prelude.{◌<◌};
 
-use super::*;
-use crate::io::{MemSink, MemSource};
 use crate::refusing::Refusing;
 use script_proc::{Turn, Worker};
 use script_text::read;
 use std::alloc::{AllocError, Global};
-use std::test::Fail;
+use user_app::io::{MemSink, MemSource};
+use user_app::{Status, user_plain};
 use user_core::User;
 use user_model::{Alone, Machine, Setup};
 
@@ -93,9 +94,8 @@ fn call(
     Ok((status, sink))
 }
 
-#[test]
-fn runs(rt: HostRuntime) -> Result<(), Fail> {
-    let alloc: Global = rt.alloc();
+/// Scripts, the log or the refusal of each, and how each ended.
+pub fn runs(alloc: Global) -> Result<bool, AllocError> {
     let cases: [(&[u8], &[u8], Status, u8); 9] = [
         (ONE_END, ONE_END_LOG, Status::Done, 0),
         (POSTS, POSTS_LOG, Status::Done, 0),
@@ -109,16 +109,15 @@ fn runs(rt: HostRuntime) -> Result<(), Fail> {
     ];
     for (script, log, status, number) in cases {
         let (told, sink) = call(alloc, &["run"], script, 7, Vec::new(alloc), 10000)?;
-        assert_eq!(rt; sink.bytes(), log);
-        assert_eq!(rt; told, status);
-        assert_eq!(rt; told.number(), number);
+        if sink.bytes() != log || told != status || told.number() != number {
+            return Ok(false);
+        }
     }
-    Ok(())
+    Ok(true)
 }
 
-#[test]
-fn turns_of_a_thread(rt: HostRuntime) -> Result<(), Fail> {
-    let alloc: Global = rt.alloc();
+/// Turns of one thread: it goes, is idle, has used its budget, has ended.
+pub fn turns_of_a_thread(alloc: Global) -> Result<bool, AllocError> {
     let cases: [(&[u8], [Turn; 3]); 3] = [
         (ONE_END, [Turn::Went, Turn::Ended, Turn::Ended]),
         (WAITS, [Turn::Went, Turn::Idle, Turn::Idle]),
@@ -127,36 +126,40 @@ fn turns_of_a_thread(rt: HostRuntime) -> Result<(), Fail> {
     for (text, turns) in cases {
         let machine = User::new(alloc, Setup::new(2, 8, 4))?;
         let mut teller = Alone { machine };
-        let script = read(alloc, text).expect(&rt, "a script");
+        let Ok(script) = read(alloc, text) else {
+            return Ok(false);
+        };
         let mut worker = Worker::new(alloc, &script, 1)?;
         for turn in turns {
-            assert_eq!(rt; worker.turn(&script, &mut teller)?, turn);
+            if worker.turn(&script, &mut teller)? != turn {
+                return Ok(false);
+            }
         }
     }
-    Ok(())
+    Ok(true)
 }
 
-#[test]
-fn a_turn_without_memory_is_tried_again(rt: HostRuntime) -> Result<(), Fail> {
-    let alloc: Global = rt.alloc();
+/// A turn that wants memory makes no entry, and is made again.
+pub fn a_turn_without_memory_is_tried_again(alloc: Global) -> Result<bool, AllocError> {
     let machine = User::new(alloc, Setup::new(1, 8, 4))?;
     let mut teller = Refusing {
         teller: Alone { machine },
         refuses: true,
     };
-    let script = read(alloc, ONE_END).expect(&rt, "a script");
+    let Ok(script) = read(alloc, ONE_END) else {
+        return Ok(false);
+    };
     let mut worker = Worker::new(alloc, &script, 1)?;
-    assert!(rt; worker.turn(&script, &mut teller).is_err());
-    assert_eq!(rt; teller.teller.machine.history().len(), 0usize);
-    assert_eq!(rt; worker.turn(&script, &mut teller)?, Turn::Went);
-    assert_eq!(rt; worker.turn(&script, &mut teller)?, Turn::Ended);
-    assert_eq!(rt; teller.teller.machine.history().len(), 1usize);
-    Ok(())
+    let refused = worker.turn(&script, &mut teller).is_err();
+    let before = teller.teller.machine.history().len();
+    let first = worker.turn(&script, &mut teller)?;
+    let second = worker.turn(&script, &mut teller)?;
+    let after = teller.teller.machine.history().len();
+    Ok(refused && before == 0 && first == Turn::Went && second == Turn::Ended && after == 1)
 }
 
-#[test]
-fn other_words(rt: HostRuntime) -> Result<(), Fail> {
-    let alloc: Global = rt.alloc();
+/// Words that ask for nothing.
+pub fn other_words(alloc: Global) -> Result<bool, AllocError> {
     let cases: [&[&str]; 12] = [
         &[],
         &["run", "x"],
@@ -173,16 +176,15 @@ fn other_words(rt: HostRuntime) -> Result<(), Fail> {
     ];
     for words in cases {
         let (status, sink) = call(alloc, words, ONE_END, 7, Vec::new(alloc), 10000)?;
-        assert_eq!(rt; sink.bytes().len(), 0usize);
-        assert_eq!(rt; status, Status::Words);
-        assert_eq!(rt; status.number(), 2u8);
+        if !sink.bytes().is_empty() || status != Status::Words || status.number() != 2 {
+            return Ok(false);
+        }
     }
-    Ok(())
+    Ok(true)
 }
 
-#[test]
-fn made_scripts(rt: HostRuntime) -> Result<(), Fail> {
-    let alloc: Global = rt.alloc();
+/// What is written of runs that are made.
+pub fn made_scripts(alloc: Global) -> Result<bool, AllocError> {
     let cases: [(&str, u32, &[u8], Status); 4] = [
         ("1000", 1000, THOUSAND, Status::Done),
         ("1000", 0, b"", Status::WriteFault),
@@ -199,29 +201,28 @@ fn made_scripts(rt: HostRuntime) -> Result<(), Fail> {
         let mut fail = Vec::new(alloc);
         fail.push(0)?;
         let (told, sink) = call(alloc, &["make", number], ONE_END, 10, fail, room)?;
-        assert_eq!(rt; sink.bytes(), written);
-        assert_eq!(rt; told, status);
+        if sink.bytes() != written || told != status {
+            return Ok(false);
+        }
     }
-    Ok(())
+    Ok(true)
 }
 
-#[test]
-fn failing_reads(rt: HostRuntime) -> Result<(), Fail> {
-    let alloc: Global = rt.alloc();
+/// A source that fails at its first, second or third call.
+pub fn failing_reads(alloc: Global) -> Result<bool, AllocError> {
     for at in 0..3u64 {
         let mut fail = Vec::new(alloc);
         fail.push(at)?;
         let (status, sink) = call(alloc, &["run"], ONE_END, 10, fail, 10000)?;
-        assert_eq!(rt; sink.bytes(), b"".as_slice());
-        assert_eq!(rt; status, Status::ReadFault);
-        assert_eq!(rt; status.number(), 7u8);
+        if !sink.bytes().is_empty() || status != Status::ReadFault || status.number() != 7 {
+            return Ok(false);
+        }
     }
-    Ok(())
+    Ok(true)
 }
 
-#[test]
-fn failing_writes(rt: HostRuntime) -> Result<(), Fail> {
-    let alloc: Global = rt.alloc();
+/// A sink that fails once it is full.
+pub fn failing_writes(alloc: Global) -> Result<bool, AllocError> {
     let cases: [(&[u8], u32, &[u8]); 5] = [
         (ONE_END, 0, b""),
         (ONE_END, 1, b"l"),
@@ -231,9 +232,9 @@ fn failing_writes(rt: HostRuntime) -> Result<(), Fail> {
     ];
     for (script, room, written) in cases {
         let (status, sink) = call(alloc, &["run"], script, 10, Vec::new(alloc), room)?;
-        assert_eq!(rt; sink.bytes(), written);
-        assert_eq!(rt; status, Status::WriteFault);
-        assert_eq!(rt; status.number(), 8u8);
+        if sink.bytes() != written || status != Status::WriteFault || status.number() != 8 {
+            return Ok(false);
+        }
     }
-    Ok(())
+    Ok(true)
 }

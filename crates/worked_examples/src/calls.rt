@@ -1,8 +1,9 @@
+//! Calls on windows, classes and posts, with the answers that they must have.
+
 ghost use Rattle.std.specs.Prelude.{◌<◌, ◌≤◌};
 
-use super::*;
 use std::alloc::{AllocError, Global};
-use std::test::Fail;
+use user_core::User;
 use user_model::{Answer, Call, Entry, Machine, Origin, Setup};
 use win_num::{Code, Hwnd, Msg, Point, Thread, names};
 
@@ -117,8 +118,8 @@ pub fn replayed(alloc: Global, threads: u8, entries: &[Made]) -> Result<usize, A
     replay(&mut user, entries)
 }
 
-#[test]
-fn posts_leave_in_order(rt: HostRuntime) -> Result<(), Fail> {
+/// Posts of two threads to a third leave in posted order, within a filter too.
+pub fn posts_leave_in_order(alloc: Global) -> Result<bool, AllocError> {
     static ENTRIES: [Made; 15] = [
         (1, Call::PostThread(3, 1024, 1, 0), Answer::Posted(1)),
         (2, Call::PostThread(3, 1024, 3, 0), Answer::Posted(2)),
@@ -144,21 +145,18 @@ fn posts_leave_in_order(rt: HostRuntime) -> Result<(), Fail> {
         (0, Call::Advance, Answer::Stuck),
         (3, Call::EndThread, Answer::Ended),
     ];
-    let alloc: Global = rt.alloc();
     let mut user = User::new(alloc, Setup::new(3, 8, 4))?;
-    assert_eq!(rt; replay(&mut user, &ENTRIES)?, ENTRIES.len());
-    assert_eq!(rt; user.history().len(), 15usize);
+    let same = replay(&mut user, &ENTRIES)? == ENTRIES.len();
     let last = Entry {
         who: Thread(3),
         call: Call::EndThread,
         answer: Answer::Ended,
     };
-    assert_eq!(rt; user.history()[14], last);
-    Ok(())
+    Ok(same && user.history().len() == 15 && user.history().last() == Some(&last))
 }
 
-#[test]
-fn each_cause_refuses(rt: HostRuntime) -> Result<(), Fail> {
+/// Each cause of a refusal of a post, and of the calls that an actor may not make.
+pub fn each_cause_refuses(alloc: Global) -> Result<bool, AllocError> {
     static ENTRIES: [Made; 12] = [
         (1, Call::PostThread(1, 65536, 0, 0), refused!(87)),
         (1, Call::PostThread(9, 65536, 0, 0), refused!(87)),
@@ -173,14 +171,12 @@ fn each_cause_refuses(rt: HostRuntime) -> Result<(), Fail> {
         (1, Call::PostThread(2, 1024, 0, 0), refused!(1444)),
         (1, Call::PostThread(1, 1024, 0, 0), Answer::Posted(1)),
     ];
-    let alloc: Global = rt.alloc();
     let mut user = User::new(alloc, Setup::new(2, 8, 4))?;
-    assert_eq!(rt; replay(&mut user, &ENTRIES)?, ENTRIES.len());
-    Ok(())
+    Ok(replay(&mut user, &ENTRIES)? == ENTRIES.len())
 }
 
-#[test]
-fn a_full_queue_refuses(rt: HostRuntime) -> Result<(), Fail> {
+/// A queue holds 10,000 posts.
+pub fn a_full_queue_refuses(alloc: Global) -> Result<bool, AllocError> {
     static ENTRIES: [Made; 3] = [
         (
             1,
@@ -190,34 +186,28 @@ fn a_full_queue_refuses(rt: HostRuntime) -> Result<(), Fail> {
         (1, Call::Get(0, 0, 0), got!(1, 0, 1025, 0)),
         (1, Call::PostThread(1, 1025, 0, 0), Answer::Posted(10001)),
     ];
-    let alloc: Global = rt.alloc();
     let mut user = User::new(alloc, Setup::new(1, 8, 4))?;
     let post = Call::PostThread(1, 1025, 0, 0);
     for number in 1..=10000u32 {
-        let answer = user.step(Thread(1), post)?;
-        assert_eq!(rt; answer, Answer::Posted(number));
+        if user.step(Thread(1), post)? != Answer::Posted(number) {
+            return Ok(false);
+        }
     }
-    assert_eq!(rt; replay(&mut user, &ENTRIES)?, ENTRIES.len());
-    Ok(())
+    Ok(replay(&mut user, &ENTRIES)? == ENTRIES.len())
 }
 
-#[test]
-fn who_has_no_call_to_make(rt: HostRuntime) -> Result<(), Fail> {
-    let alloc: Global = rt.alloc();
+/// Who has no call to make: the clock while a thread runs, a thread that waits.
+pub fn who_has_no_call_to_make(alloc: Global) -> Result<bool, AllocError> {
     let mut user = User::new(alloc, Setup::new(1, 8, 4))?;
-    assert!(&rt; user.barred(Thread(0)));
-    assert!(&rt; !user.barred(Thread(1)));
-    assert!(&rt; !user.barred(Thread(2)));
+    let at_first = user.barred(Thread(0)) && !user.barred(Thread(1)) && !user.barred(Thread(2));
     user.step(Thread(1), Call::Get(0, 0, 0))?;
-    assert!(&rt; user.barred(Thread(1)));
-    assert!(&rt; !user.barred(Thread(0)));
+    let waiting = user.barred(Thread(1)) && !user.barred(Thread(0));
     user.step(Thread(0), Call::Advance)?;
-    assert!(&rt; user.barred(Thread(0)));
-    Ok(())
+    Ok(at_first && waiting && user.barred(Thread(0)))
 }
 
-#[test]
-fn posts_pass_filters_and_quit_comes_last(rt: HostRuntime) -> Result<(), Fail> {
+/// Posts pass filters, and quit comes where none is left.
+pub fn posts_pass_filters_and_quit_comes_last(alloc: Global) -> Result<bool, AllocError> {
     static ENTRIES: [Made; 21] = [
         (1, post!(0, 1280), Answer::Posted(1)),
         (1, post!(0, 1025), Answer::Posted(2)),
@@ -241,12 +231,11 @@ fn posts_pass_filters_and_quit_comes_last(rt: HostRuntime) -> Result<(), Fail> {
         (1, Call::Peek(99, 0, 0, 4), refused!(87)),
         (1, Call::Peek(99, 0, 0, 3), refused!(1400)),
     ];
-    assert_eq!(rt; replayed(rt.alloc(), 1, &ENTRIES)?, ENTRIES.len());
-    Ok(())
+    Ok(replayed(alloc, 1, &ENTRIES)? == ENTRIES.len())
 }
 
-#[test]
-fn a_filter_takes_a_window_with_its_children(rt: HostRuntime) -> Result<(), Fail> {
+/// A filter for a window takes its children along, and not what it owns.
+pub fn a_filter_takes_a_window_with_its_children(alloc: Global) -> Result<bool, AllocError> {
     static ENTRIES: [Made; 14] = [
         (1, make!(names::WS_CHILD, 16), window!(18)),
         (1, make!(0, 16), window!(19)),
@@ -263,12 +252,11 @@ fn a_filter_takes_a_window_with_its_children(rt: HostRuntime) -> Result<(), Fail
         (1, Call::Get(names::NO_WINDOW, 0, 0), Answer::Wait),
         (1, Call::Get(19, 0, 0), got!(1, 19, 1024, 0)),
     ];
-    assert_eq!(rt; replayed(rt.alloc(), 2, &ENTRIES)?, ENTRIES.len());
-    Ok(())
+    Ok(replayed(alloc, 2, &ENTRIES)? == ENTRIES.len())
 }
 
-#[test]
-fn a_window_is_destroyed_with_its_posts(rt: HostRuntime) -> Result<(), Fail> {
+/// A destroyed window takes its posts along.
+pub fn a_window_is_destroyed_with_its_posts(alloc: Global) -> Result<bool, AllocError> {
     static ENTRIES: [Made; 23] = [
         (1, post!(17, 1025), Answer::Posted(1)),
         (1, post!(17, 1026), Answer::Posted(2)),
@@ -294,12 +282,11 @@ fn a_window_is_destroyed_with_its_posts(rt: HostRuntime) -> Result<(), Fail> {
         (2, Call::IsWindow(17), Answer::Value(0)),
         (2, make!(0, 0), window!(18)),
     ];
-    assert_eq!(rt; replayed(rt.alloc(), 2, &ENTRIES)?, ENTRIES.len());
-    Ok(())
+    Ok(replayed(alloc, 2, &ENTRIES)? == ENTRIES.len())
 }
 
-#[test]
-fn a_family_is_destroyed_in_order(rt: HostRuntime) -> Result<(), Fail> {
+/// Owned windows go before their owner; parents are told before and end after their children.
+pub fn a_family_is_destroyed_in_order(alloc: Global) -> Result<bool, AllocError> {
     static ENTRIES: [Made; 33] = [
         (1, make!(names::WS_CHILD, 16), window!(17)),
         (1, make!(names::WS_CHILD, 17), window!(18)),
@@ -335,12 +322,11 @@ fn a_family_is_destroyed_in_order(rt: HostRuntime) -> Result<(), Fail> {
         (1, Call::Get(0, 0, 0), got!(3, 20, 1027, 0)),
         (1, Call::Get(0, 0, 0), Answer::Wait),
     ];
-    assert_eq!(rt; replayed(rt.alloc(), 1, &ENTRIES)?, ENTRIES.len());
-    Ok(())
+    Ok(replayed(alloc, 1, &ENTRIES)? == ENTRIES.len())
 }
 
-#[test]
-fn windows_are_refused_in_order(rt: HostRuntime) -> Result<(), Fail> {
+/// Refusals of the calls on windows, in their order.
+pub fn windows_are_refused_in_order(alloc: Global) -> Result<bool, AllocError> {
     static ENTRIES: [Made; 22] = [
         (1, make!(names::WS_VISIBLE, 0), refused!(87)),
         (
@@ -407,12 +393,11 @@ fn windows_are_refused_in_order(rt: HostRuntime) -> Result<(), Fail> {
         (2, Call::IsWindow(4294967312), Answer::Value(0)),
         (2, Call::Yield, Answer::Okay),
     ];
-    assert_eq!(rt; replayed(rt.alloc(), 2, &ENTRIES)?, ENTRIES.len());
-    Ok(())
+    Ok(replayed(alloc, 2, &ENTRIES)? == ENTRIES.len())
 }
 
-#[test]
-fn classes_and_messages(rt: HostRuntime) -> Result<(), Fail> {
+/// Classes and registered messages.
+pub fn classes_and_messages(alloc: Global) -> Result<bool, AllocError> {
     static ENTRIES: [Made; 11] = [
         (1, Call::Register(1, 0, 16), refused!(87)),
         (1, Call::Register(1, 0, 15), refused!(1410)),
@@ -426,12 +411,11 @@ fn classes_and_messages(rt: HostRuntime) -> Result<(), Fail> {
         (1, Call::Message(6), Answer::Value(49153)),
         (1, Call::Message(5), Answer::Value(49152)),
     ];
-    assert_eq!(rt; replayed(rt.alloc(), 1, &ENTRIES)?, ENTRIES.len());
-    Ok(())
+    Ok(replayed(alloc, 1, &ENTRIES)? == ENTRIES.len())
 }
 
-#[test]
-fn the_end_of_a_thread_takes_its_windows(rt: HostRuntime) -> Result<(), Fail> {
+/// The end of a thread takes its windows along.
+pub fn the_end_of_a_thread_takes_its_windows(alloc: Global) -> Result<bool, AllocError> {
     static ENTRIES: [Made; 12] = [
         (2, make!(names::WS_CHILD, 17), window!(18)),
         (1, post!(18, 1025), Answer::Posted(1)),
@@ -446,20 +430,20 @@ fn the_end_of_a_thread_takes_its_windows(rt: HostRuntime) -> Result<(), Fail> {
         (1, Call::Get(0, 0, 0), got!(2, 16, 1026, 0)),
         (1, make!(0, 0), window!(19)),
     ];
-    assert_eq!(rt; replayed(rt.alloc(), 2, &ENTRIES)?, ENTRIES.len());
-    Ok(())
+    Ok(replayed(alloc, 2, &ENTRIES)? == ENTRIES.len())
 }
 
-#[test]
-fn a_thousand_windows(rt: HostRuntime) -> Result<(), Fail> {
-    let mut user = with_windows(rt.alloc(), 1)?;
+/// A machine has room for 1,024 windows, and numbers are never used again.
+pub fn a_thousand_windows(alloc: Global) -> Result<bool, AllocError> {
+    let mut user = with_windows(alloc, 1)?;
     for number in 17..1040u32 {
-        assert_eq!(rt; user.step(Thread(1), make!(0, 0))?, window!(number));
+        if user.step(Thread(1), make!(0, 0))? != window!(number) {
+            return Ok(false);
+        }
     }
-    assert_eq!(rt;
-        user.step(Thread(1), make!(0, 0))?,
-        Answer::Refused(Code::Full)
-    );
+    if user.step(Thread(1), make!(0, 0))? != Answer::Refused(Code::Full) {
+        return Ok(false);
+    }
     for number in 16..1040u32 {
         let w = u64::from(number);
         let entries = [
@@ -468,8 +452,9 @@ fn a_thousand_windows(rt: HostRuntime) -> Result<(), Fail> {
             (1, Call::Unmake(w), last!(number)),
             (1, Call::Drop(w), Answer::Okay),
         ];
-        assert_eq!(rt; replay(&mut user, &entries)?, entries.len());
+        if replay(&mut user, &entries)? != entries.len() {
+            return Ok(false);
+        }
     }
-    assert_eq!(rt; user.step(Thread(1), make!(0, 0))?, window!(1040));
-    Ok(())
+    Ok(user.step(Thread(1), make!(0, 0))? == window!(1040))
 }
