@@ -8,6 +8,7 @@ mod refusing;
 mod sends;
 mod state;
 mod stories;
+mod texts;
 
 use std::alloc::Global;
 use std::io::Print;
@@ -208,12 +209,29 @@ fn program_examples<R: Print>(rt: &R, alloc: Global) -> anyhow::Result<()> {
     Ok(())
 }
 
+/// Texts of scripts.
+fn texts_examples<R: Print>(rt: &R, alloc: Global) -> anyhow::Result<()> {
+    tell(rt, "parts of a script", texts::parts_of_a_script(alloc)?)?;
+    tell(rt, "heads of texts", texts::heads_of_texts(alloc)?)?;
+    tell(rt, "lines of a thread", texts::lines_of_a_thread(alloc)?)?;
+    tell(
+        rt,
+        "procedures of texts",
+        texts::procedures_of_texts(alloc)?,
+    )?;
+    tell(rt, "longest texts", texts::longest_texts(alloc)?)?;
+    tell(rt, "threads of texts", texts::threads_of_texts(alloc)?)?;
+    tell(rt, "blocks of texts", texts::blocks_of_texts(alloc)?)?;
+    Ok(())
+}
+
 fn main(rt: HostRuntime) -> anyhow::Result<()> {
     let alloc = rt.alloc();
     calls_examples(&rt, alloc)?;
     sends_examples(&rt, alloc)?;
     stories_examples(&rt, alloc)?;
     state_examples(&rt, alloc)?;
+    texts_examples(&rt, alloc)?;
     program_examples(&rt, alloc)?;
     Ok(())
 }

@@ -1,64 +1,80 @@
-//! Each public call with ample memory: what is read is written again, and what isn't a script is refused.
+//! Texts that are scripts and texts that are none. What is read is written again as the same text.
 
-use super::*;
-use std::alloc::Global;
-use std::test::Fail;
+use script_text::{ReadFault, SCRIPT_LIMIT, Script, read, write};
+use std::alloc::{AllocError, Global};
 
+/// Every statement, every kind of operand and name.
 const WHOLE: &[u8] =
     b"user 1\nscreen 8 4\nbudget 5\norder 1 2 15\nproc pa\nif msg = WM_USER\nreturn 30\nend\ndefault\nend\nproc pb\nregister ca pa 3\nsend_callback r WM_USER 1 2 pb -1\nend\nthread\nlet a 5\nlet b a + 18446744073709551615\nif a < -9223372036854775808\nwhile glp != WM_APP\npeek 0 WM_USER WM_USER PM_REMOVE\nend\nelse\nmessage tick_1\nget hwnd 0 0\nend\npost r err gwp lp\npost_thread 2 WM_QUIT wp msg\npost_quit gtime\nmessage x\nmessage tick_1\nyield\nend\nthread\ncreate ca tb 0 WS_CHILD 0 -5 0 20 lp\ndispatch\nsend r WM_USER 0 0\nsend_timeout 1 2 3 4 SMTO_BLOCK 6\nsend_notify r WM_CLOSE 0 0\nreply 7\nin_send\nis_window r\nparent hwnd\nnext_top 0\nclock\nsleep 100\ndestroy r\nunregister ca\nend\n";
 
 /// Whether a text is read; what was read must then be written as the same text.
-fn is_read(alloc: Global, text: &[u8]) -> Result<bool, Fail> {
+fn is_read(alloc: Global, text: &[u8]) -> Result<bool, AllocError> {
     match read(alloc, text) {
         Ok(script) => Ok(write(alloc, &script)?.as_slice() == text),
-        Err(ReadFault::Refused(refusal)) => {
-            if refusal.line != 0 || refusal.reason != Reason::Later {
-                return Err(Fail::from("another refusal"));
-            }
-            Ok(false)
-        }
-        Err(ReadFault::Memory) => Err(Fail::from("memory")),
+        Err(ReadFault::Refused(_)) => Ok(false),
+        Err(ReadFault::Memory) => Err(AllocError),
     }
 }
 
+/// Whether each text is read where it is to be.
+fn are_read(alloc: Global, cases: &[(&[u8], bool)]) -> Result<bool, AllocError> {
+    for (text, want) in cases {
+        if is_read(alloc, text)? != *want {
+            return Ok(false);
+        }
+    }
+    Ok(true)
+}
+
 /// A text of one thread with these lines.
-fn one_thread(alloc: Global, lines: &[u8]) -> Result<Vec<u8>, Fail> {
+fn one_thread(alloc: Global, lines: &[u8]) -> Result<Vec<u8>, AllocError> {
     let mut text = Vec::from_slice(alloc, b"user 1\nscreen 8 4\nbudget 9\norder\nthread\n")?;
     text.extend_from_slice(lines)?;
     text.extend_from_slice(b"end\n")?;
     Ok(text)
 }
 
-#[test]
-fn parts(rt: HostRuntime) -> Result<(), Fail> {
-    let script = read(rt.alloc(), WHOLE)?;
-    assert_eq!(rt;
-        (script.width(), script.height(), script.budget()),
-        (8, 4, 5)
-    );
-    assert_eq!(rt; script.order(), [1, 2, 15].as_slice());
-    assert_eq!(rt; script.names().len(), 4);
-    assert_eq!(rt; script.names()[0].text(), b"ca".as_slice());
-    assert_eq!(rt; script.names()[1].text(), b"tick_1".as_slice());
-    assert_eq!(rt; script.names()[2].text(), b"x".as_slice());
-    assert_eq!(rt; script.procedures().len(), 2);
-    assert_eq!(rt; script.procedures()[1].name().text(), b"pb".as_slice());
-    assert_eq!(rt; script.procedures()[1].body().statements().len(), 2);
-    assert_eq!(rt; script.threads().len(), 2);
-    assert_eq!(rt; script.threads()[0].statements().len(), 9);
-    assert_eq!(rt; script.threads()[1].statements().len(), 14);
-    Ok(())
+/// The parts of a script are those of its text.
+pub fn parts_of_a_script(alloc: Global) -> Result<bool, AllocError> {
+    let Ok(script) = read(alloc, WHOLE) else {
+        return Ok(false);
+    };
+    Ok(has_head(&script) && has_names(&script) && has_bodies(&script))
 }
 
-#[test]
-fn heads(rt: HostRuntime) -> Result<(), Fail> {
-    let alloc = rt.alloc();
-    assert!(rt; is_read(alloc, WHOLE)?);
-    for (text, want) in [
-        (
-            b"user 1\nscreen 1 1\nbudget 1\norder\nthread\nend\n".as_slice(),
-            true,
-        ),
+/// Whether it has the screen, the budget and the order list of that text.
+fn has_head(script: &Script) -> bool {
+    (script.width(), script.height(), script.budget()) == (8, 4, 5)
+        && script.order() == [1, 2, 15].as_slice()
+}
+
+/// Whether it has the names of that text.
+fn has_names(script: &Script) -> bool {
+    match (script.names(), script.procedures()) {
+        ([first, second, third, _], [_, last]) => {
+            first.text() == b"ca".as_slice()
+                && second.text() == b"tick_1".as_slice()
+                && third.text() == b"x".as_slice()
+                && last.name().text() == b"pb".as_slice()
+                && last.body().statements().len() == 2
+        }
+        _ => false,
+    }
+}
+
+/// Whether it has the threads of that text.
+fn has_bodies(script: &Script) -> bool {
+    match script.threads() {
+        [first, second] => first.statements().len() == 9 && second.statements().len() == 14,
+        _ => false,
+    }
+}
+
+/// First lines of texts.
+pub fn heads_of_texts(alloc: Global) -> Result<bool, AllocError> {
+    let cases: [(&[u8], bool); 21] = [
+        (WHOLE, true),
+        (b"user 1\nscreen 1 1\nbudget 1\norder\nthread\nend\n", true),
         (
             b"user 1\nscreen 128 64\nbudget 65536\norder 1\nthread\nend\n",
             true,
@@ -108,17 +124,14 @@ fn heads(rt: HostRuntime) -> Result<(), Fail> {
         (b"user 2\nscreen 1 1\nbudget 3\norder\nthread\nend\n", false),
         (b"user 1\n", false),
         (b"", false),
-    ] {
-        assert_eq!(rt; is_read(alloc, text)?, want);
-    }
-    Ok(())
+    ];
+    are_read(alloc, &cases)
 }
 
-#[test]
-fn bodies(rt: HostRuntime) -> Result<(), Fail> {
-    let alloc = rt.alloc();
-    for (lines, want) in [
-        (b"let a 0\n".as_slice(), true),
+/// Lines of a thread.
+pub fn lines_of_a_thread(alloc: Global) -> Result<bool, AllocError> {
+    let cases: [(&[u8], bool); 48] = [
+        (b"let a 0\n", true),
         (b"let h 18446744073709551615\n", true),
         (b"let h 18446744073709551616\n", false),
         (b"let a 00\n", false),
@@ -166,18 +179,20 @@ fn bodies(rt: HostRuntime) -> Result<(), Fail> {
         (b"else\n", false),
         (b"if a = b\n", false),
         (b"end\n", false),
-    ] {
+    ];
+    for (lines, want) in cases {
         let text = one_thread(alloc, lines)?;
-        assert_eq!(rt; is_read(alloc, &text)?, want);
+        if is_read(alloc, &text)? != want {
+            return Ok(false);
+        }
     }
-    Ok(())
+    Ok(true)
 }
 
-#[test]
-fn procedures(rt: HostRuntime) -> Result<(), Fail> {
-    let alloc = rt.alloc();
-    for (lines, want) in [
-        (b"proc p\nend\nthread\nend\n".as_slice(), true),
+/// Procedures, and the calls that name them.
+pub fn procedures_of_texts(alloc: Global) -> Result<bool, AllocError> {
+    let cases: [(&[u8], bool); 16] = [
+        (b"proc p\nend\nthread\nend\n", true),
         (b"proc p\nend\nproc q\nend\nthread\nend\n", true),
         (b"proc p\nend\nproc p\nend\nthread\nend\n", false),
         (b"thread\nend\nproc p\nend\n", false),
@@ -199,21 +214,24 @@ fn procedures(rt: HostRuntime) -> Result<(), Fail> {
             b"proc p\nregister c q 0\nend\nproc q\nend\nthread\nend\n",
             false,
         ),
-    ] {
+    ];
+    for (lines, want) in cases {
         let mut text = Vec::from_slice(alloc, b"user 1\nscreen 8 4\nbudget 9\norder\n")?;
         text.extend_from_slice(lines)?;
-        assert_eq!(rt; is_read(alloc, &text)?, want);
+        if is_read(alloc, &text)? != want {
+            return Ok(false);
+        }
     }
-    Ok(())
+    Ok(true)
 }
 
-#[test]
-fn limits_of_the_text(rt: HostRuntime) -> Result<(), Fail> {
-    let alloc = rt.alloc();
-    for (last, len, want) in [
-        (b"post_quit 1\n".as_slice(), SCRIPT_LIMIT, true),
+/// The longest text, and one of one byte more.
+pub fn longest_texts(alloc: Global) -> Result<bool, AllocError> {
+    let cases: [(&[u8], usize, bool); 2] = [
+        (b"post_quit 1\n", SCRIPT_LIMIT, true),
         (b"post_quit 11\n", SCRIPT_LIMIT + 1, false),
-    ] {
+    ];
+    for (last, len, want) in cases {
         let mut text = Vec::from_slice(
             alloc,
             b"user 1\nscreen 8 4\nbudget 1\norder 1 1\nthread\n",
@@ -223,22 +241,29 @@ fn limits_of_the_text(rt: HostRuntime) -> Result<(), Fail> {
         }
         text.extend_from_slice(last)?;
         text.extend_from_slice(b"yield\nend\n")?;
-        assert_eq!(rt; text.len(), len);
-        assert_eq!(rt; is_read(alloc, &text)?, want);
+        if text.len() != len || is_read(alloc, &text)? != want {
+            return Ok(false);
+        }
     }
+    Ok(true)
+}
+
+/// A text has 1 to 15 threads.
+pub fn threads_of_texts(alloc: Global) -> Result<bool, AllocError> {
     for (threads, want) in [(0, false), (15, true), (16, false)] {
         let mut text = Vec::from_slice(alloc, b"user 1\nscreen 8 4\nbudget 1\norder\n")?;
         for _ in 0..threads {
             text.extend_from_slice(b"thread\nend\n")?;
         }
-        assert_eq!(rt; is_read(alloc, &text)?, want);
+        if is_read(alloc, &text)? != want {
+            return Ok(false);
+        }
     }
-    Ok(())
+    Ok(true)
 }
 
-#[test]
-fn depth(rt: HostRuntime) -> Result<(), Fail> {
-    let alloc = rt.alloc();
+/// At most 32 blocks are open.
+pub fn blocks_of_texts(alloc: Global) -> Result<bool, AllocError> {
     for (blocks, want) in [(32, true), (33, false)] {
         let mut lines = Vec::new(alloc);
         for _ in 0..blocks {
@@ -248,7 +273,9 @@ fn depth(rt: HostRuntime) -> Result<(), Fail> {
             lines.extend_from_slice(b"end\n")?;
         }
         let text = one_thread(alloc, &lines)?;
-        assert_eq!(rt; is_read(alloc, &text)?, want);
+        if is_read(alloc, &text)? != want {
+            return Ok(false);
+        }
     }
-    Ok(())
+    Ok(true)
 }
