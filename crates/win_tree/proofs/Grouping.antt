@@ -1,10 +1,9 @@
 -- Grouping windows by what they stand under, one after another.
-use Rattle.std.proofs.Common.{◌≡◌, ◌∙◌, inl, inr, ℕ, ◌+◌, ◌<◌, ◌≤◌, suc, zero, List, [], ◌∷◌, ◌++◌, length, get_or, set, take, cond, map, filter, find, Bool, true, false, eqb, Option, Some, None, append-nil, refl, sym, ap, subst, arith}
+use Rattle.std.proofs.Common.{◌≡◌, ◌∙◌, inl, inr, ℕ, ◌+◌, ◌<◌, ◌≤◌, suc, zero, List, [], ◌∷◌, ◌++◌, length, get_or, set, take, cond, filter, find, Bool, true, false, eqb, Some, None, append-nil, refl, sym, ap, subst, arith}
 use Rattle.std.specs.List.{AllByRecursion}
 use Rattle.std.proofs.lemmas.Bool.{cases_Bool, eqb-true, eq-eqb, ne_eqb}
 use Rattle.std.proofs.lemmas.List.{take_more}
 use Rattle.std.proofs.lemmas.List.Elements.{filter-append}
-use Rattle.win_num.specs.declared.message.Hwnd.{Hwnd}
 use Rattle.win_tree.specs.declared.links.Link.{Link}
 use Rattle.win_tree.specs.declared.links.Group.{Group}
 use Rattle.win_tree.specs.declared.window.Window.{Window}

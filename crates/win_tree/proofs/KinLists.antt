@@ -1,16 +1,16 @@
 -- The kin of a window, found in one pass by rising number.
-use Rattle.std.proofs.Common.{◌≡◌, ◌∙◌, inl, inr, ℕ, ◌+◌, ◌<◌, ◌≤◌, suc, zero, List, [], ◌∷◌, ◌++◌, length, get_or, take, cond, map, filter, find, Bool, true, false, not, ◌&&◌, ◌||◌, eqb, Option, Some, None, append-nil, refl, sym, ap, subst, arith}
+use Rattle.std.proofs.Common.{◌≡◌, ◌∙◌, inl, inr, ℕ, ◌+◌, ◌<◌, ◌≤◌, suc, zero, List, [], ◌∷◌, ◌++◌, length, get_or, take, cond, map, filter, find, Bool, true, false, ◌&&◌, ◌||◌, eqb, Option, Some, None, append-nil, refl, sym, ap, subst, arith}
 use Rattle.std.specs.List.{list_any, AllByRecursion}
 use Rattle.std.specs.List.Sorted.{IsNonDecreasingBy}
 use Rattle.std.proofs.lemmas.Bool.{cases_Bool, eqb-true, eq-eqb, ne_eqb, or_parts}
-use Rattle.std.proofs.lemmas.List.{take_more, take_all, map-append}
+use Rattle.std.proofs.lemmas.List.{take_more, map-append}
 use Rattle.std.proofs.lemmas.List.Elements.{filter-append}
 use Rattle.std.proofs.lemmas.Map.Views.{any-filter_same}
 use Rattle.win_num.specs.declared.message.Hwnd.{Hwnd}
 use Rattle.win_tree.specs.declared.window.Window.{Window}
 use Rattle.win_tree.specs.Windows.{IsOrdered, number_of, window_of, up, marked_also}
 use Rattle.win_tree.specs.Kin.{above, kin_within, is_kin, kin_of, is_more, with_marked, doomed, doomed_if}
-use Rattle.win_tree.proofs.Alls.{all_so, all_map}
+use Rattle.win_tree.proofs.Alls.{all_so}
 use Rattle.win_tree.proofs.Alone.{self_kin}
 use Rattle.win_tree.proofs.Drops.{map-filter, some_rise, or-true, true-or}
 use Rattle.win_tree.proofs.Indexed.{found_at}
@@ -55,7 +55,7 @@ kin_step last ws w (suc n) h some other =
 dead_kin : (last : ℕ) (ws : List Window) (w u : ℕ) → IsOrdered 15 last ws → window_of ws u ≡ None → eqb u w ≡ false → is_kin ws w u ≡ false
 dead_kin last ws w zero h gone other = refl
 dead_kin last ws w (suc n) h gone other =
-    let top : (above ws (suc n)).0 ≡ 0 = ap (λ (o : Option Window). let r : ℕ = elim o [ Some x ↦ (up x).0 | None ↦ 0 ] in r) gone in
+    let top : (above ws (suc n)).0 ≡ 0 = ap (λ (v : Hwnd). v.0) (ap (λ (o : Option Window). let r : Hwnd = elim o [ Some x ↦ up x | None ↦ record { 0 = 0 } ] in r) gone) in
     kin_step last ws w (suc n) h (ne_eqb (suc n) 0 (λ e. omega (arith, e))) other ∙ ap (is_kin ws w) top
 
 -- which numbers are among the kin
@@ -96,7 +96,7 @@ module _ (last : ℕ) (ws : List Window) (w i : ℕ) (x : Window) (h : IsOrdered
   kin_up : eqb x.number.0 w ≡ false → is_kin ws w x.number.0 ≡ is_kin ws w (up x).0
   kin_up other = kin_step last ws w x.number.0 h (ne_eqb x.number.0 0 (λ e. omega (arith, e, older))) other ∙ ap (λ (v : Hwnd). is_kin ws w v.0) above_is
 
-  before : Bool
+  abbrev before : Bool
   before = list_any (λ (v : Hwnd). eqb v.0 (up x).0) (map number_of (take i ws))
 
   up_listed : eqb (up x).0 w ≡ false → (is_kin ws w (up x).0 && before) ≡ is_kin ws w (up x).0
@@ -181,19 +181,3 @@ kin_marked ws w kin so =
     ∙ map_alike (λ x. marked_also (list_any (λ (v : Hwnd). eqb v.0 x.number.0) (kin_of ws ws w)) x) (doomed_if ws w) ws
     (all_so (λ x. list_any (λ (v : Hwnd). eqb v.0 x.number.0) (kin_of ws ws w) ≡ is_kin ws w x.number.0) (λ x. marked_also (list_any (λ (v : Hwnd). eqb v.0 x.number.0) (kin_of ws ws w)) x ≡ doomed_if ws w x)
     (λ x h. ap (λ (b : Bool). marked_also b x) h) ws (in_kin ws w))
-
-filter_alike_all : (p q : Hwnd → Bool) (vs : List Hwnd) → AllByRecursion (λ v. p v ≡ q v) vs → filter p vs ≡ filter q vs
-filter_alike_all p q [] h = refl
-filter_alike_all p q (v ∷ vs) h = ap (λ b. cond b (v ∷ filter p vs) (filter p vs)) h.0 ∙ ap (λ (us : List Hwnd). cond (q v) (v ∷ us) us) (filter_alike_all p q vs h.1)
-
--- the numbers that are left without those of the kin
-pub kin_left : (ws : List Window) (w : ℕ) (kin : List Hwnd) → kin ≡ kin_of ws ws w → filter (λ v. not (list_any (λ (k : Hwnd). eqb k.0 v.0) kin)) (map number_of ws) ≡ filter (λ v. not (is_kin ws w v.0)) (map number_of ws)
-kin_left ws w kin so =
-    ap (λ (ks : List Hwnd). filter (λ (v : Hwnd). not (list_any (λ (k : Hwnd). eqb k.0 v.0) ks)) (map number_of ws)) so
-    ∙ filter_alike_all (λ v. not (list_any (λ (k : Hwnd). eqb k.0 v.0) (kin_of ws ws w))) (λ v. not (is_kin ws w v.0)) (map number_of ws)
-    (all_map (λ x. list_any (λ (v : Hwnd). eqb v.0 x.number.0) (kin_of ws ws w) ≡ is_kin ws w x.number.0) (λ v. not (list_any (λ (k : Hwnd). eqb k.0 v.0) (kin_of ws ws w)) ≡ not (is_kin ws w v.0)) number_of
-    (λ x h. ap not h) ws (in_kin ws w))
-
-pub without_kin : (ws : List Window) (w : ℕ) (kin numbers : List Hwnd) → numbers ≡ map number_of ws → kin ≡ kin_of ws ws w → filter (λ v. not (list_any (λ (k : Hwnd). eqb k.0 v.0) kin)) numbers ≡ filter (λ v. not (is_kin ws w v.0)) numbers
-without_kin ws w kin numbers same so =
-    ap (filter (λ (v : Hwnd). not (list_any (λ (k : Hwnd). eqb k.0 v.0) kin))) same ∙ kin_left ws w kin so ∙ ap (filter (λ (v : Hwnd). not (is_kin ws w v.0))) (sym same)

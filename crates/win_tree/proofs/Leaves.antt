@@ -1,8 +1,7 @@
 -- The steps of a destruction once a window that nothing stands under has gone.
-use Rattle.std.proofs.Common.{◌≡◌, ◌∙◌, inl, inr, ℕ, ◌+◌, ◌-◌, ◌<◌, ◌≤◌, suc, zero, min, List, [], ◌∷◌, ◌++◌, length, cond, map, filter, find, Bool, true, false, not, ◌&&◌, eqb, Option, Some, None, refl, sym, ap, subst, arith}
+use Rattle.std.proofs.Common.{◌≡◌, ◌∙◌, inl, inr, ℕ, ◌+◌, ◌-◌, ◌<◌, ◌≤◌, suc, zero, min, List, [], ◌∷◌, ◌++◌, length, cond, map, filter, find, Bool, true, false, not, eqb, Option, Some, None, refl, sym, ap, arith}
 use Rattle.std.specs.List.{flat_map, AllByRecursion}
 use Rattle.std.proofs.lemmas.Bool.{cases_Bool, eqb-true, eq-eqb, ne_eqb}
-use Rattle.std.proofs.lemmas.List.{map-append}
 use Rattle.std.proofs.lemmas.List.Elements.{filter-append}
 use Rattle.win_num.specs.declared.message.Hwnd.{Hwnd}
 use Rattle.win_tree.specs.declared.row.Unmade.{Unmade}
@@ -86,7 +85,7 @@ module _ (w : ℕ) (ws : List Window) (rooted : AllByRecursion IsYoungest ws) (a
       (all_so (λ c. IsYoungest c × ((n < c.number.0 → younger c.number.0 ws < younger n ws) × (stays c ≡ true → n < c.number.0 → younger c.number.0 rest < younger n rest))) (λ c. eqb (above c).0 n ≡ true → Fits x c)
       (λ c h e.
       let lt : n < c.number.0 = omega (arith, eqb-true (above c).0 n e, older c h.0) in
-      (h.1 lt, λ k. h.2 k lt)) ws
+      (h.1.0 lt, λ k. h.1.1 k lt)) ws
       (all_both IsYoungest (λ c. (n < c.number.0 → younger c.number.0 ws < younger n ws) × (stays c ≡ true → n < c.number.0 → younger c.number.0 rest < younger n rest)) ws rooted
       (all_both (λ c. n < c.number.0 → younger c.number.0 ws < younger n ws) (λ c. stays c ≡ true → n < c.number.0 → younger c.number.0 rest < younger n rest) ws (fewer n ws)
       (all_of_picked (λ c. n < c.number.0 → younger c.number.0 rest < younger n rest) stays ws (fewer n rest)))))

@@ -1,5 +1,5 @@
 -- Plans of windows that change, and what they answer.
-use Rattle.std.proofs.Common.{◌≡◌, ◌∙◌, inl, inr, ℕ, ◌+◌, ◌<◌, ◌≤◌, suc, zero, List, [], ◌∷◌, ◌++◌, length, get_or, set, cond, map, filter, find, Bool, true, false, not, ◌&&◌, ◌||◌, eqb, is_some, Option, Some, None, option_map, unwrap_or, refl, sym, ap, subst, arith}
+use Rattle.std.proofs.Common.{◌≡◌, ◌∙◌, inl, inr, ℕ, ◌<◌, suc, zero, List, [], ◌∷◌, ◌++◌, length, get_or, set, cond, map, filter, find, Bool, true, false, not, ◌&&◌, ◌||◌, eqb, is_some, Option, Some, None, option_map, unwrap_or, refl, sym, ap, subst, arith}
 use Rattle.std.specs.List.{flat_map, AllByRecursion}
 use Rattle.std.proofs.lemmas.Bool.{cases_Bool, eqb-true}
 use Rattle.std.proofs.lemmas.List.{map-append, length-map}
@@ -10,9 +10,9 @@ use Rattle.win_tree.specs.declared.row.Unmade.TheVariants.{Tell, Last, Gone, Not
 use Rattle.win_tree.specs.declared.plan.Plan.{Plan}
 use Rattle.win_tree.specs.declared.window.Window.{Window}
 use Rattle.win_tree.specs.Windows.{number_of, window_of, is_live, is_told, is_ended, up, told_if, ended_if, set_if, IsOrdered}
-use Rattle.win_tree.specs.Kin.{doomed_if, is_alone, is_under}
+use Rattle.win_tree.specs.Kin.{doomed_if, is_alone}
 use Rattle.win_tree.specs.Destruction.{Step, told, ended, children_of, owned_by, preorder, postorder, destruction, destruction_of, is_left, answer_of, given, next_step, unmade}
-use Rattle.win_tree.specs.Plans.{is_given, is_open, AllGiven, IsReached, HasOlderOwner, IsPlan, EachPlan}
+use Rattle.win_tree.specs.Plans.{is_given, is_open, IsReached, HasOlderOwner, IsPlan, EachPlan}
 use Rattle.win_tree.proofs.Alls.{all_so, all_filter, all_append, all_flat, all_map, all_set, filter_alike}
 use Rattle.win_tree.proofs.Alone.{none_under}
 use Rattle.win_tree.proofs.Leaves.{IsYoungest, is_other, order_left, found_still, found_none}
@@ -330,7 +330,7 @@ module _ (w : ℕ) (ws : List Window) (last : ℕ) (ordered : IsOrdered 15 last 
   none : AllByRecursion (λ y. (eqb y.row.parent.0 w ≡ false) × (eqb y.row.owner.0 w ≡ false)) ws
   none = none_under ws w alone
 
-  left : List Window
+  abbrev left : List Window
   left = filter (λ x. not (eqb x.number.0 w)) ws
 
   and_false : (b : Bool) → (b && false) ≡ false

@@ -4,7 +4,7 @@ ghost use Rattle.std.specs.Prelude.{◌≡◌, ℕ, ◌+◌, ◌<◌, ◌++◌, 
 ghost use Rattle.std.specs.List.{filter, list_any};
 ghost use Rattle.std.specs.List.Sorted.{IsNonDecreasingBy};
 ghost use Rattle.win_tree.specs.Windows.{IsOrdered, no_windows, number_of, window_of, is_live, is_marked, is_ended, told_if, ended_if, set_if, next_top, up, marked_if};
-ghost use Rattle.win_tree.specs.Kin.{kin_of, with_marked, IsFaultFor, is_bad, refusal, next_number, settled, with_window, doomed, doom_refusal, dropped, drop_refusal, is_below, is_alone, is_kin, is_of_other, without_thread, has_class};
+ghost use Rattle.win_tree.specs.Kin.{with_marked, IsFaultFor, is_bad, refusal, next_number, settled, with_window, doomed, doom_refusal, dropped, drop_refusal, is_below, is_alone, is_kin, is_of_other, without_thread, has_class};
 ghost use Rattle.win_tree.specs.Destruction.{unmade, given, next_step};
 
 use crate::destruction::first_left;
@@ -234,11 +234,8 @@ impl Tree {
     {
         if is_alone(&self.rows, w) {
             self.drop_alone(w);
-            return;
-        }
-        match kin_numbers(*self.numbers.allocator(), &self.rows, w) {
-            Some(kin) => self.drop_these(w, &kin),
-            None => self.drop_each(w),
+        } else {
+            self.drop_each(w);
         }
     }
 
@@ -252,16 +249,6 @@ impl Tree {
             self.rows.take_out(i);
             forget(&mut self.plans, w);
         }
-    }
-
-    /// Takes out the windows of the window's kin, whose numbers these are.
-    fn drop_these(&mut self, w: Hwnd, kin: &[Hwnd])
-        requires { kin.now ≡ kin_of self.old.live self.old.live w.0 }
-        ensures { self.new ≡ record self.old { live = dropped self.old.live w.0 } }
-    {
-        self.numbers.retain(|v| !has(kin, *v));
-        self.rows.keep(&self.numbers);
-        self.plans.clear();
     }
 
     /// Takes out each window that is of the window's kin.

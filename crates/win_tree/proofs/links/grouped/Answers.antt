@@ -1,4 +1,4 @@
-use Rattle.std.proofs.Common.{◌≡◌, ◌<◌, ◌∙◌, List, length, take, refl, sym, ap, subst, arith, rules, tests}
+use Rattle.std.proofs.Common.{◌<◌, ◌∙◌, List, length, take, refl, subst, arith, rules, tests}
 use Rattle.std.proofs.lemmas.List.{take_all}
 use Rattle.win_num.specs.declared.message.Hwnd.{Hwnd}
 use Rattle.win_tree.specs.declared.window.Window.{Window}

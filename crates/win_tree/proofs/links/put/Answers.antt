@@ -1,5 +1,5 @@
 use Rattle.win_tree.proofs.Listing.{on_some}
-use Rattle.std.proofs.Common.{◌≡◌, ◌<◌, length, sym, arith}
+use Rattle.std.proofs.Common.{arith}
 use Rattle.win_tree.proofs.Grouping.{put_found, put_none}
 use Rattle.win_tree.proofs.links.put.Goals as goal
 

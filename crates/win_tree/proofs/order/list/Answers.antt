@@ -1,5 +1,4 @@
-use Rattle.std.proofs.Common.{◌≡◌, ◌≤◌, refl, arith, rules, tests}
-use Rattle.win_tree.specs.declared.order.Kind.{Kind}
+use Rattle.std.proofs.Common.{◌≡◌, ◌≤◌, refl, rules, tests}
 use Rattle.win_tree.specs.declared.order.Kind.TheVariants.{Whole, Told, Alone, Ended}
 use Rattle.win_tree.proofs.Listing.{on_some, list_alone, list_whole, list_told, list_ended}
 use Rattle.win_tree.proofs.order.list.Goals as goal
@@ -21,8 +20,8 @@ returns-in-Told c =
     let deep : 1 ≤ c.args.part.depth = search (rules, tests) in
     on_some (λ h. list_told c.args.rows.now c.args.part c.args.part.window c.args.parts.now.items _ c.args.steps.now.items kind refl deep h) c.put_told.result c.put_told.ensures
 
-pub returns-in-Ended : goal.returns-in-Ended
-returns-in-Ended c =
+pub returns-in_ok-put_step-in-Ended : goal.returns-in_ok-put_step-in-Ended
+returns-in_ok-put_step-in-Ended c =
     let kind : c.args.part.kind ≡ Ended = search (rules, tests) in
     let deep : 1 ≤ c.args.part.depth = search (rules, tests) in
-    on_some (λ h. list_ended c.args.rows.now c.args.part c.args.part.window c.args.parts.now.items _ c.args.steps.now.items _ kind refl deep c.in_ok-put_step.ensures h) c.put_ended.result c.put_ended.ensures
+    on_some (λ h. list_ended c.args.rows.now c.args.part c.args.part.window c.args.parts.now.items _ c.args.steps.now.items _ kind refl deep c.in_ok-put_step-in-Ended.ensures h) c.put_ended.result c.put_ended.ensures

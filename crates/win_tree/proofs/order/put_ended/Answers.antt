@@ -4,8 +4,8 @@ use Rattle.win_tree.specs.declared.order.Part.{Part}
 use Rattle.win_tree.proofs.Listing.{on_some, child_parts}
 use Rattle.win_tree.proofs.order.put_ended.Goals as goal
 
-pub of-windows-requires : goal.of-windows-requires
-of-windows-requires c = c.requires.children.1
+pub of-requires : goal.of-requires
+of-requires c = c.requires.children.1
 
 pub returns : goal.returns
 returns c =

@@ -2,8 +2,8 @@ use Rattle.win_tree.specs.declared.order.Kind.TheVariants.{Told}
 use Rattle.win_tree.proofs.Listing.{on_some, two_put, child_parts}
 use Rattle.win_tree.proofs.order.put_told.Goals as goal
 
-pub of-windows-requires : goal.of-windows-requires
-of-windows-requires c = c.requires.children.1
+pub of-requires : goal.of-requires
+of-requires c = c.requires.children.1
 
 pub returns : goal.returns
 returns c =

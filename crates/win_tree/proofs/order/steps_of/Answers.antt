@@ -1,8 +1,8 @@
-use Rattle.std.proofs.Common.{◌≡◌, ◌∙◌, ◌++◌, ◌∷◌, [], List, length, ap, rules, tests}
+use Rattle.std.proofs.Common.{◌≡◌, ◌∙◌, ◌++◌, ◌∷◌, [], List, ap, rules, tests}
 use Rattle.win_tree.specs.declared.order.Kind.TheVariants.{Whole}
 use Rattle.win_tree.specs.declared.order.Part.{Part}
 use Rattle.win_tree.specs.Parts.{parts_of}
-use Rattle.win_tree.proofs.Listing.{first_part, popped, none_left}
+use Rattle.win_tree.proofs.Listing.{first_part, popped}
 use Rattle.win_tree.proofs.order.steps_of.Goals as goal
 
 pub lists-init : goal.lists-init

@@ -1,4 +1,4 @@
-use Rattle.std.proofs.Common.{◌≡◌, ◌∙◌, true, subst, sym}
+use Rattle.std.proofs.Common.{◌≡◌, ◌∙◌, true, sym}
 use Rattle.win_tree.specs.Kin.{is_alone}
 use Rattle.win_tree.proofs.Alone.{alone_doomed}
 use Rattle.win_tree.proofs.KinLists.{kin_all, kin_marked}

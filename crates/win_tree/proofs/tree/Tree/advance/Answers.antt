@@ -1,4 +1,4 @@
-use Rattle.std.proofs.Common.{◌≡◌, ◌∙◌, List, sym, ap, subst}
+use Rattle.std.proofs.Common.{◌≡◌, ◌∙◌, List, sym, subst}
 use Rattle.std.proofs.lemmas.List.{get_or_default}
 use Rattle.win_tree.specs.declared.plan.Plan.{Plan}
 use Rattle.win_tree.specs.Plans.{HasPlan, IsPlan, IsReached}

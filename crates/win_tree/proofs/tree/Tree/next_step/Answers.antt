@@ -1,4 +1,4 @@
-use Rattle.std.proofs.Common.{◌≡◌, ◌<◌, ◌∙◌, List, length, get_or, Some, true, sym, ap, subst, rules, tests}
+use Rattle.std.proofs.Common.{◌≡◌, ◌∙◌, List, Some, true, sym, ap, subst, rules, tests}
 use Rattle.win_num.specs.declared.message.Hwnd.{Hwnd}
 use Rattle.win_tree.specs.declared.plan.Plan.{Plan}
 use Rattle.win_tree.specs.Windows.{Windows, window_of}

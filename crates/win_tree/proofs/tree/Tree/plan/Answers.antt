@@ -1,5 +1,4 @@
-use Rattle.std.proofs.Common.{◌≡◌, List, is_ok, subst, sym, ap}
-use Rattle.win_tree.specs.Plans.{EachPlan}
+use Rattle.std.proofs.Common.{is_ok}
 use Rattle.win_tree.proofs.Planned.{plans_pushed}
 use Rattle.win_tree.proofs.tree.Tree.plan.Goals as goal
 
