@@ -19,11 +19,11 @@ map-filter p (x ∷ ws) = elim (cases_Bool (p x.number.0)) [
   | inr h ↦ rw (h, filter) (map-filter p ws)
 ]
 
-or-true : (a b : Bool) → b ≡ true → (a || b) ≡ true
+pub or-true : (a b : Bool) → b ≡ true → (a || b) ≡ true
 or-true true b h = refl
 or-true false b h = h
 
-true-or : (a b : Bool) → a ≡ true → (a || b) ≡ true
+pub true-or : (a b : Bool) → a ≡ true → (a || b) ≡ true
 true-or true b h = refl
 true-or false b h = absurd (cc h)
 

@@ -1,12 +1,16 @@
+pub mod Alls
 pub mod Alone
 pub mod Drops
+pub mod Grouping
 pub mod Indexed
+pub mod KinLists
+pub mod Leaves
+pub mod Listing
 pub mod Marking
 pub mod Numbers
 pub mod Ones
 pub mod Ordered
 pub mod Planned
-pub mod Planning
 pub mod Rising
 pub mod Searches
 pub mod Walks

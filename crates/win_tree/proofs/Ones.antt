@@ -63,7 +63,8 @@ filter_at from w (y ∷ ws) (suc i) x h lt is e =
     let number : x.number.0 ≡ (get_or ws i x).number.0 = ap (λ (z : Window). z.number.0) is in
     rw (ne_eqb y.number.0 w (λ k. omega (arith, above, number, e, k)), filter) (ap (λ (us : List Window). y ∷ us) (filter_at y.number.0 w ws i x h.1 (omega (arith, lt)) is e))
 
-element : (ws : List Window) (i : ℕ) → i < length ws → (x : Window) × (x ≡ get_or ws i x)
+-- what stands at a place
+pub element : (ws : List Window) (i : ℕ) → i < length ws → (x : Window) × (x ≡ get_or ws i x)
 element [] i lt = absurd (omega (arith, lt))
 element (x ∷ ws) zero lt = (x, refl)
 element (x ∷ ws) (suc i) lt = element ws i (omega (arith, lt))

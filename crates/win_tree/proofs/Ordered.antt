@@ -14,7 +14,7 @@ use Rattle.win_tree.specs.Kin.{parent_of, top_within, is_bad, refusal, settled}
 use Rattle.win_tree.specs.Destruction.{given}
 
 -- the bound below is no greater than the last number
-below_last : (from last : ℕ) (ws : List Window) → IsOrdered from last ws → from ≤ last
+pub below_last : (from last : ℕ) (ws : List Window) → IsOrdered from last ws → from ≤ last
 below_last from last [] h = h
 below_last from last (x ∷ ws) h = omega (arith, h.0, below_last x.number.0 last ws h.2)
 
@@ -116,6 +116,15 @@ new_older t row n h e =
     elim (cases_Bool (eqb row.parent.0 0)) [
       | inl k ↦ subst (λ (u : Hwnd). u.0 ≤ t.last) (rw (k, up, made, settled) refl) (top_small row.owner.0 15 t.last t.live row.owner h (good_small t.last t.live row.owner.0 h good.1))
       | inr k ↦ subst (λ (u : Hwnd). u.0 ≤ t.last) (rw (k, up, made, settled) refl) (good_small t.last t.live row.parent.0 h good.0)
+    ]
+
+-- so was its owner
+pub owner_older : (t : Windows) (row : WindowRow) → IsOrdered 15 t.last t.live → refusal t row ≡ None → (settled t.live row).owner.0 ≤ t.last
+owner_older t row h e =
+    let good = both_good t row e in
+    elim (cases_Bool (eqb row.parent.0 0)) [
+      | inl k ↦ rw (k, settled) (top_small row.owner.0 15 t.last t.live row.owner h (good_small t.last t.live row.owner.0 h good.1))
+      | inr k ↦ rw (k, settled) (omega arith)
     ]
 
 -- a window that is put last

@@ -10,7 +10,7 @@ use Rattle.win_num.specs.declared.code.Code.TheVariants.{Win, Full}
 use Rattle.win_num.specs.declared.names.TheConstants.{WS_CHILD}
 use Rattle.win_tree.specs.declared.row.WindowRow.{WindowRow}
 use Rattle.win_tree.specs.declared.window.Window.{Window}
-use Rattle.win_tree.specs.Windows.{Windows, nobody, made, window_of, is_live, is_marked, is_ended, up, marked_also}
+use Rattle.win_tree.specs.Windows.{Windows, nobody, made, number_of, window_of, is_live, is_marked, is_ended, up, marked_also}
 
 -- what the window stands under or is owned by, or 0
 abbrev pub above : List Window → ℕ → Hwnd
@@ -29,9 +29,25 @@ kin_within (suc n) ws v w = elim (w == 0) [ true ↦ false | false ↦ elim (w =
 abbrev pub is_kin : List Window → ℕ → ℕ → Bool
 is_kin ws v w = kin_within w ws v w
 
+-- whether w is the window's parent or owner
+abbrev pub is_under : ℕ → Window → Bool
+is_under w x = (x.row.parent.0 == w) || (x.row.owner.0 == w)
+
 -- whether nothing stands directly below w or is owned by it
 abbrev pub is_alone : List Window → ℕ → Bool
-is_alone ws w = not (w == 0) && not (list_any (λ x. (up x).0 == w) ws)
+is_alone ws w = not (w == 0) && not (list_any (is_under w) ws)
+
+-- the numbers of those of us that are of w's kin in ws
+abbrev pub kin_of : List Window → List Window → ℕ → List Hwnd
+kin_of ws us w = map number_of (filter (λ x. is_kin ws w x.number.0) us)
+
+-- whether x is w, or stands directly under w or one of these
+abbrev pub is_more : List Hwnd → ℕ → Window → Bool
+is_more kin w x = (x.number.0 == w) || (((up x).0 == w) || list_any (λ v. v.0 == (up x).0) kin)
+
+-- the windows, those of these numbers marked also
+abbrev pub with_marked : List Hwnd → List Window → List Window
+with_marked kin ws = map (λ x. marked_also (list_any (λ v. v.0 == x.number.0) kin) x) ws
 
 -- w's parent is v, or stands below v
 abbrev pub below_within : ℕ → List Window → ℕ → ℕ → Bool

@@ -1,9 +1,14 @@
 //! Walks up from a window.
 
-ghost use Rattle.std.specs.Prelude.{◌≡◌};
-ghost use Rattle.win_tree.specs.Kin.{above, parent_of, is_kin, is_below, top_of};
+ghost use Rattle.std.specs.Prelude.{◌≡◌, ℕ, IfSome};
+ghost use Rattle.std.specs.List.{list_any};
+ghost use Rattle.std.specs.List.Sorted.{IsNonDecreasingBy};
+ghost use Rattle.win_tree.specs.Windows.{IsOrdered};
+ghost use Rattle.win_tree.specs.Kin.{above, parent_of, is_kin, is_below, top_of, is_alone, is_under, is_more, kin_of};
 
-use crate::rows::Rows;
+use crate::rows::{Rows, has};
+use crate::window::Window;
+use std::alloc::Global;
 use win_num::Hwnd;
 
 /// What the window stands under or is owned by, or 0.
@@ -76,4 +81,54 @@ pub fn top_of(windows: &Rows, w: Hwnd) -> Hwnd
         at = parent;
     }
     at
+}
+
+/// The numbers of the window and its kin, which rise. None comes where memory wants, or for no window.
+pub fn kin_numbers(alloc: Global, windows: &Rows, w: Hwnd) -> Option<Vec<Hwnd>>
+    requires { (last : ℕ) × IsOrdered 15 last windows.now }
+    ensures { IfSome result (λ kin. kin.items ≡ kin_of windows.now windows.now w.0) }
+{
+    if w == Hwnd(0) {
+        return None;
+    }
+    let mut kin = Vec::new(alloc);
+    for i in 0..windows.len() {
+        let x = windows.at(i);
+        if is_more(&kin, w, x) && kin.push(x.number).is_err() {
+            return None;
+        }
+    }
+    Some(kin)
+}
+
+/// Whether x is w, or stands directly under w or one of these.
+fn is_more(kin: &[Hwnd], w: Hwnd, x: &Window) -> bool
+    requires { IsNonDecreasingBy (λ v. v.0) kin.now }
+    ensures { result ≡ is_more kin.now w.0 x.now }
+{
+    let up = x.up();
+    x.number == w || up == w || has(kin, up)
+}
+
+/// Whether nothing stands directly below the window or is owned by it.
+pub fn is_alone(windows: &Rows, w: Hwnd) -> bool
+    ensures { result ≡ is_alone windows.now w.0 }
+{
+    if w == Hwnd(0) {
+        return false;
+    }
+    !has_under(windows, w)
+}
+
+/// Whether the window is the parent or owner of one of these.
+fn has_under(windows: &Rows, w: Hwnd) -> bool
+    ensures { result ≡ list_any (is_under w.0) windows.now }
+{
+    for i in 0..windows.len() {
+        let row = &windows.at(i).row;
+        if row.parent == w || row.owner == w {
+            return true;
+        }
+    }
+    false
 }

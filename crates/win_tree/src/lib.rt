@@ -4,6 +4,8 @@
 
 mod destruction;
 mod kin;
+mod links;
+mod order;
 mod plan;
 mod row;
 mod rows;

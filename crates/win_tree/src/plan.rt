@@ -1,14 +1,16 @@
 //! The order of a destruction that was begun, and how far it has come.
 
-ghost use Rattle.std.specs.Prelude.{◌≡◌, ℕ, ◌++◌, map, slice_index_or, IfSome, OnOk};
-ghost use Rattle.win_tree.specs.Destruction.{answer_of, told, ended, preorder, postorder, destruction};
+ghost use Rattle.std.specs.Prelude.{◌≡◌, ◌==◌, ℕ, not, ◌||◌, ◌∷◌, [], map, filter, slice_index_or, Some, IfSome};
+ghost use Rattle.win_tree.specs.Destruction.{answer_of, destruction_of};
 ghost use Rattle.win_tree.specs.Plans.{is_given, AllGiven, IsReached, HasPlan, IsPlan};
-ghost use Rattle.win_tree.specs.Windows.{is_ended, is_told};
+ghost use Rattle.win_tree.specs.Windows.{IsOrdered, is_ended, is_live, is_told, window_of};
 
+use crate::kin::is_alone;
+use crate::order::{put_step, steps_of};
 use crate::row::Unmade;
 use crate::rows::Rows;
 use crate::window::Window;
-use std::alloc::{AllocError, Global};
+use std::alloc::Global;
 use win_num::Hwnd;
 
 /// The steps of a window's destruction in their order. Those before the next were given.
@@ -21,18 +23,45 @@ pub struct Plan {
 
 /// The plan of a window's destruction. None comes where the window isn't live or memory wants.
 pub fn begun(alloc: Global, rows: &Rows, w: Hwnd) -> Option<Plan>
+    requires { (last : ℕ) × IsOrdered 15 last rows.now }
     ensures { IfSome result (IsPlan rows.now) }
 {
     let x = rows.find(w)?;
-    let mut steps = Vec::new(alloc);
-    match put_steps(rows, x, rows.len(), &mut steps) {
-        Ok(()) => Some(Plan {
-            root: w,
-            steps,
-            next: 0,
-        }),
-        Err(_) => None,
+    let steps = listed(alloc, rows, w, x)?;
+    Some(Plan {
+        root: w,
+        steps,
+        next: 0,
+    })
+}
+
+/// The steps of x's destruction, x being the window w, in their order. None comes where memory wants.
+fn listed(alloc: Global, rows: &Rows, w: Hwnd, x: &Window) -> Option<Vec<Unmade>>
+    requires { window_of rows.now w.0 ≡ Some x.now }
+    ensures { IfSome result (λ steps. steps.items ≡ map answer_of (destruction_of rows.now x.now)) }
+{
+    if is_alone(rows, w) {
+        alone_steps(alloc, w)
+    } else {
+        steps_of(alloc, rows, x)
     }
+}
+
+/// The steps of a window that nothing stands under.
+fn alone_steps(alloc: Global, w: Hwnd) -> Option<Vec<Unmade>>
+    ensures { IfSome result (λ steps. steps.items ≡ Unmade.Tell w ∷ Unmade.Last w ∷ []) }
+{
+    let mut steps = Vec::new(alloc);
+    put_step(&mut steps, Unmade::Tell(w))?;
+    put_step(&mut steps, Unmade::Last(w))?;
+    Some(steps)
+}
+
+/// Lets go the plan of a window.
+pub fn forget(plans: &mut Vec<Plan>, w: Hwnd)
+    ensures { plans.new.items ≡ filter (λ p. not (p.root.0 == w.0)) plans.old.items }
+{
+    plans.retain(|p| p.root != w);
 }
 
 /// The place of a window's plan.
@@ -73,100 +102,33 @@ pub fn reached(rows: &Rows, plan: &Plan) -> usize
     plan.steps.len()
 }
 
-/// Whether a step was given.
+/// Whether a step was given, or its window has gone.
 fn is_given(rows: &Rows, step: Unmade) -> bool
     ensures { result ≡ is_given rows.now step }
 {
     match step {
-        Unmade::Tell(w) => is_told(rows, w),
-        Unmade::Last(w) => is_ended(rows, w),
+        Unmade::Tell(w) => was_told(rows, w),
+        Unmade::Last(w) => has_ended(rows, w),
         Unmade::Gone | Unmade::NotDoomed => true,
     }
 }
 
-/// Whether the window is live and was told.
-fn is_told(rows: &Rows, w: Hwnd) -> bool
-    ensures { result ≡ is_told rows.now w.0 }
+/// Whether the window was told, or has gone.
+fn was_told(rows: &Rows, w: Hwnd) -> bool
+    ensures { result ≡ (not (is_live rows.now w.0) || is_told rows.now w.0) }
 {
     match rows.find(w) {
         Some(x) => x.told,
-        None => false,
+        None => true,
     }
 }
 
-/// Whether the window is live and got its last message.
-fn is_ended(rows: &Rows, w: Hwnd) -> bool
-    ensures { result ≡ is_ended rows.now w.0 }
+/// Whether the window got its last message, or has gone.
+fn has_ended(rows: &Rows, w: Hwnd) -> bool
+    ensures { result ≡ (not (is_live rows.now w.0) || is_ended rows.now w.0) }
 {
     match rows.find(w) {
         Some(x) => x.ended,
-        None => false,
+        None => true,
     }
-}
-
-/// Adds the steps of x's destruction.
-pub fn put_steps(
-    windows: &Rows,
-    x: &Window,
-    depth: usize,
-    steps: &mut Vec<Unmade>,
-) -> Result<(), AllocError>
-    ensures { OnOk result (steps.new.items ≡ steps.old.items ++ map answer_of (destruction depth windows.now x.now)) }
-{
-    if depth == 0 {
-        return Ok(());
-    }
-    for i in 0..windows.len() {
-        let owned = windows.at(i);
-        if owned.row.owner == x.number {
-            put_steps(windows, owned, depth - 1, steps)?;
-        }
-    }
-    put_told(windows, x, depth, steps)?;
-    put_ended(windows, x, depth, steps)?;
-    Ok(())
-}
-
-/// Adds x's subtree as told, each window before its children.
-fn put_told(
-    windows: &Rows,
-    x: &Window,
-    depth: usize,
-    steps: &mut Vec<Unmade>,
-) -> Result<(), AllocError>
-    ensures { OnOk result (steps.new.items ≡ steps.old.items ++ map answer_of (map told (preorder depth windows.now x.now))) }
-{
-    if depth == 0 {
-        return Ok(());
-    }
-    steps.push(Unmade::Tell(x.number))?;
-    for i in 0..windows.len() {
-        let child = windows.at(i);
-        if child.row.parent == x.number {
-            put_told(windows, child, depth - 1, steps)?;
-        }
-    }
-    Ok(())
-}
-
-/// Adds the last messages of x's subtree, each window after its children.
-fn put_ended(
-    windows: &Rows,
-    x: &Window,
-    depth: usize,
-    steps: &mut Vec<Unmade>,
-) -> Result<(), AllocError>
-    ensures { OnOk result (steps.new.items ≡ steps.old.items ++ map answer_of (map ended (postorder depth windows.now x.now))) }
-{
-    if depth == 0 {
-        return Ok(());
-    }
-    for i in 0..windows.len() {
-        let child = windows.at(i);
-        if child.row.parent == x.number {
-            put_ended(windows, child, depth - 1, steps)?;
-        }
-    }
-    steps.push(Unmade::Last(x.number))?;
-    Ok(())
 }

@@ -160,7 +160,7 @@ fn free_other(slab: &mut Slab<Window>, key: usize, numbers: &[Hwnd])
 }
 
 /// Whether the number is among these, which rise.
-fn has(numbers: &[Hwnd], w: Hwnd) -> bool
+pub fn has(numbers: &[Hwnd], w: Hwnd) -> bool
     requires { IsNonDecreasingBy (λ v. v.0) numbers.now }
     ensures { result ≡ list_any (λ v. v.0 == w.0) numbers.now }
 {

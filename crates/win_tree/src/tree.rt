@@ -1,16 +1,17 @@
 //! The table of windows.
 
-ghost use Rattle.std.specs.Prelude.{◌≡◌, ◌+◌, ◌<◌, ◌++◌, ◌∷◌, [], List, length, map, not, IsTrue, IfOk, OnOk, OnErr, MatchResult, Option, Some, None, IfNone, IfSome, ◌^◌, ◌==◌, option_copied, option_map};
+ghost use Rattle.std.specs.Prelude.{◌≡◌, ℕ, ◌+◌, ◌<◌, ◌++◌, ◌∷◌, [], List, length, map, not, IsTrue, IfOk, OnOk, OnErr, MatchResult, Option, Some, None, IfNone, IfSome, ◌^◌, ◌==◌, option_copied, option_map};
 ghost use Rattle.std.specs.List.{filter, list_any};
+ghost use Rattle.std.specs.List.Sorted.{IsNonDecreasingBy};
 ghost use Rattle.win_tree.specs.Windows.{IsOrdered, no_windows, number_of, window_of, is_live, is_marked, is_ended, told_if, ended_if, set_if, next_top, up, marked_if};
-ghost use Rattle.win_tree.specs.Kin.{IsFaultFor, is_bad, refusal, next_number, settled, with_window, doomed, doom_refusal, dropped, drop_refusal, is_below, is_alone, is_kin, is_of_other, without_thread, has_class};
+ghost use Rattle.win_tree.specs.Kin.{with_marked, IsFaultFor, is_bad, refusal, next_number, settled, with_window, doomed, doom_refusal, dropped, drop_refusal, is_below, is_alone, is_kin, is_of_other, without_thread, has_class};
 ghost use Rattle.win_tree.specs.Destruction.{unmade, given, next_step};
 
 use crate::destruction::first_left;
-use crate::kin::{is_below, is_kin, top_of};
-use crate::plan::{Plan, begun, plan_of, planned, reached};
+use crate::kin::{is_alone, is_below, is_kin, kin_numbers, top_of};
+use crate::plan::{Plan, begun, forget, plan_of, planned, reached};
 use crate::row::{Unmade, WindowRow};
-use crate::rows::Rows;
+use crate::rows::{Rows, has};
 use crate::window::Window;
 use std::alloc::{AllocError, Global};
 use std::marker::Model;
@@ -106,6 +107,7 @@ impl Tree {
     fn push(&mut self, window: Window) -> Result<(), AllocError>
         requires rises { self.old.last < window.number.0 }
         requires older { (up window).0 < window.number.0 }
+        requires owner { window.row.owner.0 < window.number.0 }
         ensures ok { OnOk result (self.new ≡ record { last = window.number.0; live = self.old.live ++ window ∷ [] }) }
         ensures err { OnErr result (self.new ≡ self.old) }
     {
@@ -149,7 +151,7 @@ impl Tree {
             Some(x) if !x.marked => {}
             _ => return Err(Code::Win(NO_SUCH_WINDOW)),
         }
-        mark_kin(&mut self.rows, w);
+        mark_kin(*self.numbers.allocator(), &mut self.rows, w);
         self.plan(w);
         Ok(())
     }
@@ -245,7 +247,7 @@ impl Tree {
         if let Some(i) = self.rows.place_of(w) {
             self.numbers.remove(i);
             self.rows.take_out(i);
-            self.plans.clear();
+            forget(&mut self.plans, w);
         }
     }
 
@@ -415,36 +417,30 @@ fn set_row(windows: &mut Rows, w: Hwnd, style: u32, ex: u32, place: Rect)
 }
 
 /// Marks a window with its kin.
-fn mark_kin(windows: &mut Rows, w: Hwnd)
+fn mark_kin(alloc: Global, windows: &mut Rows, w: Hwnd)
+    requires { (last : ℕ) × IsOrdered 15 last windows.old }
     ensures { windows.new ≡ doomed windows.old w.0 }
 {
     if is_alone(windows, w) {
         mark_one(windows, w);
-    } else {
-        mark_each(windows, w);
+        return;
+    }
+    match kin_numbers(alloc, windows, w) {
+        Some(kin) => mark_these(windows, &kin),
+        None => mark_each(windows, w),
     }
 }
 
-/// Whether nothing stands directly below the window or is owned by it.
-fn is_alone(windows: &Rows, w: Hwnd) -> bool
-    ensures { result ≡ is_alone windows.now w.0 }
-{
-    if w == Hwnd(0) {
-        return false;
-    }
-    !has_above(windows, w)
-}
-
-/// Whether the window is the parent or owner of one of these.
-fn has_above(windows: &Rows, w: Hwnd) -> bool
-    ensures { result ≡ list_any (λ x. (up x).0 == w.0) windows.now }
+/// Marks the windows of these numbers, which rise.
+fn mark_these(windows: &mut Rows, kin: &[Hwnd])
+    requires { IsNonDecreasingBy (λ v. v.0) kin.now }
+    ensures { windows.new ≡ with_marked kin.now windows.old }
 {
     for i in 0..windows.len() {
-        if windows.at(i).up() == w {
-            return true;
-        }
+        let x = *windows.at(i);
+        let also = has(kin, x.number);
+        windows.put(i, x.marked_also(also));
     }
-    false
 }
 
 /// Marks a window alone.

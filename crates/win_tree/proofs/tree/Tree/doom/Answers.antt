@@ -8,6 +8,9 @@ use Rattle.win_tree.specs.Plans.{EachPlan}
 use Rattle.win_tree.proofs.Planned.{plans_doomed}
 use Rattle.win_tree.proofs.tree.Tree.doom.Goals as goal
 
+pub mark_kin-requires : goal.mark_kin-requires
+mark_kin-requires c = (c.self.inside.last, c.self.invariant.1)
+
 pub invariant_of-self : goal.invariant_of-self
 invariant_of-self c =
     let old = c.self.inside.rows in (

@@ -7,7 +7,9 @@ use Rattle.win_tree.specs.Kin.{is_kin}
 use Rattle.win_tree.specs.Index.{has}
 use Rattle.win_tree.proofs.Ordered.{ordered_filter}
 use Rattle.win_tree.proofs.Drops.{kept_numbers, kept_windows, map-filter, some_rise}
-use Rattle.win_tree.specs.Plans.{EachPlan}
+use Rattle.std.specs.List.{AllByRecursion}
+use Rattle.win_tree.specs.Plans.{EachPlan, HasOlderOwner}
+use Rattle.win_tree.proofs.Alls.{all_filter}
 use Rattle.win_tree.proofs.Planned.{no_plans}
 use Rattle.win_tree.proofs.tree.Tree.drop_each.Goals as goal
 
@@ -28,7 +30,7 @@ invariant_of-self c =
     let p = λ (v : ℕ). not (is_kin ws c.args.w.0 v) in (
       kept_numbers p ws c.self.inside.numbers.items ks c.keep.new.self c.self.invariant.0 numbers windows,
       subst (λ (us : List Window). IsOrdered 15 c.self.inside.last us) (sym (kept_windows p ws c.self.inside.numbers.items ks c.keep.new.self c.self.invariant.0 numbers windows)) (ordered_filter (λ x. p x.number.0) 15 c.self.inside.last ws c.self.invariant.1),
-      subst (λ ps. EachPlan c.keep.new.self ps) (sym c.clear.ensures.items) (no_plans c.keep.new.self),
+      subst (λ ps. EachPlan c.keep.new.self ps) (sym c.clear.ensures.items) (no_plans c.keep.new.self (subst (AllByRecursion HasOlderOwner) (sym (kept_windows p ws c.self.inside.numbers.items ks c.keep.new.self c.self.invariant.0 numbers windows)) (all_filter HasOlderOwner (λ x. p x.number.0) ws c.self.invariant.2.owners))),
     )
 
 pub returns : goal.returns

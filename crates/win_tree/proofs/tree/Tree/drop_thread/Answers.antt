@@ -8,7 +8,9 @@ use Rattle.win_tree.specs.Index.{has}
 use Rattle.win_tree.proofs.Ordered.{ordered_filter}
 use Rattle.win_tree.proofs.Drops.{kept_windows, some_rise}
 use Rattle.win_tree.proofs.ThreadDrops.{numbers_left, windows_left}
-use Rattle.win_tree.specs.Plans.{EachPlan}
+use Rattle.std.specs.List.{AllByRecursion}
+use Rattle.win_tree.specs.Plans.{EachPlan, HasOlderOwner}
+use Rattle.win_tree.proofs.Alls.{all_filter}
 use Rattle.win_tree.proofs.Planned.{no_plans}
 use Rattle.win_tree.proofs.tree.Tree.drop_thread.Goals as goal
 
@@ -30,7 +32,7 @@ invariant_of-self c =
     let left : c.keep.new.self ≡ without_thread ws t = kept_windows (is_of_other ws t) ws c.self.inside.numbers.items ks c.keep.new.self c.self.invariant.0 numbers windows ∙ windows_left c.self.inside.last t ws c.self.invariant.1 in (
       numbers ∙ (ap (λ (vs : List Hwnd). filter (λ v. is_of_other ws t v.0) vs) c.self.invariant.0 ∙ (numbers_left c.self.inside.last t ws c.self.invariant.1 ∙ ap (map number_of) (sym left))),
       subst (λ (us : List Window). IsOrdered 15 c.self.inside.last us) (sym left) (ordered_filter (λ x. not (eqb x.row.thread.0 t)) 15 c.self.inside.last ws c.self.invariant.1),
-      subst (λ ps. EachPlan c.keep.new.self ps) (sym c.clear.ensures.items) (no_plans c.keep.new.self),
+      subst (λ ps. EachPlan c.keep.new.self ps) (sym c.clear.ensures.items) (no_plans c.keep.new.self (subst (AllByRecursion HasOlderOwner) (sym left) (all_filter HasOlderOwner (λ x. not (eqb x.row.thread.0 t)) ws c.self.invariant.2.owners))),
     )
 
 pub returns : goal.returns

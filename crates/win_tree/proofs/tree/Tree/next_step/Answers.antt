@@ -1,9 +1,10 @@
-use Rattle.std.proofs.Common.{◌≡◌, ◌<◌, ◌∙◌, List, length, get_or, Some, true, sym, ap, subst, rules, tests}
+use Rattle.std.proofs.Common.{◌≡◌, ◌∙◌, List, Some, true, sym, ap, subst, rules, tests}
 use Rattle.win_num.specs.declared.message.Hwnd.{Hwnd}
 use Rattle.win_tree.specs.declared.plan.Plan.{Plan}
 use Rattle.win_tree.specs.Windows.{Windows, window_of}
 use Rattle.win_tree.specs.Destruction.{unmade}
 use Rattle.win_tree.specs.Plans.{HasPlan, IsPlan}
+use Rattle.win_tree.proofs.Alls.{all_at}
 use Rattle.win_tree.proofs.Ones.{number_is}
 use Rattle.win_tree.proofs.Planned.{planned_step, unmade_marked, same_hwnd}
 use Rattle.win_tree.proofs.tree.Tree.next_step.Goals as goal
@@ -16,7 +17,7 @@ returns-in-Some-plan_of c =
     let p = c.index.result.now in
     let x = c.in-Some.x.now in
     let has : HasPlan c.self.inside.plans.items w i = subst (λ (ps : List Plan). HasPlan ps w i) c.deref.ensures.value c.in-Some-plan_of.ensures in
-    let plan : IsPlan ws p = c.self.invariant.2 i p has.within c.index.ensures in
+    let plan : IsPlan ws p = all_at (IsPlan ws) c.self.inside.plans.items i p c.self.invariant.2.each has.within c.index.ensures in
     let root : p.root ≡ w = has.same p c.index.ensures in
     let found : window_of ws w.0 ≡ Some x = sym c.in-Some.ensures in
     let marked : x.marked ≡ true = search (rules, tests) in

@@ -1,7 +1,9 @@
-use Rattle.std.proofs.Common.{◌≡◌, List, is_ok, subst, sym, ap}
-use Rattle.win_tree.specs.Plans.{EachPlan}
+use Rattle.std.proofs.Common.{is_ok}
 use Rattle.win_tree.proofs.Planned.{plans_pushed}
 use Rattle.win_tree.proofs.tree.Tree.plan.Goals as goal
+
+pub begun-requires : goal.begun-requires
+begun-requires c = (c.self.inside.last, c.self.invariant.1)
 
 pub invariant_of-self : goal.invariant_of-self
 invariant_of-self c = (

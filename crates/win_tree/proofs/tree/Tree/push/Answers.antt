@@ -2,7 +2,9 @@ use Rattle.std.proofs.Common.{◌≡◌, ◌<◌, ◌∷◌, ◌++◌, [], subst
 use Rattle.win_tree.specs.Windows.{Windows}
 use Rattle.win_tree.proofs.Ordered.{ordered_more, put_last}
 use Rattle.win_tree.proofs.Ones.{rising}
-use Rattle.win_tree.specs.Plans.{EachPlan}
+use Rattle.std.specs.List.{AllByRecursion}
+use Rattle.win_tree.specs.Plans.{EachPlan, HasOlderOwner}
+use Rattle.win_tree.proofs.Alls.{all_append}
 use Rattle.win_tree.proofs.Planned.{no_plans}
 use Rattle.win_tree.proofs.tree.Tree.push.Goals as goal
 
@@ -21,5 +23,5 @@ invariant_of-self-2 c =
     let kept = put_last c.self.inside.numbers.items c.push-2.new.self.items c.self.inside.rows c.push.new.self x c.self.inside.last (c.self.invariant.0, c.self.invariant.1) numbers windows rises c.requires.older in (
       kept.0,
       kept.1,
-      subst (λ ps. EachPlan c.push.new.self ps) (sym c.clear.ensures.items) (no_plans c.push.new.self),
+      subst (λ ps. EachPlan c.push.new.self ps) (sym c.clear.ensures.items) (no_plans c.push.new.self (subst (AllByRecursion HasOlderOwner) (sym windows) (all_append HasOlderOwner c.self.inside.rows (x ∷ []) c.self.invariant.2.owners (c.requires.owner, tt)))),
     )
