@@ -4,3 +4,4 @@ mod Lists
 mod Results
 mod RuleKept
 mod Turns
+pub mod NewSeats
