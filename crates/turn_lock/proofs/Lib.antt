@@ -4,4 +4,3 @@ mod Lists
 mod Results
 mod RuleKept
 mod Turns
-pub mod NewSeats
