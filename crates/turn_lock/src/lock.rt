@@ -4,7 +4,7 @@ ghost use Rattle.std.specs.Vec.{vec_capacity};
 ghost use Rattle.turn_lock.specs.Views.{first_view};
 ghost use Rattle.turn_lock.specs.Seats.{new_seats};
 
-use crate::bell::{Bell, new_bells};
+use crate::bell::Hall;
 use crate::journaled::Journaled;
 use crate::plays::{Deal, Turns};
 use crate::seat::{Place, TurnSeat};
@@ -34,7 +34,7 @@ pub(crate) type Board<S> = Table<
 pub struct TurnLock<S: Journaled> {
     pub(crate) board: Board<S>,
     pub(crate) seats: u32,
-    pub(crate) bells: Vec<Bell>,
+    pub(crate) hall: Hall,
 }
 
 impl<S: Journaled> Model for TurnLock<S> {
@@ -53,10 +53,10 @@ impl<S: Journaled + Drop> Drop for TurnLock<S> {
         let Self {
             board,
             seats: _,
-            bells,
+            hall,
         } = self;
         drop(board);
-        drop(bells);
+        drop(hall);
     }
 }
 
@@ -117,7 +117,7 @@ impl<S: Journaled> TurnLock<S> {
         let Self {
             board,
             seats: _,
-            bells: _,
+            hall: _,
         } = self;
         board
     }
@@ -138,20 +138,13 @@ impl<S: Journaled> TurnLock<S> {
         let Ok(mut made) = Vec::with_capacity(alloc, seats as usize) else {
             return Err((AllocError, state));
         };
-        let Ok(bells) = new_bells(alloc, seats) else {
+        let Ok(hall) = Hall::new(alloc, seats) else {
             return Err((AllocError, state));
         };
         match open(alloc, state, seats) {
             Ok((board, first)) => {
                 deal(&board.shared, first, seats, &mut made);
-                Ok((
-                    TurnLock {
-                        board,
-                        seats,
-                        bells,
-                    },
-                    made,
-                ))
+                Ok((TurnLock { board, seats, hall }, made))
             }
             Err(failed) => Err(failed),
         }

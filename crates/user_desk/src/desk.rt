@@ -5,6 +5,7 @@ ghost use Rattle.user_model.specs.Legal.{IsLawful};
 ghost use Rattle.turn_lock.specs.Seats.{IsSameSeat, HasAllSeats, new_seats};
 ghost use Rattle.user_desk.specs.Desks.{IsDeskSeat, HasLooked, CameTo, TurnCameTo, CameToAtLast, MayHaveWaited, Remembers, HasClosed, made_by, told_of};
 
+use crate::news::News;
 use crate::shared::Shared;
 use std::alloc::{AllocError, Global};
 use std::marker::Model;
@@ -20,12 +21,14 @@ pub type DeskSeat<M> = TurnSeat<Shared<M>>;
 /// machine that it was opened with, and how many seats it has.
 pub struct Desk<M: Machine> {
     lock: TurnLock<Shared<M>>,
+    news: News,
 }
 
 impl<M: Machine + Drop> Drop for Desk<M> {
     fn drop(self) {
-        let Self { lock } = self;
+        let Self { lock, news } = self;
         drop(lock);
+        drop(news);
     }
 }
 
@@ -66,7 +69,10 @@ impl<M: Machine> Desk<M> {
         ensures err { IfErr result (λ e. e.1 ≡ machine) }
     {
         match TurnLock::new(alloc, Shared { machine }, u32::from(threads) + 1) {
-            Ok((lock, seats)) => Ok((Desk { lock }, seats)),
+            Ok((lock, seats)) => {
+                let news = News::new();
+                Ok((Desk { lock, news }, seats))
+            }
             Err((error, shared)) => Err((error, shared.machine)),
         }
     }
@@ -86,7 +92,9 @@ impl<M: Machine> Desk<M> {
     {
         let lock = &self.lock;
         let who = Thread(seat.number() as u8);
-        lock.run(rt, seat, (who, call))
+        let answer = lock.run(rt, seat, (who, call));
+        self.news.tell(answer.is_ok());
+        answer
     }
 
     /// Waits for the seat's turn and makes the call as the seat's actor, unless the actor has no call to make then.
@@ -105,6 +113,7 @@ impl<M: Machine> Desk<M> {
         let lock = &self.lock;
         let who = Thread(seat.number() as u8);
         let answer = lock.run_if(rt, seat, (who, call))?;
+        self.news.tell(answer.is_some());
         Ok(told(answer))
     }
 
@@ -142,7 +151,8 @@ impl<M: Machine> Desk<M> {
         self.until_answered(rt, seat, Call::Await(u64::from(send.0)))
     }
 
-    /// Makes the call, and where it waits tries it again until it waits no more.
+    /// Makes the call, and where it waits tries it again until it waits no more. Between two tries it sleeps until another
+    /// seat has made an entry.
     fn until_answered<R: Wait>(
         &self,
         rt: &R,
@@ -160,9 +170,11 @@ impl<M: Machine> Desk<M> {
             return Ok(first);
         }
         for _ in rt.forever() {
+            let heard = self.news.ask();
             if let Told::Answered(answer) = self.turn(rt, seat, call)? {
                 return Ok(answer);
             }
+            self.news.sleep(rt, heard);
         }
         unreachable!()
     }
@@ -236,10 +248,10 @@ impl<M: Machine> Desk<M> {
         ensures missing { IfErr result (λ e. ¬ HasAllSeats self seats.items) }
         ensures untouched { IfErr result (λ e. (e.0 ≡ self) × (e.1.items ≡ seats.items)) }
     {
-        let Desk { lock } = self;
+        let Desk { lock, news } = self;
         match lock.close(seats) {
             Ok(shared) => Ok(shared.machine),
-            Err((lock, seats)) => Err((Desk { lock }, seats)),
+            Err((lock, seats)) => Err((Desk { lock, news }, seats)),
         }
     }
 }

@@ -2,6 +2,7 @@
 #![tactic(auto)]
 
 mod desk;
+mod news;
 mod shared;
 mod teller;
 

@@ -1,5 +1,5 @@
 -- What tellers know of the history of one machine, which others may share, and what a turn does.
-use Rattle.std.specs.Prelude.{◌≡◌, ◌≢◌, ◌⊎◌, ◌<◌, ◌≤◌, ℕ, true, false, [], ◌∷◌, ◌++◌, Option, Some, None}
+use Rattle.std.specs.Prelude.{◌≡◌, ◌≢◌, ◌⊎◌, ◌≤◌, ℕ, ◌+◌, true, false, [], ◌∷◌, ◌++◌, Option, Some, None}
 use Rattle.win_num.specs.declared.message.Thread.{Thread}
 use Rattle.user_model.specs.declared.call.Call.{Call}
 use Rattle.user_model.specs.declared.entry.Answer.{Answer}
@@ -28,10 +28,10 @@ whole_past view since = since ++ view.opening
 abbrev pub HasGrown : Past → Past → Type 0
 HasGrown early late = (newer : Past) × (late ≡ newer ++ early)
 
--- where looks are told, there are more of them now
-abbrev pub HasRisen : Option ℕ → Option ℕ → Type 0
-HasRisen None new = new ≡ None
-HasRisen (Some before) new = (now : ℕ) × (new ≡ Some now) × (before < now)
+-- where looks are told, there is exactly one more of them now
+abbrev pub IsOneMore : Option ℕ → Option ℕ → Type 0
+IsOneMore None new = new ≡ None
+IsOneMore (Some before) new = new ≡ Some (before + 1)
 
 -- where looks are told, there are no fewer of them now
 abbrev pub HasNotFallen : Option ℕ → Option ℕ → Type 0
@@ -60,9 +60,9 @@ pub record GoesOn (old new : TellerView) (serves : ℕ → Type 0) (who : ℕ) :
   pub others : (t : ℕ) → t ≢ who → serves t → new.mine t ≡ old.mine t
   pub remembers : (t : ℕ) → serves t → Remembers old new t
 
--- the actor has looked: its own entries are those in what it has seen
+-- the actor has had exactly one turn, in which it has looked: its own entries are those in what it has seen
 pub record HasLooked (old new : TellerView) (t : ℕ) : Type 0 where
-  pub looks : HasRisen (old.looks t) (new.looks t)
+  pub looks : IsOneMore (old.looks t) (new.looks t)
   pub faithful : IsFaithful new t
 
 -- the call was made, where so much had happened since the opening that there was room and the actor wasn't barred; its answer is the reply there, and its entry stands in front of all that

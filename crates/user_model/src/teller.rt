@@ -31,7 +31,8 @@ pub trait Teller {
 
     /// Makes the call, unless the actor is barred. The answer is the reply of the definitions at all that
     /// had happened before, and the call with its answer is the newest entry, unless the history is full.
-    /// After want of memory no entry was made, and the turn may be tried again.
+    /// It is exactly one turn: where looks are told, the actor has looked once more. After want of memory no entry was
+    /// made, and the turn may be tried again.
     fn turn(&mut self, who: Thread, call: Call) -> Result<Told, AllocError>
         requires { serves self.old who.0 }
         ensures goes_on { GoesOn (view self.old) (view self.new) (serves self.old) who.0 }
