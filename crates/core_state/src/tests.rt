@@ -41,10 +41,11 @@ fn a_new_state_has_no_window(rt: HostRuntime) -> Result<(), Fail> {
 fn a_new_state_has_no_class(rt: HostRuntime) -> Result<(), Fail> {
     let state = CoreState::new(rt.alloc(), Setup::new(2, 8, 4))?;
     assert!(rt; !state.has_class(1) && !state.is_used(1));
-    assert_eq!(rt; state.class_count(), 0usize);
+    assert!(rt; !state.classes_are_full());
     assert_eq!(rt; state.registered_count(), 0);
     assert_eq!(rt; state.message_number(1), None);
     assert_eq!(rt; state.message_count(), 0usize);
+    assert!(rt; !state.messages_are_full());
     Ok(())
 }
 
@@ -66,7 +67,7 @@ fn a_new_state_has_no_post(rt: HostRuntime) -> Result<(), Fail> {
 #[test]
 fn a_new_state_has_no_sends(rt: HostRuntime) -> Result<(), Fail> {
     let state = CoreState::new(rt.alloc(), Setup::new(2, 8, 4))?;
-    assert_eq!(rt; state.unfinished_count(), 0usize);
+    assert!(rt; !state.sends_are_full());
     assert_eq!(rt; state.next_send(), SendId(1));
     assert_eq!(rt; state.send_story(SendId(1)), SendStory::new());
     let count = state.send_count();
