@@ -206,7 +206,8 @@ impl Sends {
     /// Whether a thread's stack has room for a frame.
     pub fn has_room(&self, t: Thread) -> bool
         requires { IsThread self.now t.0 }
-        ensures { result ≡ nat_lt (length (stack_of self.now t.0)) 64 }
+        ensures room { result ≡ nat_lt (length (stack_of self.now t.0)) 64 }
+        ensures sound { IsSound self.now }
     {
         self.stacks[usize::from(t.0) - 1].has_room()
     }

@@ -1,5 +1,5 @@
 -- What an answer tells of its call, for sends, frames and what is served.
-use Rattle.std.proofs.Common.{◌≡◌, ℕ, Bool, true, false, sym}
+use Rattle.std.proofs.Common.{◌≡◌, ℕ, Bool, true, false, refl, sym}
 use Rattle.std.specs.Prelude.{◌⊎◌}
 use Rattle.std.proofs.lemmas.Bool.{false≢true}
 use Rattle.user_model.specs.declared.call.Call.{Call}
