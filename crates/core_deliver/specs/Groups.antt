@@ -1,27 +1,60 @@
 -- Which calls the layer of delivery answers.
 use Rattle.std.specs.Prelude.{Bool, true, false}
 use Rattle.user_model.specs.declared.call.Call.{Call}
-use Rattle.user_model.specs.declared.call.Call.TheVariants.{Peek, Get, Post, PostThread, PostQuit, Dispatch, Send, SendTimeout, SendNotify, SendCallback, Await, Leave, Reply, InSend, Message}
+use Rattle.user_model.specs.declared.call.Call.TheVariants.{Peek, Get, Post, PostThread, PostQuit, Dispatch, Send, SendTimeout, SendNotify, SendCallback, Await, Leave, Reply, InSend, Message, Register, Unregister, NewWindow, Doom, Unmake, Drop, NextTop, IsWindow, Parent, EndThread, Clock, SleepUntil, Yield, Tick, Advance}
+use Rattle.core_deliver.specs.declared.groups.Group.{Group}
+use Rattle.core_deliver.specs.declared.groups.Group.TheVariants.{Retrieval, Delivery, Other}
+
+-- the group of each call: it asks for a message; it posts, sends, hands a message to a procedure, is made inside or after a send,
+-- or registers a message; or the layer above answers it
+abbrev pub group_of : Call → Group
+group_of (Peek w min max flags) = Retrieval
+group_of (Get w min max) = Retrieval
+group_of (Post w number wparam lparam) = Delivery
+group_of (PostThread to number wparam lparam) = Delivery
+group_of (PostQuit code) = Delivery
+group_of (Dispatch w number wparam lparam) = Delivery
+group_of (Send w number wparam lparam) = Delivery
+group_of (SendTimeout w number wparam lparam flags ms) = Delivery
+group_of (SendNotify w number wparam lparam) = Delivery
+group_of (SendCallback w number wparam lparam proc_no extra) = Delivery
+group_of (Await s) = Delivery
+group_of (Leave v) = Delivery
+group_of (Reply v) = Delivery
+group_of InSend = Delivery
+group_of (Message name) = Delivery
+group_of (Register name proc_no colour) = Other
+group_of (Unregister name) = Other
+group_of (NewWindow class title parent style ex l t r b) = Other
+group_of (Doom w) = Other
+group_of (Unmake w) = Other
+group_of (Drop w) = Other
+group_of (NextTop w) = Other
+group_of (IsWindow w) = Other
+group_of (Parent w) = Other
+group_of EndThread = Other
+group_of Clock = Other
+group_of (SleepUntil time) = Other
+group_of Yield = Other
+group_of (Tick ms) = Other
+group_of Advance = Other
+
+-- whether the group is that of the calls that ask for a message
+abbrev pub are_retrievals : Group → Bool
+are_retrievals Retrieval = true
+are_retrievals Delivery = false
+are_retrievals Other = false
 
 -- whether the call asks for a message
 abbrev pub is_retrieval : Call → Bool
-is_retrieval (Peek w min max flags) = true
-is_retrieval (Get w min max) = true
-is_retrieval _ = false
+is_retrieval call = are_retrievals (group_of call)
 
--- whether the call posts, sends, hands a message to a procedure, or is made inside or after a send, or registers a message
+-- whether the group is that of the other calls of delivery
+abbrev pub are_deliveries : Group → Bool
+are_deliveries Retrieval = false
+are_deliveries Delivery = true
+are_deliveries Other = false
+
+-- whether the call is another one of delivery
 abbrev pub is_delivery : Call → Bool
-is_delivery (Post w number wparam lparam) = true
-is_delivery (PostThread t number wparam lparam) = true
-is_delivery (PostQuit code) = true
-is_delivery (Dispatch w number wparam lparam) = true
-is_delivery (Send w number wparam lparam) = true
-is_delivery (SendTimeout w number wparam lparam flags ms) = true
-is_delivery (SendNotify w number wparam lparam) = true
-is_delivery (SendCallback w number wparam lparam proc_no extra) = true
-is_delivery (Await s) = true
-is_delivery (Leave v) = true
-is_delivery (Reply v) = true
-is_delivery InSend = true
-is_delivery (Message name) = true
-is_delivery _ = false
+is_delivery call = are_deliveries (group_of call)

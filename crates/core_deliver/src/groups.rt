@@ -1,35 +1,74 @@
 //! Which calls this crate answers.
 
 ghost use Rattle.std.specs.Prelude.{◌≡◌};
-ghost use Rattle.core_deliver.specs.Groups.{is_delivery, is_retrieval};
+ghost use Rattle.core_deliver.specs.Groups.{group_of, is_delivery, is_retrieval};
 
 use user_model::Call;
+
+/// Who answers a call, and in which group.
+#[derive(Clone, Copy, Debug, PartialEq, Eq)]
+pub enum Group {
+    /// It asks for a message: a get or a peek.
+    Retrieval,
+    /// It posts, dispatches, sends, is made inside or after a send, or registers a message.
+    Delivery,
+    /// The layer above answers it.
+    Other,
+}
+
+/// The group of each call.
+fn group_of(call: Call) -> Group
+    ensures { result ≡ group_of call }
+{
+    match call {
+        Call::Peek(..) | Call::Get(..) => Group::Retrieval,
+        Call::Post(..)
+        | Call::PostThread(..)
+        | Call::PostQuit(..)
+        | Call::Dispatch(..)
+        | Call::Send(..)
+        | Call::SendTimeout(..)
+        | Call::SendNotify(..)
+        | Call::SendCallback(..)
+        | Call::Await(..)
+        | Call::Leave(..)
+        | Call::Reply(..)
+        | Call::InSend
+        | Call::Message(..) => Group::Delivery,
+        Call::Register(..)
+        | Call::Unregister(..)
+        | Call::NewWindow(..)
+        | Call::Doom(..)
+        | Call::Unmake(..)
+        | Call::Drop(..)
+        | Call::NextTop(..)
+        | Call::IsWindow(..)
+        | Call::Parent(..)
+        | Call::EndThread
+        | Call::Clock
+        | Call::SleepUntil(..)
+        | Call::Yield
+        | Call::Tick(..)
+        | Call::Advance => Group::Other,
+    }
+}
 
 /// Whether the call asks for a message: a get or a peek.
 pub fn is_retrieval(call: Call) -> bool
     ensures { result ≡ is_retrieval call }
 {
-    matches!(call, Call::Peek(..) | Call::Get(..))
+    match group_of(call) {
+        Group::Retrieval => true,
+        Group::Delivery | Group::Other => false,
+    }
 }
 
 /// Whether the call posts, dispatches, sends, is made inside or after a send, or registers a message.
 pub fn is_delivery(call: Call) -> bool
     ensures { result ≡ is_delivery call }
 {
-    matches!(
-        call,
-        Call::Post(..)
-            | Call::PostThread(..)
-            | Call::PostQuit(..)
-            | Call::Dispatch(..)
-            | Call::Send(..)
-            | Call::SendTimeout(..)
-            | Call::SendNotify(..)
-            | Call::SendCallback(..)
-            | Call::Await(..)
-            | Call::Leave(..)
-            | Call::Reply(..)
-            | Call::InSend
-            | Call::Message(..)
-    )
+    match group_of(call) {
+        Group::Delivery => true,
+        Group::Retrieval | Group::Other => false,
+    }
 }

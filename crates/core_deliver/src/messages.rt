@@ -7,9 +7,6 @@ use core_state::CoreState;
 use user_model::Answer;
 use win_num::Code;
 
-/// How many messages may be registered.
-const MESSAGE_LIMIT: usize = 16384;
-
 /// The number of the first registered message (Microsoft, RegisterWindowMessage function).
 const FIRST_MESSAGE: u64 = 49152;
 
@@ -20,9 +17,8 @@ pub fn message_answer(state: &CoreState, name: u32) -> Answer
     if let Some(number) = state.message_number(name) {
         return Answer::Value(u64::from(number));
     }
-    let count = state.message_count();
-    if count >= MESSAGE_LIMIT {
+    if state.messages_are_full() {
         return Answer::Refused(Code::Full);
     }
-    Answer::Value(FIRST_MESSAGE + count as u64)
+    Answer::Value(FIRST_MESSAGE + state.message_count() as u64)
 }

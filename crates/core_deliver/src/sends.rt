@@ -16,13 +16,11 @@ use win_num::{Cause, Code, Frame, Kind, SendId};
 /// The greatest number of a message.
 const LAST_MESSAGE: u64 = 65535;
 
-/// The greatest time in milliseconds, and the bits of a timeout send's flags.
+/// The greatest time in milliseconds.
 const LAST_TIME: u64 = 4294967295;
 
+/// The bits of a timeout send's flags.
 const LAST_FLAG: u64 = 1;
-
-/// How many sends may be unfinished.
-const SEND_LIMIT: usize = 1024;
 
 /// What `in_send` adds where the send has an answer (Microsoft, InSendMessageEx function, ISMEX_REPLIED).
 const REPLIED: u64 = 8;
@@ -56,7 +54,7 @@ fn send_if_room(state: &CoreState, who: u8, w: u64) -> Answer
     requires { is_full state.now.past ≡ false }
     ensures { result ≡ send_if_room state.now.past who w }
 {
-    if state.unfinished_count() >= SEND_LIMIT {
+    if state.sends_are_full() {
         return Answer::Refused(Code::Full);
     }
     let send = state.next_send();

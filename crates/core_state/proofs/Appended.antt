@@ -21,10 +21,10 @@ use Rattle.user_model.specs.Threads.{is_running}
 use Rattle.user_model.proofs.DeliveryReplies.{post_told}
 use Rattle.user_model.proofs.ReplyLaws.{by_row}
 use Rattle.core_state.specs.Changes.{Change, changed, noted, count_kept, time_kept}
-use Rattle.core_state.specs.Deliveries.{growth_in, settling_in}
-use Rattle.window_state.specs.Effects.{IsGrownBy, grown_classes, settled_classes, settled_tree}
+use Rattle.core_state.specs.Deliveries.{adding_in, effect_in}
+use Rattle.window_state.specs.Effects.{IsAddedBy, added_classes, affected_classes, affected_tree}
 use Rattle.window_state.specs.Needs.{FitsNaming, FitsUnmaking}
-use Rattle.core_state.specs.Needs.{FitsCarrying, FitsGrowth, FitsSettling, IsOne}
+use Rattle.core_state.specs.Needs.{FitsCarrying, FitsAdding, FitsEffect, IsOne}
 use Rattle.thread_state.specs.Threads.{ThreadView, thread_at}
 use Rattle.send_state.specs.Parts.{SendParts}
 use Rattle.send_state.specs.Standing.{PartsStand}
@@ -32,7 +32,7 @@ use Rattle.send_state.specs.Stories.{EachStory, noted_answer, with_begun}
 use Rattle.send_state.specs.Tallies.{FitsTally, first_cause, named_send, tallied}
 use Rattle.user_model.specs.declared.story.SendStory.{SendStory}
 use Rattle.send_state.specs.declared.tally.Tally.{Tally}
-use Rattle.core_state.specs.Sendings.{FitsGrownSends, FitsSettledSends, grown_sends, losses_by, noted_losses, settled_sends}
+use Rattle.core_state.specs.Sendings.{FitsAddedSends, FitsSendEffect, added_sends, losses_by, noted_losses, affected_sends}
 use Rattle.core_state.proofs.SendCounts.{counts_after, grown_losses, losses_few, same_losses, tally_fits}
 use Rattle.core_state.proofs.SendLosses.{dropped_stand, ended_stand}
 use Rattle.core_state.proofs.SendNeeds.{grown_fits, settled_fits}
@@ -48,17 +48,17 @@ use Rattle.window_state.proofs.TreeSteps.{tree_after}
 
 -- ---- what a change needs
 
-growth_by : (setup : Setup) (past : Past) (p : Parts) (point : Point) (who : Thread) (a : Answer) (call : Call) → Stands setup past p → point ≡ cursor past → a ≡ reply setup past who.0 call → FitsGrowth p.classes p.tree p.threads p.time point who.0 a call
-growth_by setup past p point who (answers.Posted k) call st at right =
+adding_by : (setup : Setup) (past : Past) (p : Parts) (point : Point) (who : Thread) (a : Answer) (call : Call) → Stands setup past p → point ≡ cursor past → a ≡ reply setup past who.0 call → FitsAdding p.classes p.tree p.threads p.time point who.0 a call
+adding_by setup past p point who (answers.Posted k) call st at right =
     let row = by_row setup past who.0 call (answers.Posted k) (sym right) refl in
     let post = post_told setup past who.0 call k row.is_row in
     (fits_post setup past p.tree.live who.0 k call post st.tree.windows, fits_posting setup past p.threads p.tree.live p.time point who.0 k call post st.lawful st.count st.each row.running st.tree.windows st.clock at)
-growth_by setup past p point who (answers.Value n) call st at right = subst (λ (t : ClassTable). FitsNaming t call) (sym st.classes) (fits_naming setup past who.0 n call (sym right))
-growth_by setup past p point who (answers.Window w) call st at right = fits_making setup past p.tree who w call st.lawful st.tree (sym right)
-growth_by setup past p point who _ call st at right = tt
+adding_by setup past p point who (answers.Value n) call st at right = subst (λ (t : ClassTable). FitsNaming t call) (sym st.classes) (fits_naming setup past who.0 n call (sym right))
+adding_by setup past p point who (answers.Window w) call st at right = fits_making setup past p.tree who w call st.lawful st.tree (sym right)
+adding_by setup past p point who _ call st at right = tt
 
-pub growth_fits : (setup : Setup) (past : Past) (p : Parts) (point : Point) (e : Entry) → Stands setup past p → point ≡ cursor past → e.answer ≡ reply setup past e.who.0 e.call → FitsGrowth p.classes p.tree p.threads p.time point e.who.0 e.answer e.call
-growth_fits setup past p point e st at right = growth_by setup past p point e.who e.answer e.call st at right
+pub growth_fits : (setup : Setup) (past : Past) (p : Parts) (point : Point) (e : Entry) → Stands setup past p → point ≡ cursor past → e.answer ≡ reply setup past e.who.0 e.call → FitsAdding p.classes p.tree p.threads p.time point e.who.0 e.answer e.call
+growth_fits setup past p point e st at right = adding_by setup past p point e.who e.answer e.call st at right
 
 -- a thread that runs, after a change that keeps the count of threads
 one_of : (setup : Setup) (past : Past) (p : Parts) (threads : List ThreadView) (t : ℕ) → Stands setup past p → length threads ≡ length p.threads → is_running setup past t ≡ true → IsOne threads t
@@ -73,73 +73,73 @@ carrying_by setup past p classes tree threads who (calls.Drop w) st right same_c
     (one_of setup past p threads who.0 st same (by_row setup past who.0 (calls.Drop w) answers.Okay (sym right) refl).running, ap (λ (t : Windows). drop_refusal t.live w) same_tree ∙ drop_not_refused setup past p.tree who.0 w st.tree (sym right))
 carrying_by setup past p classes tree threads who _ st right same_classes same_tree same = tt
 
-settling_by : (setup : Setup) (past : Past) (p : Parts) (classes : ClassTable) (tree : Windows) (threads : List ThreadView) (who : Thread) (a : Answer) (call : Call) → Stands setup past p → a ≡ reply setup past who.0 call → classes ≡ grown_classes a call p.classes → IsGrownBy who.0 a call p.tree tree → length threads ≡ length p.threads → FitsSettling classes tree threads who.0 a call
-settling_by setup past p classes tree threads who answers.Okay call st right grown made same = carrying_by setup past p classes tree threads who call st right grown made same
-settling_by setup past p classes tree threads who (answers.Tell v) call st right grown made same = subst (λ (t : Windows). FitsUnmaking t call) (sym made) (fits_unmaking setup past p.tree who (answers.Tell v) call st.tree (sym right) refl)
-settling_by setup past p classes tree threads who (answers.Last v) call st right grown made same = subst (λ (t : Windows). FitsUnmaking t call) (sym made) (fits_unmaking setup past p.tree who (answers.Last v) call st.tree (sym right) refl)
-settling_by setup past p classes tree threads who (answers.Got o n m) call st right grown made same = one_of setup past p threads who.0 st same (by_row setup past who.0 call (answers.Got o n m) (sym right) refl).running
-settling_by setup past p classes tree threads who answers.Ended call st right grown made same = one_of setup past p threads who.0 st same (by_row setup past who.0 call answers.Ended (sym right) refl).running
-settling_by setup past p classes tree threads who _ call st right grown made same = tt
+effect_by : (setup : Setup) (past : Past) (p : Parts) (classes : ClassTable) (tree : Windows) (threads : List ThreadView) (who : Thread) (a : Answer) (call : Call) → Stands setup past p → a ≡ reply setup past who.0 call → classes ≡ added_classes a call p.classes → IsAddedBy who.0 a call p.tree tree → length threads ≡ length p.threads → FitsEffect classes tree threads who.0 a call
+effect_by setup past p classes tree threads who answers.Okay call st right grown made same = carrying_by setup past p classes tree threads who call st right grown made same
+effect_by setup past p classes tree threads who (answers.Tell v) call st right grown made same = subst (λ (t : Windows). FitsUnmaking t call) (sym made) (fits_unmaking setup past p.tree who (answers.Tell v) call st.tree (sym right) refl)
+effect_by setup past p classes tree threads who (answers.Last v) call st right grown made same = subst (λ (t : Windows). FitsUnmaking t call) (sym made) (fits_unmaking setup past p.tree who (answers.Last v) call st.tree (sym right) refl)
+effect_by setup past p classes tree threads who (answers.Got o n m) call st right grown made same = one_of setup past p threads who.0 st same (by_row setup past who.0 call (answers.Got o n m) (sym right) refl).running
+effect_by setup past p classes tree threads who answers.Ended call st right grown made same = one_of setup past p threads who.0 st same (by_row setup past who.0 call answers.Ended (sym right) refl).running
+effect_by setup past p classes tree threads who _ call st right grown made same = tt
 
-pub settling_fits : (setup : Setup) (past : Past) (p : Parts) (e : Entry) (classes : ClassTable) (tree : Windows) (threads : List ThreadView) → Stands setup past p → e.answer ≡ reply setup past e.who.0 e.call → classes ≡ grown_classes e.answer e.call p.classes → IsGrownBy e.who.0 e.answer e.call p.tree tree → length threads ≡ length p.threads → FitsSettling classes tree threads e.who.0 e.answer e.call
-settling_fits setup past p e classes tree threads st right grown made same = settling_by setup past p classes tree threads e.who e.answer e.call st right grown made same
+pub settling_fits : (setup : Setup) (past : Past) (p : Parts) (e : Entry) (classes : ClassTable) (tree : Windows) (threads : List ThreadView) → Stands setup past p → e.answer ≡ reply setup past e.who.0 e.call → classes ≡ added_classes e.answer e.call p.classes → IsAddedBy e.who.0 e.answer e.call p.tree tree → length threads ≡ length p.threads → FitsEffect classes tree threads e.who.0 e.answer e.call
+settling_fits setup past p e classes tree threads st right grown made same = effect_by setup past p classes tree threads e.who e.answer e.call st right grown made same
 
 -- ---- the parts after an entry
 
 -- an answer that makes a window changes nothing else
-same_settling : (who : ℕ) (a : Answer) (call : Call) (old new : Windows) → IsGrownBy who a call old new → settling_in new.live who a call ≡ settling_in old.live who a call
+same_settling : (who : ℕ) (a : Answer) (call : Call) (old new : Windows) → IsAddedBy who a call old new → effect_in new.live who a call ≡ effect_in old.live who a call
 same_settling who (answers.Window w) call old new made = refl
-same_settling who a call old new made = ap (λ (t : Windows). settling_in t.live who a call) made
+same_settling who a call old new made = ap (λ (t : Windows). effect_in t.live who a call) made
 
 -- what is kept of a thread follows the past
-thread_step : (setup : Setup) (past : Past) (p : Parts) (point : Point) (e : Entry) (tree : Windows) (t : ℕ) → Stands setup past p → point ≡ cursor past → e.answer ≡ reply setup past e.who.0 e.call → IsGrownBy e.who.0 e.answer e.call p.tree tree
-    → noted t e (changed t (settling_in tree.live e.who.0 e.answer e.call) (changed t (growth_in p.tree.live p.time point e.who.0 e.answer e.call) (thread_at past t))) ≡ thread_at (e ∷ past) t
+thread_step : (setup : Setup) (past : Past) (p : Parts) (point : Point) (e : Entry) (tree : Windows) (t : ℕ) → Stands setup past p → point ≡ cursor past → e.answer ≡ reply setup past e.who.0 e.call → IsAddedBy e.who.0 e.answer e.call p.tree tree
+    → noted t e (changed t (effect_in tree.live e.who.0 e.answer e.call) (changed t (adding_in p.tree.live p.time point e.who.0 e.answer e.call) (thread_at past t))) ≡ thread_at (e ∷ past) t
 thread_step setup past p point e tree t st at right made =
-    ap (λ (c : Change). noted t e (changed t c (changed t (growth_in p.tree.live p.time point e.who.0 e.answer e.call) (thread_at past t)))) (same_settling e.who.0 e.answer e.call p.tree tree made)
+    ap (λ (c : Change). noted t e (changed t c (changed t (adding_in p.tree.live p.time point e.who.0 e.answer e.call) (thread_at past t)))) (same_settling e.who.0 e.answer e.call p.tree tree made)
     ∙ ap (noted t e) (both_changes past p.tree.live p.time point t e.who.0 e.answer e.call (thread_at past t) st.tree.windows st.clock at)
     ∙ thread-next setup past t e st.lawful right
 
-same_sends_by : (old new : Windows) (place who : ℕ) (a : Answer) (call : Call) (q : SendParts) → IsGrownBy who a call old new → settled_sends new.live place who a call q ≡ settled_sends old.live place who a call q
+same_sends_by : (old new : Windows) (place who : ℕ) (a : Answer) (call : Call) (q : SendParts) → IsAddedBy who a call old new → affected_sends new.live place who a call q ≡ affected_sends old.live place who a call q
 same_sends_by old new place who (answers.Window w) call q made = refl
-same_sends_by old new place who a call q made = ap (λ (t : Windows). settled_sends t.live place who a call q) made
+same_sends_by old new place who a call q made = ap (λ (t : Windows). affected_sends t.live place who a call q) made
 
-same_sends : (old new : Windows) (time place : ℕ) (e : Entry) (q : SendParts) → IsGrownBy e.who.0 e.answer e.call old new → settled_sends new.live place e.who.0 e.answer e.call q ≡ settled_sends old.live place e.who.0 e.answer e.call q
+same_sends : (old new : Windows) (time place : ℕ) (e : Entry) (q : SendParts) → IsAddedBy e.who.0 e.answer e.call old new → affected_sends new.live place e.who.0 e.answer e.call q ≡ affected_sends old.live place e.who.0 e.answer e.call q
 same_sends old new time place e q made = same_sends_by old new place e.who.0 e.answer e.call q made
 
 -- the sends that were brought up to date
 sends_now : (setup : Setup) (past : Past) (p : Parts) (e : Entry) (place : ℕ) → IsLawful setup (e ∷ past) → Stands setup past p → place ≡ place_after past
-    → PartsStand setup (e ∷ past) (settled_sends p.tree.live place e.who.0 e.answer e.call (grown_sends p.tree.live p.time place e.who e.answer e.call p.sends))
+    → PartsStand setup (e ∷ past) (affected_sends p.tree.live place e.who.0 e.answer e.call (added_sends p.tree.live p.time place e.who e.answer e.call p.sends))
 sends_now setup past p e place lawful st here =
-    subst (λ n. PartsStand setup (e ∷ past) (settled_sends p.tree.live n e.who.0 e.answer e.call (grown_sends p.tree.live p.time n e.who e.answer e.call p.sends))) (sym here)
-    (subst (λ c. PartsStand setup (e ∷ past) (settled_sends p.tree.live (place_after past) e.who.0 e.answer e.call (grown_sends p.tree.live c (place_after past) e.who e.answer e.call p.sends))) (sym st.clock)
+    subst (λ n. PartsStand setup (e ∷ past) (affected_sends p.tree.live n e.who.0 e.answer e.call (added_sends p.tree.live p.time n e.who e.answer e.call p.sends))) (sym here)
+    (subst (λ c. PartsStand setup (e ∷ past) (affected_sends p.tree.live (place_after past) e.who.0 e.answer e.call (added_sends p.tree.live c (place_after past) e.who e.answer e.call p.sends))) (sym st.clock)
     (sends_after setup past e p.sends p.tree.live lawful st.sends st.tree.windows (λ w is_call is. dropped_stand setup past e p.sends p.tree.live w lawful st.sends st.tree.windows is_call is) (λ is. ended_stand setup past e p.sends p.tree.live lawful st.sends st.tree.windows is)))
 
 -- what the sends need
-pub sends_grow : (setup : Setup) (past : Past) (p : Parts) (e : Entry) (place : ℕ) → is_full past ≡ false → Stands setup past p → e.answer ≡ reply setup past e.who.0 e.call → place ≡ place_after past → FitsGrownSends p.tree.live p.time place e.who e.answer e.call p.sends
+pub sends_grow : (setup : Setup) (past : Past) (p : Parts) (e : Entry) (place : ℕ) → is_full past ≡ false → Stands setup past p → e.answer ≡ reply setup past e.who.0 e.call → place ≡ place_after past → FitsAddedSends p.tree.live p.time place e.who e.answer e.call p.sends
 sends_grow setup past p e place room st right here =
-    subst (λ n. FitsGrownSends p.tree.live p.time n e.who e.answer e.call p.sends) (sym here)
-    (subst (λ c. FitsGrownSends p.tree.live c (place_after past) e.who e.answer e.call p.sends) (sym st.clock) (grown_fits setup past e p.sends p.tree.live st.lawful room right st.sends st.tree.windows))
+    subst (λ n. FitsAddedSends p.tree.live p.time n e.who e.answer e.call p.sends) (sym here)
+    (subst (λ c. FitsAddedSends p.tree.live c (place_after past) e.who e.answer e.call p.sends) (sym st.clock) (grown_fits setup past e p.sends p.tree.live st.lawful room right st.sends st.tree.windows))
 
-same_needs : (old new : Windows) (place who : ℕ) (a : Answer) (call : Call) (q : SendParts) → IsGrownBy who a call old new → FitsSettledSends old.live place who a call q → FitsSettledSends new.live place who a call q
+same_needs : (old new : Windows) (place who : ℕ) (a : Answer) (call : Call) (q : SendParts) → IsAddedBy who a call old new → FitsSendEffect old.live place who a call q → FitsSendEffect new.live place who a call q
 same_needs old new place who (answers.Window w) call q made fits = fits
-same_needs old new place who a call q made fits = subst (λ (t : Windows). FitsSettledSends t.live place who a call q) (sym made) fits
+same_needs old new place who a call q made fits = subst (λ (t : Windows). FitsSendEffect t.live place who a call q) (sym made) fits
 
-pub sends_settle : (setup : Setup) (past : Past) (p : Parts) (e : Entry) (place : ℕ) (tree : Windows) (sends : SendParts) → is_full past ≡ false → Stands setup past p → e.answer ≡ reply setup past e.who.0 e.call → place ≡ place_after past → IsGrownBy e.who.0 e.answer e.call p.tree tree → sends ≡ grown_sends p.tree.live p.time place e.who e.answer e.call p.sends → FitsSettledSends tree.live place e.who.0 e.answer e.call sends
+pub sends_settle : (setup : Setup) (past : Past) (p : Parts) (e : Entry) (place : ℕ) (tree : Windows) (sends : SendParts) → is_full past ≡ false → Stands setup past p → e.answer ≡ reply setup past e.who.0 e.call → place ≡ place_after past → IsAddedBy e.who.0 e.answer e.call p.tree tree → sends ≡ added_sends p.tree.live p.time place e.who e.answer e.call p.sends → FitsSendEffect tree.live place e.who.0 e.answer e.call sends
 sends_settle setup past p e place tree sends room st right here made begun =
     same_needs p.tree tree place e.who.0 e.answer e.call sends made
-    (subst (FitsSettledSends p.tree.live place e.who.0 e.answer e.call) (sym begun)
-    (subst (λ n. FitsSettledSends p.tree.live n e.who.0 e.answer e.call (grown_sends p.tree.live p.time n e.who e.answer e.call p.sends)) (sym here)
-    (subst (λ c. FitsSettledSends p.tree.live (place_after past) e.who.0 e.answer e.call (grown_sends p.tree.live c (place_after past) e.who e.answer e.call p.sends)) (sym st.clock)
+    (subst (FitsSendEffect p.tree.live place e.who.0 e.answer e.call) (sym begun)
+    (subst (λ n. FitsSendEffect p.tree.live n e.who.0 e.answer e.call (added_sends p.tree.live p.time n e.who e.answer e.call p.sends)) (sym here)
+    (subst (λ c. FitsSendEffect p.tree.live (place_after past) e.who.0 e.answer e.call (added_sends p.tree.live c (place_after past) e.who e.answer e.call p.sends)) (sym st.clock)
     (settled_fits setup past e p.sends p.tree.live st.lawful room right st.sends st.tree.windows))))
 
 -- what was lost after what grew
-losses_now : (p : Parts) (e : Entry) (place : ℕ) (tree : Windows) (sends : SendParts) → IsGrownBy e.who.0 e.answer e.call p.tree tree → sends ≡ grown_sends p.tree.live p.time place e.who e.answer e.call p.sends → losses_by tree.live place e.who.0 e.answer e.call sends ≡ losses_by p.tree.live place e.who.0 e.answer e.call p.sends
+losses_now : (p : Parts) (e : Entry) (place : ℕ) (tree : Windows) (sends : SendParts) → IsAddedBy e.who.0 e.answer e.call p.tree tree → sends ≡ added_sends p.tree.live p.time place e.who e.answer e.call p.sends → losses_by tree.live place e.who.0 e.answer e.call sends ≡ losses_by p.tree.live place e.who.0 e.answer e.call p.sends
 losses_now p e place tree sends made begun =
     same_losses p.tree tree place e.who.0 e.answer e.call sends made
     ∙ ap (losses_by p.tree.live place e.who.0 e.answer e.call) begun ∙ grown_losses p.tree.live p.time place e.who e.answer e.call p.sends
 
 -- the counts have room for one entry more
-pub tally_step : (setup : Setup) (past : Past) (p : Parts) (e : Entry) (place lost : ℕ) (tree : Windows) (sends : SendParts) → Stands setup past p → e.answer ≡ reply setup past e.who.0 e.call → place ≡ place_after past → IsGrownBy e.who.0 e.answer e.call p.tree tree → sends ≡ grown_sends p.tree.live p.time place e.who e.answer e.call p.sends → lost ≡ losses_by tree.live place e.who.0 e.answer e.call sends → FitsTally p.tally lost
+pub tally_step : (setup : Setup) (past : Past) (p : Parts) (e : Entry) (place lost : ℕ) (tree : Windows) (sends : SendParts) → Stands setup past p → e.answer ≡ reply setup past e.who.0 e.call → place ≡ place_after past → IsAddedBy e.who.0 e.answer e.call p.tree tree → sends ≡ added_sends p.tree.live p.time place e.who e.answer e.call p.sends → lost ≡ losses_by tree.live place e.who.0 e.answer e.call sends → FitsTally p.tally lost
 tally_step setup past p e place lost tree sends st right here made begun counted =
     let same = counted ∙ losses_now p e place tree sends made begun ∙ ap (λ n. losses_by p.tree.live n e.who.0 e.answer e.call p.sends) here in
     tally_fits past p.tally lost st.tally st.short (subst (λ n. n ≤ 1024) (sym same) (losses_few setup past e p.sends p.tree.live (st.lawful, right) st.sends st.tree.windows))
@@ -147,12 +147,12 @@ tally_step setup past p e place lost tree sends st right here made begun counted
 -- the parts that were brought up to date stand for the past with the entry
 pub stands_step : (setup : Setup) (past : Past) (p : Parts) (point : Point) (e : Entry) (classes1 classes2 : ClassTable) (tree1 tree2 : Windows) (threads1 threads2 threads3 : List ThreadView) (sends1 sends2 : SendParts) (first : Option Cause) (lost : ℕ) (tally : Tally) (stories1 stories2 stories3 : List SendStory) (place : ℕ)
     → is_full past ≡ false → e.answer ≡ reply setup past e.who.0 e.call → Stands setup past p → point ≡ cursor past
-    → classes1 ≡ grown_classes e.answer e.call p.classes → classes2 ≡ settled_classes e.answer e.call classes1
-    → IsGrownBy e.who.0 e.answer e.call p.tree tree1 → tree2 ≡ settled_tree e.who.0 e.answer e.call tree1
-    → EachBy (λ t. changed t (growth_in p.tree.live p.time point e.who.0 e.answer e.call)) p.threads threads1
-    → EachBy (λ t. changed t (settling_in tree1.live e.who.0 e.answer e.call)) threads1 threads2
+    → classes1 ≡ added_classes e.answer e.call p.classes → classes2 ≡ affected_classes e.answer e.call classes1
+    → IsAddedBy e.who.0 e.answer e.call p.tree tree1 → tree2 ≡ affected_tree e.who.0 e.answer e.call tree1
+    → EachBy (λ t. changed t (adding_in p.tree.live p.time point e.who.0 e.answer e.call)) p.threads threads1
+    → EachBy (λ t. changed t (effect_in tree1.live e.who.0 e.answer e.call)) threads1 threads2
     → EachBy (λ t. noted t e) threads2 threads3
-    → sends1 ≡ grown_sends p.tree.live p.time place e.who e.answer e.call p.sends → sends2 ≡ settled_sends tree1.live place e.who.0 e.answer e.call sends1 → place ≡ place_after past
+    → sends1 ≡ added_sends p.tree.live p.time place e.who e.answer e.call p.sends → sends2 ≡ affected_sends tree1.live place e.who.0 e.answer e.call sends1 → place ≡ place_after past
     → first ≡ first_cause p.sends e.who.0 e.answer e.call → lost ≡ losses_by tree1.live place e.who.0 e.answer e.call sends1 → tally ≡ tallied e.answer first lost p.tally
     → stories1 ≡ with_begun e.answer p.stories → EachStory (noted_losses tree1.live place e.who.0 e.answer e.call sends1) stories1 stories2 → EachStory (noted_answer e.answer (named_send p.sends e.who.0 e.answer e.call) place) stories2 stories3
     → Stands setup (e ∷ past) (parts tree2 classes2 threads3 (count_kept e.answer p.post_count) (time_kept e p.time) sends2 tally stories3)
@@ -160,7 +160,7 @@ stands_step setup past p point e classes1 classes2 tree1 tree2 threads1 threads2
   lawful = (st.lawful, right);
   short = grind (arith, nat_tests, room);
   tree = tree_after setup past e p.tree tree1 tree2 st.lawful st.tree right made given;
-  classes = settled ∙ ap (settled_classes e.answer e.call) (grown ∙ ap (grown_classes e.answer e.call) st.classes) ∙ sym (classes_after setup past e right);
+  classes = settled ∙ ap (affected_classes e.answer e.call) (grown ∙ ap (added_classes e.answer e.call) st.classes) ∙ sym (classes_after setup past e right);
   count = note.same_length ∙ second.same_length ∙ first.same_length ∙ st.count;
   each = record {
     at = λ i d lt.
@@ -168,12 +168,12 @@ stands_step setup past p point e classes1 classes2 tree1 tree2 threads1 threads2
         let lt1 : i < length threads1 = omega (arith, lt2, second.same_length) in
         let lt0 : i < length p.threads = omega (arith, lt1, first.same_length) in
         note.at i d lt2
-        ∙ ap (noted (i + 1) e) (second.at i d lt1 ∙ ap (changed (i + 1) (settling_in tree1.live e.who.0 e.answer e.call)) (first.at i d lt0 ∙ ap (changed (i + 1) (growth_in p.tree.live p.time point e.who.0 e.answer e.call)) (st.each.at i d lt0)))
+        ∙ ap (noted (i + 1) e) (second.at i d lt1 ∙ ap (changed (i + 1) (effect_in tree1.live e.who.0 e.answer e.call)) (first.at i d lt0 ∙ ap (changed (i + 1) (adding_in p.tree.live p.time point e.who.0 e.answer e.call)) (st.each.at i d lt0)))
         ∙ thread_step setup past p point e tree1 (i + 1) st at right made;
   };
   posts = ap (count_kept e.answer) st.posts ∙ count_kept-next setup past e right;
   clock = ap (time_kept e) st.clock ∙ time_kept-next e past;
-  sends = subst (PartsStand setup (e ∷ past)) (sym (left ∙ same_sends p.tree tree1 p.time place e sends1 made ∙ ap (settled_sends p.tree.live place e.who.0 e.answer e.call) begun))
+  sends = subst (PartsStand setup (e ∷ past)) (sym (left ∙ same_sends p.tree tree1 p.time place e sends1 made ∙ ap (affected_sends p.tree.live place e.who.0 e.answer e.call) begun))
       (sends_now setup past p e place (st.lawful, right) st here);
   tally = noted_tally ∙ ap (λ (c : Option Cause). tallied e.answer c lost p.tally) named ∙ ap (λ n. tallied e.answer (first_cause p.sends e.who.0 e.answer e.call) n p.tally) (counted ∙ losses_now p e place tree1 sends1 made begun ∙ ap (λ n. losses_by p.tree.live n e.who.0 e.answer e.call p.sends) here)
       ∙ ap (tallied e.answer (first_cause p.sends e.who.0 e.answer e.call) (losses_by p.tree.live (place_after past) e.who.0 e.answer e.call p.sends)) st.tally

@@ -24,17 +24,17 @@ use Rattle.user_model.specs.Windows.{Window, live, find_window, is_live, thread_
 use Rattle.user_model.specs.Filters.{passes_window}
 use Rattle.user_model.specs.Refusals.{is_no_message}
 use Rattle.user_model.specs.Posts.{PostedMsg, message, posted, passes, first_post, queue_of}
+use Rattle.user_model.proofs.AnswerFacts.{IsPost}
 use Rattle.user_model.specs.ReplyDelivery.{is_no_post_window}
 use Rattle.user_model.specs.Legal.{IsLawful}
 use Rattle.user_model.proofs.ReplyLaws.{not_false}
-use Rattle.user_model.proofs.DeliveryReplies.{IsPost}
 use Rattle.user_model.proofs.PostOwners.{message_of, post_runs}
 use Rattle.window_state.specs.Trees.{as_made}
 use Rattle.thread_state.specs.Threads.{ThreadView, as_kept, queue_at, thread_at, told_post}
 use Rattle.core_state.specs.Changes.{Change, posts as posts_one, purges, change_by, changed, kin_of}
 use Rattle.thread_state.specs.Passing.{passes_window_in, passes_here, passes_in}
 use Rattle.window_state.specs.Trees.{thread_in}
-use Rattle.core_state.specs.Deliveries.{posting, FitsPost, kin_in, change_of_post, growth_in, carried_in, settling_in}
+use Rattle.core_state.specs.Deliveries.{posting, FitsPost, kin_in, change_of_post, adding_in, carried_in, effect_in}
 use Rattle.core_state.specs.Needs.{IsOne, HasRoom, FitsPosting}
 use Rattle.core_state.specs.States.{EachThread}
 use Rattle.window_state.proofs.Bridges.{window_made, live_made, kin_made, below_made, filter_made}
@@ -107,7 +107,7 @@ carried_same past ws who (Drop v) e = ap (purges who) (kin_in-is past ws v e)
 carried_same past ws who (PostQuit code) e = refl
 carried_same past ws who _ e = refl
 
-both_now : (past : Past) (ws : List KeptWindow) (t who : ℕ) (a : Answer) (call : Call) (v : ThreadView) → map as_made ws ≡ live past → changed t (settling_in ws who a call) (changed t (growth_in ws (clock past) (cursor past) who a call) v) ≡ changed t (change_by past who a call) v
+both_now : (past : Past) (ws : List KeptWindow) (t who : ℕ) (a : Answer) (call : Call) (v : ThreadView) → map as_made ws ≡ live past → changed t (effect_in ws who a call) (changed t (adding_in ws (clock past) (cursor past) who a call) v) ≡ changed t (change_by past who a call) v
 both_now past ws t who (answers.Posted k) call v e = ap (λ (c : Change). changed t c v) (growth_same past ws who k call e)
 both_now past ws t who answers.Okay call v e = ap (λ (c : Change). changed t c v) (carried_same past ws who call e)
 both_now past ws t who (answers.Got origins.Posted n m) call v e = refl
@@ -115,10 +115,10 @@ both_now past ws t who (answers.Got origins.Quit n m) call v e = refl
 both_now past ws t who _ call v e = refl
 
 -- what is added and then what is settled make the change of the entry
-pub both_changes : (past : Past) (ws : List KeptWindow) (time : ℕ) (point : Point) (t who : ℕ) (a : Answer) (call : Call) (v : ThreadView) → map as_made ws ≡ live past → time ≡ clock past → point ≡ cursor past → changed t (settling_in ws who a call) (changed t (growth_in ws time point who a call) v) ≡ changed t (change_by past who a call) v
+pub both_changes : (past : Past) (ws : List KeptWindow) (time : ℕ) (point : Point) (t who : ℕ) (a : Answer) (call : Call) (v : ThreadView) → map as_made ws ≡ live past → time ≡ clock past → point ≡ cursor past → changed t (effect_in ws who a call) (changed t (adding_in ws time point who a call) v) ≡ changed t (change_by past who a call) v
 both_changes past ws time point t who a call v e now at =
-    ap (λ (c : ℕ). changed t (settling_in ws who a call) (changed t (growth_in ws c point who a call) v)) now
-    ∙ ap (λ (c : Point). changed t (settling_in ws who a call) (changed t (growth_in ws (clock past) c who a call) v)) at
+    ap (λ (c : ℕ). changed t (effect_in ws who a call) (changed t (adding_in ws c point who a call) v)) now
+    ∙ ap (λ (c : Point). changed t (effect_in ws who a call) (changed t (adding_in ws (clock past) c who a call) v)) at
     ∙ both_now past ws t who a call v e
 
 -- ---- what a post needs

@@ -35,8 +35,8 @@ use Rattle.send_state.proofs.Told.{runs}
 use Rattle.send_state.proofs.ToldDropped.{losing-dropped}
 use Rattle.send_state.proofs.ToldEnded.{losing-ended}
 use Rattle.core_state.specs.Deliveries.{goes_with}
-use Rattle.window_state.specs.Effects.{IsGrownBy}
-use Rattle.core_state.specs.Sendings.{grown_sends, is_of, losses_by}
+use Rattle.window_state.specs.Effects.{IsAddedBy}
+use Rattle.core_state.specs.Sendings.{added_sends, is_of, losses_by}
 use Rattle.window_state.specs.Trees.{as_made}
 use Rattle.core_state.proofs.GoingWindows.{dropped_goes, ended_goes, ending_call}
 use Rattle.core_state.proofs.SendNeeds.{done_fits}
@@ -155,11 +155,11 @@ tally_fits past t lost is short few = subst (λ (u : Tally). FitsTally u lost) (
 
 -- ---- what grows first loses nothing
 
-pub grown_losses : (ws : List KeptWindow) (time place : ℕ) (who : Thread) (a : Answer) (call : Call) (p : SendParts) → losses_by ws place who.0 a call (grown_sends ws time place who a call p) ≡ losses_by ws place who.0 a call p
+pub grown_losses : (ws : List KeptWindow) (time place : ℕ) (who : Thread) (a : Answer) (call : Call) (p : SendParts) → losses_by ws place who.0 a call (added_sends ws time place who a call p) ≡ losses_by ws place who.0 a call p
 grown_losses ws time place who (answers.Inside s n) call p = refl
 grown_losses ws time place who (answers.Begun s) call p = refl
 grown_losses ws time place who _ call p = refl
 
-pub same_losses : (old new : Windows) (place who : ℕ) (a : Answer) (call : Call) (p : SendParts) → IsGrownBy who a call old new → losses_by new.live place who a call p ≡ losses_by old.live place who a call p
+pub same_losses : (old new : Windows) (place who : ℕ) (a : Answer) (call : Call) (p : SendParts) → IsAddedBy who a call old new → losses_by new.live place who a call p ≡ losses_by old.live place who a call p
 same_losses old new place who (answers.Window w) call p made = refl
 same_losses old new place who a call p made = ap (λ (t : Windows). losses_by t.live place who a call p) made

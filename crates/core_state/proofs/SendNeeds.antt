@@ -34,7 +34,9 @@ use Rattle.user_model.specs.Idle.{reply}
 use Rattle.user_model.specs.Legal.{IsLawful}
 use Rattle.user_model.proofs.ListLaws.{all_weaker}
 use Rattle.user_model.proofs.ReplyLaws.{ByRow, by_call, not_refused}
-use Rattle.user_model.proofs.SendReplies.{IsCalled, IsEntry, IsInside, IsMade, SendParts as CallParts, Tells, entry_told, is_of_sends, parts, parts_of}
+use Rattle.user_model.proofs.SendReplies.{Tells, entry_told, is_of_sends}
+use Rattle.user_model.specs.Deeds.{SendParts as CallParts, parts, parts_of}
+use Rattle.user_model.proofs.AnswerFacts.{IsCalled, IsEntry, IsInside, IsMade}
 use Rattle.user_model.proofs.SendLawful.{lawful_standing}
 use Rattle.user_model.proofs.SendStanding.{CountsFrom, FrameStands, ReadyStands, Standing}
 use Rattle.user_model.proofs.WindowReplies.{drop_told}
@@ -49,7 +51,7 @@ use Rattle.send_state.proofs.Told.{of_first, runs}
 use Rattle.send_state.proofs.ToldBegun.{made}
 use Rattle.send_state.proofs.ToldReplied.{unlisted}
 use Rattle.send_state.proofs.Values.{known-stands, top-stands}
-use Rattle.core_state.specs.Sendings.{FitsCallback, FitsDispatch, FitsDropped, FitsGrownSends, FitsLeave, FitsLeaving, FitsOption, FitsReplied, FitsReplying, FitsRow, FitsSending, FitsServing, FitsSettledSends, FitsWait, grown_sends}
+use Rattle.core_state.specs.Sendings.{FitsCallback, FitsDispatch, FitsDropped, FitsAddedSends, FitsLeave, FitsLeaving, FitsOption, FitsReplied, FitsReplying, FitsRow, FitsSending, FitsServing, FitsSendEffect, FitsWait, added_sends}
 use Rattle.window_state.specs.Trees.{as_made}
 use Rattle.core_state.proofs.Deliveries.{is_live-is}
 use Rattle.core_state.proofs.SendLosses.{dropped_fits, ended_fits}
@@ -162,7 +164,7 @@ module _ (setup : Setup) (past : Past) (p : SendParts) (ws : List KeptWindow) (w
       let same : m.of ≡ of = cc in
       ap (λ (o : CallParts). is_live past o.hwnd) (sym same) ∙ m.lives
 
-  grown_by : (a : Answer) (call : Call) → a ≡ reply setup past who.0 call → FitsGrownSends ws (clock past) (place_after past) who a call p
+  grown_by : (a : Answer) (call : Call) → a ≡ reply setup past who.0 call → FitsAddedSends ws (clock past) (place_after past) who a call p
   grown_by (answers.Begun s) call right =
       let told = entry_told setup past who.0 call (answers.Begun s) (sym right) refl in
       let m : IsMade past who.0 call s.0 false = told.1 in (
@@ -178,7 +180,7 @@ module _ (setup : Setup) (past : Past) (p : SendParts) (ws : List KeptWindow) (w
   grown_by _ call right = tt
 
 -- what a send that is made needs
-pub grown_fits : (setup : Setup) (past : Past) (e : Entry) (p : SendParts) (ws : List KeptWindow) → IsLawful setup past → is_full past ≡ false → e.answer ≡ reply setup past e.who.0 e.call → PartsStand setup past p → map as_made ws ≡ live past → FitsGrownSends ws (clock past) (place_after past) e.who e.answer e.call p
+pub grown_fits : (setup : Setup) (past : Past) (e : Entry) (p : SendParts) (ws : List KeptWindow) → IsLawful setup past → is_full past ≡ false → e.answer ≡ reply setup past e.who.0 e.call → PartsStand setup past p → map as_made ws ≡ live past → FitsAddedSends ws (clock past) (place_after past) e.who e.answer e.call p
 grown_fits setup past e p ws lawful room right h at = grown_by setup past p ws e.who lawful room h at e.answer e.call right
 
 -- ---- what is run, left and replied to
@@ -340,7 +342,7 @@ module _ (setup : Setup) (past : Past) (p : SendParts) (ws : List KeptWindow) (w
   okay_fits (calls.Drop w) right = (is_live-is past ws w at ∙ (drop_told setup past who.0 w (sym right)).0.is_live, dropped_fits setup past (entry_of answers.Okay (calls.Drop w)) p ws w (lawful, right) room h at refl refl)
   okay_fits _ right = tt
 
-  settled_by : (a : Answer) (call : Call) → a ≡ reply setup past who.0 call → FitsSettledSends ws (place_after past) who.0 a call (grown_sends ws (clock past) (place_after past) who a call p)
+  settled_by : (a : Answer) (call : Call) → a ≡ reply setup past who.0 call → FitsSendEffect ws (place_after past) who.0 a call (added_sends ws (clock past) (place_after past) who a call p)
   settled_by (answers.Enter s n w m q r) call right =
       let told = told_of (answers.Enter s n w m q r) call right refl in
       let entry : IsEntry past who.0 call s.0 n w.0 m q r = told.1 in
@@ -358,5 +360,5 @@ module _ (setup : Setup) (past : Past) (p : SendParts) (ws : List KeptWindow) (w
   settled_by _ call right = tt
 
 -- what an answer that takes no memory needs
-pub settled_fits : (setup : Setup) (past : Past) (e : Entry) (p : SendParts) (ws : List KeptWindow) → IsLawful setup past → is_full past ≡ false → e.answer ≡ reply setup past e.who.0 e.call → PartsStand setup past p → map as_made ws ≡ live past → FitsSettledSends ws (place_after past) e.who.0 e.answer e.call (grown_sends ws (clock past) (place_after past) e.who e.answer e.call p)
+pub settled_fits : (setup : Setup) (past : Past) (e : Entry) (p : SendParts) (ws : List KeptWindow) → IsLawful setup past → is_full past ≡ false → e.answer ≡ reply setup past e.who.0 e.call → PartsStand setup past p → map as_made ws ≡ live past → FitsSendEffect ws (place_after past) e.who.0 e.answer e.call (added_sends ws (clock past) (place_after past) e.who e.answer e.call p)
 settled_fits setup past e p ws lawful room right h at = settled_by setup past p ws e.who lawful room h at e.answer e.call right

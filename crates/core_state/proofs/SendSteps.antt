@@ -25,7 +25,9 @@ use Rattle.user_model.specs.Sends.{Outcome, answer, is_answered, is_one, unfinis
 use Rattle.user_model.specs.Replies.{is_barred_by}
 use Rattle.user_model.specs.Idle.{reply}
 use Rattle.user_model.specs.Legal.{IsLawful}
-use Rattle.user_model.proofs.SendReplies.{IsDone, IsInside, IsLeft, IsMade, SendParts as CallParts, entry_told, is_serving, parts, parts_of}
+use Rattle.user_model.proofs.SendReplies.{entry_told}
+use Rattle.user_model.specs.Deeds.{SendParts as CallParts, is_serving, parts, parts_of}
+use Rattle.user_model.proofs.AnswerFacts.{IsDone, IsInside, IsLeft, IsMade}
 use Rattle.user_model.proofs.WindowReplies.{drop_okay}
 use Rattle.send_frames.specs.declared.row.SendRow.{SendRow}
 use Rattle.send_state.specs.Parts.{SendParts, ended, finished, lost, served, timed_out}
@@ -39,7 +41,7 @@ use Rattle.send_state.proofs.ToldOwn.{told-leave}
 use Rattle.send_state.proofs.ToldReplied.{told-replied}
 use Rattle.core_state.specs.Deliveries.{goes_with}
 use Rattle.core_state.specs.Frames.{IsOnTop}
-use Rattle.core_state.specs.Sendings.{begun_with, called_back, grown_sends, is_answered_in, is_of, left_by_call, replied_by_call, replied_if, sending, settled_sends, waited}
+use Rattle.core_state.specs.Sendings.{begun_with, called_back, added_sends, is_answered_in, is_of, left_by_call, replied_by_call, replied_if, sending, affected_sends, waited}
 use Rattle.window_state.specs.Trees.{as_made}
 use Rattle.core_state.proofs.Deliveries.{thread_in-is}
 use Rattle.core_state.proofs.Tops.{top_answer, top_kept}
@@ -86,7 +88,7 @@ module _ (setup : Setup) (past : Past) (e : Entry) (p : SendParts) (ws : List Ke
   Later q = PartsStand setup (e ∷ past) q
 
   abbrev Follows : Answer → Call → Type 0
-  Follows a call = Later (settled_sends ws (place_after past) e.who.0 a call (grown_sends ws (clock past) (place_after past) e.who a call p))
+  Follows a call = Later (affected_sends ws (place_after past) e.who.0 a call (added_sends ws (clock past) (place_after past) e.who a call p))
 
   few : finite.len p.book.known ≤ 1024
   few = known_few setup past p lawful.0 h

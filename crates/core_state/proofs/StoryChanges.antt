@@ -22,8 +22,8 @@ use Rattle.user_model.specs.declared.story.SendStory.{SendStory}
 use Rattle.send_state.proofs.Still.{is_drop, loses-none}
 use Rattle.send_state.proofs.Stories.{stories-kept, stories-lost, stories-refused}
 use Rattle.core_state.specs.Deliveries.{goes_with}
-use Rattle.window_state.specs.Effects.{IsGrownBy}
-use Rattle.core_state.specs.Sendings.{grown_sends, is_of, noted_losses}
+use Rattle.window_state.specs.Effects.{IsAddedBy}
+use Rattle.core_state.specs.Sendings.{added_sends, is_of, noted_losses}
 use Rattle.window_state.specs.Trees.{as_made}
 use Rattle.core_state.proofs.GoingWindows.{ending_call}
 use Rattle.core_state.proofs.SendCounts.{dropped, dropping, ending, owned, undropped}
@@ -53,17 +53,17 @@ module _ (setup : Setup) (past : Past) (e : Entry) (p : SendParts) (ws : List Ke
 
 -- ---- what grows first loses nothing
 
-grown_losses : (ws : List KeptWindow) (time place : ℕ) (who : Thread) (a : Answer) (call : Call) (p : SendParts) → noted_losses ws place who.0 a call (grown_sends ws time place who a call p) ≡ noted_losses ws place who.0 a call p
+grown_losses : (ws : List KeptWindow) (time place : ℕ) (who : Thread) (a : Answer) (call : Call) (p : SendParts) → noted_losses ws place who.0 a call (added_sends ws time place who a call p) ≡ noted_losses ws place who.0 a call p
 grown_losses ws time place who (answers.Inside s n) call p = refl
 grown_losses ws time place who (answers.Begun s) call p = refl
 grown_losses ws time place who _ call p = refl
 
-same_losses : (old new : Windows) (place who : ℕ) (a : Answer) (call : Call) (p : SendParts) → IsGrownBy who a call old new → noted_losses new.live place who a call p ≡ noted_losses old.live place who a call p
+same_losses : (old new : Windows) (place who : ℕ) (a : Answer) (call : Call) (p : SendParts) → IsAddedBy who a call old new → noted_losses new.live place who a call p ≡ noted_losses old.live place who a call p
 same_losses old new place who (answers.Window w) call p made = refl
 same_losses old new place who a call p made = ap (λ (t : Windows). noted_losses t.live place who a call p) made
 
 -- what is noted of the sends that are lost, after what grew
-pub losses_noted : (e : Entry) (time place : ℕ) (old tree : Windows) (p sends : SendParts) → IsGrownBy e.who.0 e.answer e.call old tree → sends ≡ grown_sends old.live time place e.who e.answer e.call p
+pub losses_noted : (e : Entry) (time place : ℕ) (old tree : Windows) (p sends : SendParts) → IsAddedBy e.who.0 e.answer e.call old tree → sends ≡ added_sends old.live time place e.who e.answer e.call p
     → noted_losses tree.live place e.who.0 e.answer e.call sends ≡ noted_losses old.live place e.who.0 e.answer e.call p
 losses_noted e time place old tree p sends made begun =
     same_losses old tree place e.who.0 e.answer e.call sends made

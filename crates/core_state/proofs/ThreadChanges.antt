@@ -17,12 +17,14 @@ use Rattle.user_model.specs.Places.{clock, cursor, has_ended, is_end, if_clock, 
 use Rattle.user_model.specs.Windows.{thread_of}
 use Rattle.user_model.specs.Retrievals.{removes}
 use Rattle.user_model.specs.Posts.{PostedMsg, PostedQuit, message, post_after, quit_after, message_to, posts, posted, quit}
+use Rattle.user_model.specs.Deeds.{retrieves}
+use Rattle.user_model.proofs.AnswerFacts.{IsPost}
 use Rattle.user_model.specs.Idle.{reply, last_entry}
 use Rattle.user_model.specs.Legal.{IsLawful}
 use Rattle.user_model.proofs.ClockLaws.{clock-next, last_entry-next}
 use Rattle.user_model.proofs.ReplyLaws.{by_row}
 use Rattle.user_model.proofs.ThreadLaws.{has_ended-same, has_ended-end}
-use Rattle.user_model.proofs.DeliveryReplies.{IsPost, post_told, take_told, quit_told, end_told, retrieves}
+use Rattle.user_model.proofs.DeliveryReplies.{post_told, take_told, quit_told, end_told}
 use Rattle.user_model.proofs.PostCounts.{count-next, count_after}
 use Rattle.user_model.proofs.PostOwners.{message_of, is_drop}
 use Rattle.user_model.proofs.PostLaws.{GoWithin, goes_with, is_plain, posted-plain, posted-okay, posted-post, posted-got, posted-quit, posted-drop, posted-drop-other, posted-end}

@@ -12,7 +12,8 @@ use Rattle.user_model.specs.Past.{Past}
 use Rattle.user_model.specs.Places.{clock, cursor}
 use Rattle.user_model.specs.Windows.{live, is_kin}
 use Rattle.user_model.specs.Retrievals.{removes}
-use Rattle.user_model.specs.Posts.{message, queue_of, Posting, to_window, to_thread, posting_of}
+use Rattle.user_model.specs.Posts.{message, queue_of}
+use Rattle.user_model.specs.Deeds.{Posting, to_window, to_thread, posting_of}
 use Rattle.thread_state.specs.Threads.{ThreadView, waiting_with}
 
 -- a change at one thread: a post under its number, a post taken out, quit with a code or taken back, the messages of

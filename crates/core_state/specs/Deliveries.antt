@@ -11,7 +11,8 @@ use Rattle.user_model.specs.declared.entry.Answer.{Answer}
 use Rattle.user_model.specs.declared.entry.Answer.TheVariants.{Okay, Ended, Posted as PostMade, Got}
 use Rattle.user_model.specs.declared.entry.Origin.{Origin}
 use Rattle.user_model.specs.declared.entry.Origin.TheVariants.{Posted as FromPosted, Quit as FromQuit}
-use Rattle.user_model.specs.Posts.{message, Posting, to_window, to_thread, posting_of}
+use Rattle.user_model.specs.Posts.{message}
+use Rattle.user_model.specs.Deeds.{Posting, to_window, to_thread, posting_of}
 use Rattle.window_state.specs.Trees.{thread_in}
 use Rattle.core_state.specs.Changes.{Change, posts, takes, quits, purges, ends, none, taken_if}
 
@@ -49,9 +50,9 @@ change_of_post k None = none
 change_of_post k (Some p) = posts p.0 k p.1
 
 -- the change of an answer that takes memory
-abbrev pub growth_in : List Window → ℕ → Point → ℕ → Answer → Call → Change
-growth_in ws time point who (PostMade k) call = change_of_post k (posting ws time point who call)
-growth_in ws time point who _ call = none
+abbrev pub adding_in : List Window → ℕ → Point → ℕ → Answer → Call → Change
+adding_in ws time point who (PostMade k) call = change_of_post k (posting ws time point who call)
+adding_in ws time point who _ call = none
 
 -- the change of a call that was answered by ok
 abbrev pub carried_in : List Window → ℕ → Call → Change
@@ -65,8 +66,8 @@ removal who FromPosted n = takes who n
 removal who FromQuit n = quits who None
 
 -- the change of an answer that takes no memory
-abbrev pub settling_in : List Window → ℕ → Answer → Call → Change
-settling_in ws who Okay call = carried_in ws who call
-settling_in ws who (Got o n m) call = taken_if call (removal who o n)
-settling_in ws who Ended call = ends who
-settling_in ws who _ call = none
+abbrev pub effect_in : List Window → ℕ → Answer → Call → Change
+effect_in ws who Okay call = carried_in ws who call
+effect_in ws who (Got o n m) call = taken_if call (removal who o n)
+effect_in ws who Ended call = ends who
+effect_in ws who _ call = none

@@ -29,11 +29,11 @@ FitsPosting threads k None = Unit {0}
 FitsPosting threads k (Some p) = HasRoom threads p.0 k
 
 -- what an answer that takes memory needs
-abbrev pub FitsGrowth : ClassTable → Windows → List ThreadView → ℕ → Point → ℕ → Answer → Call → Type 0
-FitsGrowth classes tree threads time point who (PostMade k) call = FitsPost tree.live call × FitsPosting threads k (posting tree.live time point who call)
-FitsGrowth classes tree threads time point who (Value v) call = FitsNaming classes call
-FitsGrowth classes tree threads time point who (Window w) call = FitsMaking who call tree
-FitsGrowth classes tree threads time point who _ call = Unit {0}
+abbrev pub FitsAdding : ClassTable → Windows → List ThreadView → ℕ → Point → ℕ → Answer → Call → Type 0
+FitsAdding classes tree threads time point who (PostMade k) call = FitsPost tree.live call × FitsPosting threads k (posting tree.live time point who call)
+FitsAdding classes tree threads time point who (Value v) call = FitsNaming classes call
+FitsAdding classes tree threads time point who (Window w) call = FitsMaking who call tree
+FitsAdding classes tree threads time point who _ call = Unit {0}
 
 -- what a call needs that is answered by ok
 abbrev pub FitsCarrying : ClassTable → Windows → List ThreadView → ℕ → Call → Type 0
@@ -44,10 +44,10 @@ FitsCarrying classes tree threads who (Drop w) = IsOne threads who × (drop_refu
 FitsCarrying classes tree threads who _ = Unit {0}
 
 -- what an answer that takes no memory needs
-abbrev pub FitsSettling : ClassTable → Windows → List ThreadView → ℕ → Answer → Call → Type 0
-FitsSettling classes tree threads who Okay call = FitsCarrying classes tree threads who call
-FitsSettling classes tree threads who (Tell v) call = FitsUnmaking tree call
-FitsSettling classes tree threads who (Last v) call = FitsUnmaking tree call
-FitsSettling classes tree threads who (Got o n m) call = IsOne threads who
-FitsSettling classes tree threads who Ended call = IsOne threads who
-FitsSettling classes tree threads who _ call = Unit {0}
+abbrev pub FitsEffect : ClassTable → Windows → List ThreadView → ℕ → Answer → Call → Type 0
+FitsEffect classes tree threads who Okay call = FitsCarrying classes tree threads who call
+FitsEffect classes tree threads who (Tell v) call = FitsUnmaking tree call
+FitsEffect classes tree threads who (Last v) call = FitsUnmaking tree call
+FitsEffect classes tree threads who (Got o n m) call = IsOne threads who
+FitsEffect classes tree threads who Ended call = IsOne threads who
+FitsEffect classes tree threads who _ call = Unit {0}

@@ -2,7 +2,6 @@
 use Rattle.std.specs.Prelude.{if◌then◌else◌, ◌≡◌, ◌==◌, ◌&&◌, ◌<◌, ◌≤◌, ◌^◌, ℕ, Bool, true, false, List, length, Option, Some, None, is_some, option_and_then}
 use Rattle.win_num.specs.declared.message.Thread.{Thread}
 use Rattle.win_num.specs.declared.send.Kind.{Kind}
-use Rattle.win_num.specs.declared.send.Kind.TheVariants.{Wait, Timeout as WithTimeout, Notify, Callback as WithCallback}
 use Rattle.std.specs.FinMap as map
 use Rattle.win_tree.specs.declared.window.Window.{Window}
 use Rattle.win_tree.specs.Windows.{is_live}
@@ -11,6 +10,7 @@ use Rattle.send_frames.specs.Book.{IsThread, refusal_at_begin, stack_of}
 use Rattle.send_state.specs.Parts.{SendParts, CanBegin, CanLeaveFrom, CanLose, CanReplyIn, CanServe, begun, dispatched, ended, finished, head_of, left, lost, lost_count, rank, replied, served, timed_out, top_of}
 use Rattle.send_state.specs.Stories.{noted_loss}
 use Rattle.user_model.specs.declared.story.SendStory.{SendStory}
+use Rattle.user_model.specs.Deeds.{SendParts as CallParts, parts_of}
 use Rattle.user_model.specs.declared.call.Call.{Call}
 use Rattle.user_model.specs.declared.call.Call.TheVariants.{Send, SendTimeout, SendNotify, SendCallback, Await, Leave, Reply, Drop}
 use Rattle.user_model.specs.declared.entry.Answer.{Answer}
@@ -24,13 +24,14 @@ use Rattle.core_state.specs.Deliveries.{goes_with}
 abbrev pub row_to : List Window → ℕ → Thread → ℕ → ℕ → ℕ → ℕ → Kind → SendRow
 row_to ws time who w number wparam lparam kind = record { from = who; to = record { 0 = thread_in ws w }; hwnd = record { 0 = w }; number = number; wparam = wparam; lparam = lparam; kind = kind; time = time }
 
+-- a send with these parts
+abbrev pub row_with : List Window → ℕ → Thread → Option CallParts → Option SendRow
+row_with ws time who (Some of) = Some (row_to ws time who of.hwnd of.message of.wparam of.lparam of.kind)
+row_with ws time who None = None
+
 -- the send that a call makes
 abbrev pub sending : List Window → ℕ → Thread → Call → Option SendRow
-sending ws time who (Send w number wparam lparam) = Some (row_to ws time who w number wparam lparam Wait)
-sending ws time who (SendTimeout w number wparam lparam flags ms) = Some (row_to ws time who w number wparam lparam (WithTimeout flags ms))
-sending ws time who (SendNotify w number wparam lparam) = Some (row_to ws time who w number wparam lparam Notify)
-sending ws time who (SendCallback w number wparam lparam proc_no extra) = Some (row_to ws time who w number wparam lparam (WithCallback proc_no extra))
-sending ws time who _ = None
+sending ws time who call = row_with ws time who (parts_of call)
 
 -- the window is live, and its message's number is one
 abbrev pub FitsSending : List Window → Call → Type 0
@@ -59,16 +60,16 @@ begun_with place None p = p
 begun_with place (Some row) p = begun p row place
 
 -- after an answer that takes memory
-abbrev pub grown_sends : List Window → ℕ → ℕ → Thread → Answer → Call → SendParts → SendParts
-grown_sends ws time place who (Inside s proc_no) call p = begun_with place (sending ws time who call) p
-grown_sends ws time place who (Begun s) call p = begun_with place (sending ws time who call) p
-grown_sends ws time place who _ call p = p
+abbrev pub added_sends : List Window → ℕ → ℕ → Thread → Answer → Call → SendParts → SendParts
+added_sends ws time place who (Inside s proc_no) call p = begun_with place (sending ws time who call) p
+added_sends ws time place who (Begun s) call p = begun_with place (sending ws time who call) p
+added_sends ws time place who _ call p = p
 
 -- what such an answer needs
-abbrev pub FitsGrownSends : List Window → ℕ → ℕ → Thread → Answer → Call → SendParts → Type 0
-FitsGrownSends ws time place who (Inside s proc_no) call p = FitsSending ws call × FitsOption p place (sending ws time who call)
-FitsGrownSends ws time place who (Begun s) call p = FitsSending ws call × FitsOption p place (sending ws time who call)
-FitsGrownSends ws time place who _ call p = Unit {0}
+abbrev pub FitsAddedSends : List Window → ℕ → ℕ → Thread → Answer → Call → SendParts → Type 0
+FitsAddedSends ws time place who (Inside s proc_no) call p = FitsSending ws call × FitsOption p place (sending ws time who call)
+FitsAddedSends ws time place who (Begun s) call p = FitsSending ws call × FitsOption p place (sending ws time who call)
+FitsAddedSends ws time place who _ call p = Unit {0}
 
 -- ---- what takes no memory
 
@@ -112,16 +113,16 @@ abbrev pub replied_if : Bool → ℕ → ℕ → Call → SendParts → SendPart
 replied_if first place who call p = if first then replied_by_call place who call p else p
 
 -- after an answer that takes no memory
-abbrev pub settled_sends : List Window → ℕ → ℕ → Answer → Call → SendParts → SendParts
-settled_sends ws place who (Enter s proc_no w number wparam lparam) call p = served p who
-settled_sends ws place who (Callback s proc_no w number extra result) call p = called_back place who call p
-settled_sends ws place who (Called proc_no) call p = dispatched p who
-settled_sends ws place who (Left s) call p = left_by_call place who call p
-settled_sends ws place who (Value v) call p = replied_if (v == 1) place who call p
-settled_sends ws place who (Done result cause) call p = waited who call p
-settled_sends ws place who Okay call p = dropped_sends ws place call p
-settled_sends ws place who Ended call p = ended_sends ws place who p
-settled_sends ws place who _ call p = p
+abbrev pub affected_sends : List Window → ℕ → ℕ → Answer → Call → SendParts → SendParts
+affected_sends ws place who (Enter s proc_no w number wparam lparam) call p = served p who
+affected_sends ws place who (Callback s proc_no w number extra result) call p = called_back place who call p
+affected_sends ws place who (Called proc_no) call p = dispatched p who
+affected_sends ws place who (Left s) call p = left_by_call place who call p
+affected_sends ws place who (Value v) call p = replied_if (v == 1) place who call p
+affected_sends ws place who (Done result cause) call p = waited who call p
+affected_sends ws place who Okay call p = dropped_sends ws place call p
+affected_sends ws place who Ended call p = ended_sends ws place who p
+affected_sends ws place who _ call p = p
 
 -- how many sends a call loses that was answered by ok
 abbrev pub dropped_count : List Window → ℕ → Call → SendParts → ℕ
@@ -197,13 +198,13 @@ FitsReplied true place who call p = FitsReply place who call p
 FitsReplied false place who call p = Unit {0}
 
 -- what an answer that takes no memory needs
-abbrev pub FitsSettledSends : List Window → ℕ → ℕ → Answer → Call → SendParts → Type 0
-FitsSettledSends ws place who (Enter s proc_no w number wparam lparam) call p = FitsServing p who
-FitsSettledSends ws place who (Callback s proc_no w number extra result) call p = FitsCallback place who call p
-FitsSettledSends ws place who (Called proc_no) call p = FitsDispatch p who
-FitsSettledSends ws place who (Left s) call p = FitsLeave place who call p
-FitsSettledSends ws place who (Value v) call p = FitsReplied (v == 1) place who call p
-FitsSettledSends ws place who (Done result cause) call p = FitsWait who call p
-FitsSettledSends ws place who Okay call p = FitsDropped ws place call p
-FitsSettledSends ws place who Ended call p = IsThread p.book who × FitsLosing (is_of ws who) p place
-FitsSettledSends ws place who _ call p = Unit {0}
+abbrev pub FitsSendEffect : List Window → ℕ → ℕ → Answer → Call → SendParts → Type 0
+FitsSendEffect ws place who (Enter s proc_no w number wparam lparam) call p = FitsServing p who
+FitsSendEffect ws place who (Callback s proc_no w number extra result) call p = FitsCallback place who call p
+FitsSendEffect ws place who (Called proc_no) call p = FitsDispatch p who
+FitsSendEffect ws place who (Left s) call p = FitsLeave place who call p
+FitsSendEffect ws place who (Value v) call p = FitsReplied (v == 1) place who call p
+FitsSendEffect ws place who (Done result cause) call p = FitsWait who call p
+FitsSendEffect ws place who Okay call p = FitsDropped ws place call p
+FitsSendEffect ws place who Ended call p = IsThread p.book who × FitsLosing (is_of ws who) p place
+FitsSendEffect ws place who _ call p = Unit {0}

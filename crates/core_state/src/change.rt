@@ -3,10 +3,10 @@
 
 ghost use Rattle.std.specs.Prelude.{◌≡◌, OnOk, OnErr};
 ghost use Rattle.core_state.specs.Changes.{changed};
-ghost use Rattle.core_state.specs.Deliveries.{carried_in, growth_in, settling_in};
-ghost use Rattle.window_state.specs.Effects.{IsGrownBy, carried_classes, carried_tree, grown_classes, settled_classes, settled_tree};
-ghost use Rattle.core_state.specs.Needs.{FitsCarrying, FitsGrowth, FitsSettling};
-ghost use Rattle.core_state.specs.Sendings.{FitsGrownSends, grown_sends};
+ghost use Rattle.core_state.specs.Deliveries.{carried_in, adding_in, effect_in};
+ghost use Rattle.window_state.specs.Effects.{IsAddedBy, carried_classes, carried_tree, added_classes, affected_classes, affected_tree};
+ghost use Rattle.core_state.specs.Needs.{FitsCarrying, FitsAdding, FitsEffect};
+ghost use Rattle.core_state.specs.Sendings.{FitsAddedSends, added_sends};
 ghost use Rattle.core_state.specs.States.{EachBy};
 
 use crate::delivery::{Stamp, posting};
@@ -23,7 +23,7 @@ use window_state::{doom, drop_window, make, name, unmake, unregister, window_or_
 
 /// Adds a post, a class, a message's name, a window or a send, as the answer says. After want of memory
 /// nothing has changed.
-pub fn grow(
+pub fn add_item(
     classes: &mut Classes,
     tree: &mut Tree,
     threads: &mut Vec<ThreadState>,
@@ -31,12 +31,12 @@ pub fn grow(
     stamp: Stamp,
     entry: Entry,
 ) -> Result<(), AllocError>
-    requires parts { FitsGrowth classes.old tree.old threads.old.items stamp.time stamp.cursor entry.who.0 entry.answer entry.call }
-    requires sends { FitsGrownSends tree.old.live stamp.time stamp.place entry.who entry.answer entry.call sends.old }
-    ensures classes { OnOk result (classes.new ≡ grown_classes entry.answer entry.call classes.old) }
-    ensures tree { OnOk result (IsGrownBy entry.who.0 entry.answer entry.call tree.old tree.new) }
-    ensures threads { OnOk result (EachBy (λ t. changed t (growth_in tree.old.live stamp.time stamp.cursor entry.who.0 entry.answer entry.call)) threads.old.items threads.new.items) }
-    ensures sends { OnOk result (sends.new ≡ grown_sends tree.old.live stamp.time stamp.place entry.who entry.answer entry.call sends.old) }
+    requires parts { FitsAdding classes.old tree.old threads.old.items stamp.time stamp.cursor entry.who.0 entry.answer entry.call }
+    requires sends { FitsAddedSends tree.old.live stamp.time stamp.place entry.who entry.answer entry.call sends.old }
+    ensures classes { OnOk result (classes.new ≡ added_classes entry.answer entry.call classes.old) }
+    ensures tree { OnOk result (IsAddedBy entry.who.0 entry.answer entry.call tree.old tree.new) }
+    ensures threads { OnOk result (EachBy (λ t. changed t (adding_in tree.old.live stamp.time stamp.cursor entry.who.0 entry.answer entry.call)) threads.old.items threads.new.items) }
+    ensures sends { OnOk result (sends.new ≡ added_sends tree.old.live stamp.time stamp.place entry.who entry.answer entry.call sends.old) }
     ensures classes_stay { OnErr result (classes.new ≡ classes.old) }
     ensures tree_stays { OnErr result (tree.new ≡ tree.old) }
     ensures threads_stay { OnErr result (threads.new.items ≡ threads.old.items) }
@@ -56,11 +56,16 @@ pub fn grow(
 
 /// Does what takes no memory: takes out a message or quit, posts quit, takes a class back, marks windows,
 /// gives a step of a destruction, drops windows with their messages, or ends a thread.
-pub fn settle(classes: &mut Classes, tree: &mut Tree, threads: &mut Vec<ThreadState>, entry: Entry)
-    requires { FitsSettling classes.old tree.old threads.old.items entry.who.0 entry.answer entry.call }
-    ensures classes { classes.new ≡ settled_classes entry.answer entry.call classes.old }
-    ensures tree { tree.new ≡ settled_tree entry.who.0 entry.answer entry.call tree.old }
-    ensures threads { EachBy (λ t. changed t (settling_in tree.old.live entry.who.0 entry.answer entry.call)) threads.old.items threads.new.items }
+pub fn take_effect(
+    classes: &mut Classes,
+    tree: &mut Tree,
+    threads: &mut Vec<ThreadState>,
+    entry: Entry,
+)
+    requires { FitsEffect classes.old tree.old threads.old.items entry.who.0 entry.answer entry.call }
+    ensures classes { classes.new ≡ affected_classes entry.answer entry.call classes.old }
+    ensures tree { tree.new ≡ affected_tree entry.who.0 entry.answer entry.call tree.old }
+    ensures threads { EachBy (λ t. changed t (effect_in tree.old.live entry.who.0 entry.answer entry.call)) threads.old.items threads.new.items }
 {
     match entry.answer {
         Answer::Okay => carry_out(classes, tree, threads, entry),

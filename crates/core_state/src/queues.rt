@@ -76,9 +76,36 @@ fn removes(call: Call) -> bool
     ensures { result ≡ removes call }
 {
     match call {
-        Call::Get(_, _, _) => true,
+        Call::Get(..) => true,
         Call::Peek(_, _, _, flags) => flags & names::PM_REMOVE == names::PM_REMOVE,
-        _ => false,
+        Call::Post(..)
+        | Call::PostThread(..)
+        | Call::PostQuit(..)
+        | Call::Dispatch(..)
+        | Call::Send(..)
+        | Call::SendTimeout(..)
+        | Call::SendNotify(..)
+        | Call::SendCallback(..)
+        | Call::Await(..)
+        | Call::Leave(..)
+        | Call::Reply(..)
+        | Call::InSend
+        | Call::Message(..)
+        | Call::Register(..)
+        | Call::Unregister(..)
+        | Call::NewWindow(..)
+        | Call::Doom(..)
+        | Call::Unmake(..)
+        | Call::Drop(..)
+        | Call::NextTop(..)
+        | Call::IsWindow(..)
+        | Call::Parent(..)
+        | Call::EndThread
+        | Call::Clock
+        | Call::SleepUntil(..)
+        | Call::Yield
+        | Call::Tick(..)
+        | Call::Advance => false,
     }
 }
 

@@ -7,7 +7,7 @@ ghost use Rattle.send_frames.specs.Book.{IsThread};
 ghost use Rattle.send_state.specs.Parts.{lost_count};
 ghost use Rattle.send_state.specs.Stories.{EachStory, noted_loss};
 ghost use Rattle.core_state.specs.Deliveries.{goes_with};
-ghost use Rattle.core_state.specs.Sendings.{FitsCallback, FitsDropped, FitsLeave, FitsLosing, FitsOption, FitsReply, FitsSending, FitsSettledSends, FitsWait, begun_with, called_back, dropped_count, dropped_losses, dropped_sends, ended_sends, is_of, left_by_call, losses_by, noted_losses, replied_by_call, row_to, sending, settled_sends, waited};
+ghost use Rattle.core_state.specs.Sendings.{FitsCallback, FitsDropped, FitsLeave, FitsLosing, FitsOption, FitsReply, FitsSending, FitsSendEffect, FitsWait, begun_with, called_back, dropped_count, dropped_losses, dropped_sends, ended_sends, is_of, left_by_call, losses_by, noted_losses, replied_by_call, row_to, sending, affected_sends, waited};
 
 use crate::delivery::Stamp;
 use send_state::{SendRow, SendState};
@@ -100,15 +100,15 @@ pub fn begin(
 /// Does to the sends what takes no memory: runs what is ready, calls and leaves procedures, replies, ends
 /// waits, and loses the sends to windows that go, which their stories note. The result is how many sends
 /// it lost.
-pub fn settle_sends(
+pub fn take_effect_on_sends(
     sends: &mut SendState,
     stories: &mut [SendStory],
     tree: &Tree,
     place: u32,
     entry: Entry,
 ) -> u32
-    requires { FitsSettledSends tree.now.live place entry.who.0 entry.answer entry.call sends.old }
-    ensures sends { sends.new ≡ settled_sends tree.now.live place entry.who.0 entry.answer entry.call sends.old }
+    requires { FitsSendEffect tree.now.live place entry.who.0 entry.answer entry.call sends.old }
+    ensures sends { sends.new ≡ affected_sends tree.now.live place entry.who.0 entry.answer entry.call sends.old }
     ensures stories { EachStory (noted_losses tree.now.live place entry.who.0 entry.answer entry.call sends.old) stories.old stories.new }
     ensures lost { result ≡ losses_by tree.now.live place entry.who.0 entry.answer entry.call sends.old }
 {

@@ -1,6 +1,6 @@
 //! The history, and the parts that stand for it.
 
-ghost use Rattle.std.specs.Prelude.{◌≡◌, ◌<◌, ◌≤◌, ◌+◌, ◌&&◌, [], ◌∷◌, length, reverse, All, true, false, IfOk, OnOk, OnErr, Some, is_some, option_and_then, option_map};
+ghost use Rattle.std.specs.Prelude.{◌≡◌, ◌<◌, ◌≤◌, ◌+◌, ◌&&◌, [], ◌∷◌, length, nat_le, reverse, All, true, false, IfOk, OnOk, OnErr, Some, is_some, option_and_then, option_map};
 ghost use Rattle.win_num.specs.Clocks.{clock_limit};
 ghost use Rattle.user_model.specs.Legal.{IsLegal};
 ghost use Rattle.user_model.specs.Past.{is_full};
@@ -25,10 +25,10 @@ ghost use Rattle.user_model.specs.Idle.{reply, is_idle, ends_stuck, last_entry, 
 ghost use Rattle.thread_state.specs.Threads.{code_of, fresh_thread, told_post, waiting_call};
 ghost use Rattle.window_state.specs.Steps.{destruction_answer};
 
-use crate::change::{grow, settle};
+use crate::change::{add_item, take_effect};
 use crate::delivery::Stamp;
 use crate::queues::{count_after, note_entry, time_after};
-use crate::sendings::settle_sends;
+use crate::sendings::take_effect_on_sends;
 use send_state::{SendRow, SendState, Tally, add_story, first_cause, named_send, note_answer};
 use std::alloc::{AllocError, Global};
 use std::marker::Model;
@@ -38,9 +38,6 @@ use win_class::Classes;
 use win_num::{Cause, Filter, Frame, Hwnd, Msg, Point, SendId, Thread};
 use win_tree::Tree;
 use window_state::{step_told, thread_of, up};
-
-/// How many frames a stack may hold.
-const STACK_LIMIT: u8 = 64;
 
 /// The history so far, and parts that answer in short time what the definitions say of it.
 #[derive(Drop)]
@@ -227,7 +224,7 @@ impl CoreState {
         requires known { thread ≤ self.now.setup.threads }
         ensures { result ≡ has_room self.now.past thread }
     {
-        self.sends.depth(Thread(thread)) < STACK_LIMIT
+        self.sends.has_room(Thread(thread))
     }
 
     /// The answer that runs what a thread has ready, where its stack has room.
@@ -306,11 +303,11 @@ impl CoreState {
         self.sends.blocks(send)
     }
 
-    /// How many sends are unfinished, 0 to 1,024.
-    pub fn unfinished_count(&self) -> usize
-        ensures { result ≡ length (unfinished self.now.past) }
+    /// Whether as many sends are unfinished as may be, 1,024.
+    pub fn sends_are_full(&self) -> bool
+        ensures { result ≡ nat_le 1024 (length (unfinished self.now.past)) }
     {
-        self.sends.unfinished()
+        self.sends.is_full()
     }
 
     /// How many sends came to what.
@@ -464,11 +461,11 @@ impl CoreState {
         self.classes.class(name).is_some()
     }
 
-    /// How many classes there are.
-    pub fn class_count(&self) -> usize
-        ensures { result ≡ length (classes self.now.past) }
+    /// Whether there are as many classes as may be, 64.
+    pub fn classes_are_full(&self) -> bool
+        ensures { result ≡ nat_le 64 (length (classes self.now.past)) }
     {
-        self.classes.len()
+        self.classes.is_full()
     }
 
     /// How many classes were ever registered.
@@ -499,6 +496,13 @@ impl CoreState {
         self.classes.message_count()
     }
 
+    /// Whether as many messages are registered as may be, 16,384.
+    pub fn messages_are_full(&self) -> bool
+        ensures { result ≡ nat_le 16384 (length (message_names self.now.past)) }
+    {
+        self.classes.messages_are_full()
+    }
+
     /// Adds an entry, and brings the parts up to date. After want of memory nothing has changed.
     pub fn append(&mut self, entry: Entry) -> Result<(), AllocError>
         requires room { is_full self.old.past ≡ false }
@@ -517,7 +521,7 @@ impl CoreState {
             time: self.time,
             cursor,
         };
-        grow(
+        add_item(
             &mut self.classes,
             &mut self.tree,
             &mut self.threads,
@@ -526,9 +530,15 @@ impl CoreState {
             entry,
         )?;
         add_story(&mut self.stories, entry.answer);
-        let lost = settle_sends(&mut self.sends, &mut self.stories, &self.tree, place, entry);
+        let lost = take_effect_on_sends(
+            &mut self.sends,
+            &mut self.stories,
+            &self.tree,
+            place,
+            entry,
+        );
         note_answer(&mut self.stories, entry.answer, named, place);
-        settle(&mut self.classes, &mut self.tree, &mut self.threads, entry);
+        take_effect(&mut self.classes, &mut self.tree, &mut self.threads, entry);
         note_entry(&mut self.threads, entry);
         self.post_count = count_after(self.post_count, entry.answer);
         self.time = time_after(self.time, entry);
@@ -538,6 +548,7 @@ impl CoreState {
     }
 }
 
+/// What is kept of so many threads that have done nothing.
 fn fresh_threads(alloc: Global, count: u8) -> Result<Vec<ThreadState>, AllocError>
     ensures length { IfOk result (λ threads. length threads.items ≡ count) }
     ensures fresh { IfOk result (λ threads. All (λ s. s ≡ fresh_thread) threads.items) }

@@ -29,7 +29,8 @@ use Rattle.user_model.specs.ReplySends.{left_inside, leave_from, deadline, block
 use Rattle.user_model.specs.Places.{clock}
 use Rattle.user_model.specs.Replies.{row, stack_reply, thread_reply}
 use Rattle.user_model.specs.Idle.{clock_row, reply}
-use Rattle.user_model.proofs.SendReplies.{SendParts, parts_of, is_serving, Tells, row_told}
+use Rattle.user_model.proofs.SendReplies.{Tells, row_told}
+use Rattle.user_model.specs.Deeds.{SendParts, parts_of, is_serving}
 use Rattle.script_tree.specs.Tree.{Tree}
 use Rattle.script_tree.specs.Pieces.{Trace, End, Cut}
 use Rattle.script_tree.specs.Steps.{is_last}

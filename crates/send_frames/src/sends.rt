@@ -1,11 +1,11 @@
 //! The sends of all threads.
 
-ghost use Rattle.std.specs.Prelude.{◌≡◌, ◌+◌, ◌≤◌, ◌<◌, ◌-◌, List, [], length, vec_len, slice_index_or, slice_set, drop, replicate, IsSome, Option, Some, None, IfOk, OnOk, OnErr, MatchResult, option_and_then, option_copied, option_map, slice_get};
+ghost use Rattle.std.specs.Prelude.{◌≡◌, ◌+◌, ◌≤◌, ◌<◌, ◌-◌, List, [], length, nat_le, nat_lt, vec_len, slice_index_or, slice_set, drop, replicate, IsSome, Option, Some, None, IfOk, OnOk, OnErr, MatchResult, option_and_then, option_copied, option_map, slice_get};
 ghost use Rattle.std.specs.FinMap as map;
 ghost use Rattle.send_frames.specs.Book.{AreNamedOnce, Book, IsFaultFor, IsNewFrame, IsNextAbove, IsSound, IsThread, NamesKnown, answered_by, begun_by, forgotten, is_open, is_owing, is_too_deep, named_by, no_sends, popped, pushed, refusal_at_begin, stack_of, with_top};
 
 use crate::row::SendRow;
-use crate::stack::{DEPTH, Stack};
+use crate::stack::Stack;
 use crate::table::{Item, Table};
 use std::alloc::{AllocError, Global};
 use std::marker::Model;
@@ -91,11 +91,11 @@ impl Sends {
         ensures cause { result ≡ refusal_at_begin self.now row.now }
         ensures sound { IsSound self.now }
     {
-        let known = self.known();
+        let is_full = self.is_full();
         if self.is_too_deep(row) {
             return Some(Code::Win(STACK_OVERFLOW));
         }
-        if known >= KNOWN {
+        if is_full {
             return Some(Code::Full);
         }
         None
@@ -106,8 +106,8 @@ impl Sends {
         requires { IsThread self.now row.now.from.0 }
         ensures { result ≡ is_too_deep self.now row.now }
     {
-        let depth = self.depth(row.from);
-        row.pushes() && depth >= 64
+        let has_room = self.has_room(row.from);
+        row.pushes() && !has_room
     }
 
     /// How many sends were begun: the number of the last one.
@@ -123,6 +123,14 @@ impl Sends {
         ensures sound { IsSound self.now }
     {
         self.table.len()
+    }
+
+    /// Whether as many sends are known as may be.
+    pub fn is_full(&self) -> bool
+        ensures full { result ≡ nat_le 1024 (map.len self.now.known) }
+        ensures sound { IsSound self.now }
+    {
+        self.table.len() >= KNOWN
     }
 
     /// The known send of least number above this one, `None` exactly where there is none.
@@ -154,7 +162,7 @@ impl Sends {
         ensures threads { length self.new.stacks ≡ length self.old.stacks }
         ensures sound { IsSound self.new }
     {
-        if usize::from(self.depth(t)) >= DEPTH {
+        if !self.has_room(t) {
             return Err(Fault::Refused(Code::Win(STACK_OVERFLOW)));
         }
         put_on_top(&mut self.stacks, t, Some(f));
@@ -193,6 +201,15 @@ impl Sends {
         ensures sound { IsSound self.now }
     {
         self.stacks[usize::from(t.0) - 1].len() as u8
+    }
+
+    /// Whether a thread's stack has room for a frame.
+    pub fn has_room(&self, t: Thread) -> bool
+        requires { IsThread self.now t.0 }
+        ensures room { result ≡ nat_lt (length (stack_of self.now t.0)) 64 }
+        ensures sound { IsSound self.now }
+    {
+        self.stacks[usize::from(t.0) - 1].has_room()
     }
 
     /// Gives a send its answer, `false` exactly where it has one already or isn't known; then nothing

@@ -1,13 +1,13 @@
 //! The stack of frames of one thread.
 
-ghost use Rattle.std.specs.Prelude.{◌≡◌, ◌<◌, ◌≤◌, List, [], ◌∷◌, length, IfOk, MatchOption, slice_get};
+ghost use Rattle.std.specs.Prelude.{◌≡◌, ◌<◌, ◌≤◌, List, [], ◌∷◌, length, nat_lt, IfOk, MatchOption, slice_get};
 
 use std::alloc::{AllocError, Global};
 use std::marker::Model;
 use win_num::Frame;
 
 /// How many frames a stack may hold.
-pub(crate) const DEPTH: usize = 64;
+const DEPTH: usize = 64;
 
 /// At most 64 frames, seen as a list with the newest first. Its room is taken when it is made.
 #[derive(Drop)]
@@ -34,6 +34,13 @@ impl Stack {
         Ok(Stack {
             frames: Vec::with_capacity(alloc, DEPTH)?,
         })
+    }
+
+    /// Whether it has room for a frame.
+    pub(crate) fn has_room(&self) -> bool
+        ensures { result ≡ nat_lt (length self.now) 64 }
+    {
+        self.frames.len() < DEPTH
     }
 
     /// How many frames it has.

@@ -180,6 +180,7 @@ impl Table {
         }
     }
 
+    /// Writes what is known of a send.
     fn set(&mut self, send: SendId, item: Item)
         requires { IsSome (map.get self.old send.0) }
         ensures { self.new ≡ map.insert self.old send.0 item }

@@ -20,7 +20,7 @@ use Rattle.user_model.specs.SendStories.{ends_await, hands_on, was_handed_on}
 use Rattle.user_model.specs.Ready.{ReadyMsg, to_enter, to_call_back, departs, ready_head}
 use Rattle.user_model.proofs.PastLaws.{ever-next}
 use Rattle.user_model.proofs.SendLaws.{is_sent}
-use Rattle.user_model.proofs.SendReplies.{is_serving}
+use Rattle.user_model.specs.Deeds.{is_serving}
 use Rattle.user_model.proofs.SendStanding.{IsOwedTo, Standing}
 use Rattle.send_frames.specs.Book.{Book, KnownSend, forgotten_as, pushed, stack_of, with_send}
 use Rattle.send_variants.specs.declared.ready.Ready.TheVariants.{Result as ReadyResult}

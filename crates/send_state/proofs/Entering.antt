@@ -22,7 +22,7 @@ use Rattle.user_model.specs.Stacks.{leaves, stack, stacked}
 use Rattle.user_model.specs.Sends.{SentMsg, Outcome, answer, answers, answers_in, calls_back, enters, is_answered, is_owed, is_stacked, is_timed_out, names_send, outcome, send}
 use Rattle.user_model.specs.Ready.{ReadyMsg, to_enter, to_call_back, departs, ready_head}
 use Rattle.user_model.proofs.SendLaws.{is_sent}
-use Rattle.user_model.proofs.SendReplies.{is_serving}
+use Rattle.user_model.specs.Deeds.{is_serving}
 use Rattle.send_frames.specs.Book.{pushed, stack_of}
 use Rattle.send_variants.specs.declared.ready.Ready.TheVariants.{Send as ReadySend}
 use Rattle.send_state.specs.Parts.{SendParts, book_served, head_of, served, without_head}

@@ -28,7 +28,9 @@ use Rattle.user_model.proofs.ListLaws.{or-false}
 use Rattle.user_model.proofs.ReplyLaws.{by_call, is_of_clock}
 use Rattle.user_model.proofs.SendLawful.{lawful_standing}
 use Rattle.user_model.proofs.SendLaws.{answer-next, answer-refused, is_entered-next, is_entered-refused, is_sent, makes_none, makes_one, sends-next, sends-refused}
-use Rattle.user_model.proofs.SendReplies.{IsEntry, IsInside, IsMade, SendParts as CallParts, entry_told, parts_of}
+use Rattle.user_model.proofs.SendReplies.{entry_told}
+use Rattle.user_model.specs.Deeds.{SendParts as CallParts, parts_of}
+use Rattle.user_model.proofs.AnswerFacts.{IsEntry, IsInside, IsMade}
 use Rattle.user_model.proofs.SendStanding.{ReadyStands, Standing}
 use Rattle.user_model.proofs.SendSteps.{find_above}
 use Rattle.send_state.specs.declared.tally.Tally.{Tally}

@@ -13,7 +13,9 @@ use Rattle.user_model.specs.Places.{has_ended}
 use Rattle.user_model.specs.Threads.{is_running, is_thread}
 use Rattle.user_model.specs.Ready.{ReadyMsg, to_enter, to_call_back, ready}
 use Rattle.user_model.specs.Legal.{IsLawful}
-use Rattle.user_model.proofs.SendReplies.{IsCalled, IsEntry, IsResult, entry_told, is_serving}
+use Rattle.user_model.proofs.SendReplies.{entry_told}
+use Rattle.user_model.specs.Deeds.{is_serving}
+use Rattle.user_model.proofs.AnswerFacts.{IsCalled, IsEntry, IsResult}
 use Rattle.user_model.proofs.SendLawful.{lawful_standing}
 use Rattle.user_model.proofs.SendStanding.{ReadyStands, Standing}
 use Rattle.send_state.specs.Parts.{SendParts, dispatched, served}

@@ -23,7 +23,9 @@ use Rattle.user_model.specs.Legal.{IsLawful}
 use Rattle.user_model.proofs.ListLaws.{all_weaker}
 use Rattle.user_model.proofs.SendLaws.{makes_one}
 use Rattle.user_model.proofs.SendLawful.{lawful_standing}
-use Rattle.user_model.proofs.SendReplies.{IsInside, IsMade, SendParts as CallParts, entry_told, parts, parts_of}
+use Rattle.user_model.proofs.SendReplies.{entry_told}
+use Rattle.user_model.specs.Deeds.{SendParts as CallParts, parts, parts_of}
+use Rattle.user_model.proofs.AnswerFacts.{IsInside, IsMade}
 use Rattle.user_model.proofs.SendStanding.{ReadyStands, Standing}
 use Rattle.send_frames.specs.Book.{is_waiting}
 use Rattle.send_state.specs.Parts.{SendParts, begun}

@@ -19,7 +19,8 @@ use Rattle.user_model.specs.Stacks.{stack, stacked, top}
 use Rattle.user_model.specs.Sends.{SentMsg, Outcome, answer, answers, answers_in, calls_back, enters, is_answered, is_callback_kind, is_stacked, is_timed_out, names_send, outcome, send, sends_by}
 use Rattle.user_model.specs.Legal.{IsLawful}
 use Rattle.user_model.proofs.SendLaws.{is_sent, makes_none}
-use Rattle.user_model.proofs.SendReplies.{IsDone, entry_told}
+use Rattle.user_model.proofs.SendReplies.{entry_told}
+use Rattle.user_model.proofs.AnswerFacts.{IsDone}
 use Rattle.user_model.proofs.SendLawful.{lawful_standing}
 use Rattle.user_model.proofs.SendStanding.{FrameStands, IsAwaited, Standing}
 use Rattle.send_state.specs.Parts.{SendParts, finished, timed_out}

@@ -18,7 +18,8 @@ use Rattle.user_model.specs.Stacks.{stack, stacked, top}
 use Rattle.user_model.specs.Sends.{Outcome, answer, answers, answers_in, calls_back, enters, is_answered, is_stacked, left_by, names_send, outcome}
 use Rattle.user_model.specs.Legal.{IsLawful}
 use Rattle.user_model.proofs.SendLaws.{is_sent, makes_none}
-use Rattle.user_model.proofs.SendReplies.{IsLeft, LeftFrom, entry_told}
+use Rattle.user_model.proofs.SendReplies.{entry_told}
+use Rattle.user_model.proofs.AnswerFacts.{IsLeft, LeftFrom}
 use Rattle.user_model.proofs.SendLawful.{lawful_standing}
 use Rattle.user_model.proofs.SendStanding.{FrameStands, IsReceived, Standing}
 use Rattle.send_state.specs.Parts.{SendParts, left}

@@ -21,7 +21,8 @@ use Rattle.user_model.specs.Ready.{ReadyMsg, to_enter, to_call_back, arrives, be
 use Rattle.user_model.specs.Legal.{IsLawful}
 use Rattle.user_model.proofs.ListLaws.{all_weaker, filter_all}
 use Rattle.user_model.proofs.SendLaws.{is_sent, makes_none, ready-next, sends-same}
-use Rattle.user_model.proofs.SendReplies.{IsLeft, LeftFrom, entry_told}
+use Rattle.user_model.proofs.SendReplies.{entry_told}
+use Rattle.user_model.proofs.AnswerFacts.{IsLeft, LeftFrom}
 use Rattle.user_model.proofs.SendLawful.{lawful_standing, sends_found}
 use Rattle.user_model.proofs.SendStanding.{CountsFrom, ReadyStands, Standing}
 use Rattle.send_frames.specs.Book.{named_by}

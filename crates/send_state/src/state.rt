@@ -1,12 +1,12 @@
 //! The state of sends.
 
-ghost use Rattle.std.specs.Prelude.{ℕ, Bool, [], ◌≡◌, ◌+◌, ◌<◌, ◌≤◌, ◌^◌, Some, None, IfOk, IfSome, OnOk, OnErr, MatchResult, length, option_and_then, option_copied, option_map};
+ghost use Rattle.std.specs.Prelude.{ℕ, Bool, [], ◌≡◌, ◌+◌, ◌<◌, ◌≤◌, ◌^◌, Some, None, IfOk, IfSome, OnOk, OnErr, MatchResult, length, nat_le, option_and_then, option_copied, option_map};
 ghost use Rattle.std.specs.FinMap as map;
 ghost use Rattle.send_frames.specs.Book.{IsFaultFor, IsThread, NamesKnown, pushed, refusal_at_begin, stack_of};
 ghost use Rattle.win_num.specs.Clocks.{clock_limit};
 ghost use Rattle.win_num.specs.declared.message.Hwnd.{Hwnd};
 ghost use Rattle.send_variants.specs.Lists.{with_list, IsThread as IsListed};
-ghost use Rattle.send_state.specs.Parts.{CanAnswer, CanBegin, CanJoin, CanLeaveFrom, CanLose, ended, freed_to, is_from, is_losable, lost, CanReplyIn, CanServe, answered, begun, blocks_as, callback_in, deadline_of, dispatched, enter_as, finished, head_of, left, lists_joined, lost_count, next_answer, next_window, no_parts, rank, replied, runs_callback, served, timed_out, top_of};
+ghost use Rattle.send_state.specs.Parts.{CanAnswer, CanBegin, CanJoin, CanLeaveFrom, CanLose, ended, freed_to, is_from, is_losable, lost, CanReplyIn, CanServe, answered, begun, blocks_as, callback_in, deadline_of, dispatched, enter_as, finished, has_depth, head_of, left, lists_joined, lost_count, next_answer, next_window, no_parts, rank, replied, runs_callback, served, timed_out, top_of};
 ghost use Rattle.send_state.specs.Stories.{EachStory, noted_loss};
 
 use crate::story::{Event, note};
@@ -16,9 +16,6 @@ use std::alloc::{AllocError, Global};
 use std::marker::Model;
 use user_model::{Answer, SendStory};
 use win_num::{Cause, Fault, Frame, Hwnd, Kind, SendId, Thread, names};
-
-/// How many frames a stack may hold.
-const DEPTH: u8 = 64;
 
 /// How many ranks the entries of one place have.
 const RANKS: u32 = 1024;
@@ -204,12 +201,12 @@ impl SendState {
         self.sends.top(who)
     }
 
-    /// How many frames a thread has, 0 to 64.
-    pub fn depth(&self, who: Thread) -> u8
+    /// Whether a thread's stack has room for a frame.
+    pub fn has_room(&self, who: Thread) -> bool
         requires { IsThread self.now.book who.0 }
-        ensures { result ≡ length (stack_of self.now.book who.0) }
+        ensures { result ≡ has_depth self.now.book who.0 }
     {
-        self.sends.depth(who)
+        self.sends.has_room(who)
     }
 
     /// The window of the send or the result that a thread runs next, `None` where nothing is ready or the
@@ -218,7 +215,7 @@ impl SendState {
         requires { IsThread self.now.book who.0 }
         ensures { result ≡ next_window self.now who.0 }
     {
-        if self.sends.depth(who) >= DEPTH {
+        if !self.sends.has_room(who) {
             return None;
         }
         let (Ready::Send(send) | Ready::Result(send)) = self.ready.head(who)?;
@@ -231,7 +228,7 @@ impl SendState {
         requires { IsThread self.now.book who.0 }
         ensures { result ≡ next_answer self.now who.0 proc_no }
     {
-        if self.sends.depth(who) >= DEPTH {
+        if !self.sends.has_room(who) {
             return None;
         }
         match self.ready.head(who)? {
@@ -285,6 +282,13 @@ impl SendState {
         ensures { result ≡ map.len self.now.book.known }
     {
         self.sends.known()
+    }
+
+    /// Whether as many sends are unfinished as may be.
+    pub fn is_full(&self) -> bool
+        ensures { result ≡ nat_le 1024 (map.len self.now.book.known) }
+    {
+        self.sends.is_full()
     }
 
     /// How many sends there were.
@@ -412,6 +416,7 @@ fn free(sends: &mut Sends, who: Thread)
     }
 }
 
+/// Whether a send that is known is the thread's.
 fn is_from(sends: &Sends, send: SendId, who: Thread) -> bool
     ensures { result ≡ is_from who.0 (map.get sends.now.known send.0) }
 {

@@ -14,7 +14,8 @@ fn a_new_state_has_no_sends(rt: HostRuntime) -> Result<(), Fail> {
     assert!(rt; state.row(SendId(1)).is_none());
     assert!(rt; !state.blocks(SendId(1)));
     assert_eq!(rt; state.top(Thread(2)), None);
-    assert_eq!(rt; state.depth(Thread(2)), 0);
+    assert!(rt; state.has_room(Thread(2)));
+    assert!(rt; !state.is_full());
     assert_eq!(rt; state.next_window(Thread(1)), None);
     assert_eq!(rt; state.next_ready(Thread(1), 1), None);
     Ok(())

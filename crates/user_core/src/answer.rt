@@ -11,8 +11,8 @@ ghost use Rattle.user_model.specs.Idle.{is_wait, is_idle, is_barred, first_busy,
 use crate::actor::{Actor, actor_of};
 use crate::clock::{advanced, sleep_until_answer, soonest, tick_answer};
 use crate::windows::{
-    Edges, Making, doom_answer, drop_answer, is_window_answer, new_window_answer, next_top_answer,
-    parent_answer, register_answer, unmake_answer, unregister_answer,
+    Edges, NewWindow, doom_answer, drop_answer, is_window_answer, new_window_answer,
+    next_top_answer, parent_answer, register_answer, unmake_answer, unregister_answer,
 };
 use core_deliver::{admit, delivery_answer, is_delivery, is_retrieval, retrieval_answer};
 use core_state::CoreState;
@@ -30,7 +30,7 @@ fn row_answer(state: &CoreState, thread: u8, call: Call) -> Answer
         Call::Register(name, _, colour) => register_answer(state, name, colour),
         Call::Unregister(name) => unregister_answer(state, name),
         Call::NewWindow(class, _, parent, style, ex, l, t, r, b) => {
-            let making = Making {
+            let making = NewWindow {
                 class,
                 parent,
                 style,
@@ -168,12 +168,12 @@ pub fn answer(state: &CoreState, who: Thread, call: Call) -> Answer
 {
     match actor_of(who) {
         Actor::Numbered(_) => own_answer(state, who, call),
-        Actor::Clock => clock_told(state, call),
+        Actor::Clock => answer_to_clock(state, call),
     }
 }
 
 /// The answer to the clock.
-fn clock_told(state: &CoreState, call: Call) -> Answer
+fn answer_to_clock(state: &CoreState, call: Call) -> Answer
     ensures { result ≡ refuse (is_full state.now.past) Full (clock_row state.now.setup state.now.past call) }
 {
     if state.is_full() {

@@ -16,9 +16,6 @@ use user_model::Answer;
 use win_num::names::{WS_CHILD, WS_DISABLED, WS_EX_TOPMOST, WS_POPUP};
 use win_num::{Code, Hwnd};
 
-/// How many classes there may be at a time.
-const CLASS_LIMIT: usize = 64;
-
 /// The greatest colour of a class.
 const LAST_COLOUR: u64 = 15;
 
@@ -41,7 +38,7 @@ pub fn register_answer(state: &CoreState, name: u32, colour: u64) -> Answer
     if state.has_class(name) {
         return Answer::Refused(CLASS_ALREADY_EXISTS);
     }
-    if state.class_count() >= CLASS_LIMIT {
+    if state.classes_are_full() {
         return Answer::Refused(Code::Full);
     }
     Answer::Value(u64::from(state.registered_count()) + 1)
@@ -62,7 +59,7 @@ pub fn unregister_answer(state: &CoreState, name: u32) -> Answer
 
 /// What is asked of a new window: its class, its parent or owner, its styles.
 #[derive(Clone, Copy)]
-pub struct Making {
+pub struct NewWindow {
     pub class: u32,
     pub parent: u64,
     pub style: u64,
@@ -153,7 +150,7 @@ fn window_if_room(state: &CoreState) -> Answer
 }
 
 /// The answer where a window is to be made.
-pub fn new_window_answer(state: &CoreState, who: u8, making: Making, edges: Edges) -> Answer
+pub fn new_window_answer(state: &CoreState, who: u8, making: NewWindow, edges: Edges) -> Answer
     requires { is_full state.now.past ≡ false }
     ensures { result ≡ new_window_reply state.now.past who making.class making.parent making.style making.ex edges.l edges.t edges.r edges.b }
 {

@@ -1,3 +1,4 @@
+pub mod AnswerFacts
 pub mod ClockLaws
 pub mod DeliveryReplies
 pub mod Forests
@@ -13,6 +14,7 @@ pub mod PostOwners
 pub mod QuitLaws
 pub mod ReadyLaws
 pub mod ReplyLaws
+pub mod RowFacts
 pub mod Rows
 pub mod SendLawful
 pub mod SendLaws

@@ -19,6 +19,8 @@ use Rattle.user_model.specs.Windows.{Window, live, window, is_live, thread_of, d
 use Rattle.user_model.specs.Destruction.{ended, was_given}
 use Rattle.user_model.specs.Retrievals.{removes, removed_post, is_number, takes_post}
 use Rattle.user_model.specs.Posts.{PostedMsg, post_after, posts_to, posts_by, message_to, ends_post, posted, passes}
+use Rattle.user_model.specs.Deeds.{retrieves}
+use Rattle.user_model.proofs.AnswerFacts.{IsPost, IsTaken}
 use Rattle.user_model.specs.Refusals.{access_denied, invalid_parameter, invalid_window_handle}
 use Rattle.user_model.specs.Replies.{row}
 use Rattle.user_model.specs.ReplyDelivery.{next_post_number}
@@ -27,7 +29,7 @@ use Rattle.user_model.specs.Legal.{IsLawful}
 use Rattle.user_model.proofs.PastLaws.{first_way, standing-same, standing-next}
 use Rattle.user_model.proofs.ListLaws.{or-false, all_weaker, all_append, all_filter, filter_same, filter_all, filter_every, filter_none, all_found}
 use Rattle.user_model.proofs.ReplyLaws.{by_row, by_call, not_refused}
-use Rattle.user_model.proofs.DeliveryReplies.{IsPost, post_told, IsTaken, retrieves, end_told}
+use Rattle.user_model.proofs.DeliveryReplies.{post_told, end_told}
 use Rattle.user_model.proofs.Forests.{number_found}
 use Rattle.user_model.proofs.WindowFacts.{too_low}
 use Rattle.user_model.proofs.PostCounts.{is_post}

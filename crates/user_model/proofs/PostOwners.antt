@@ -16,14 +16,16 @@ use Rattle.user_model.specs.Places.{clock, cursor, is_end, ends_thread}
 use Rattle.user_model.specs.Threads.{is_running}
 use Rattle.user_model.specs.Windows.{Window, live, window, drops, drops_kin, drops_window}
 use Rattle.user_model.specs.Retrievals.{takes_post}
-use Rattle.user_model.specs.Posts.{PostedMsg, Posting, to_window, to_thread, posting_of, message, post_after, posts, posts_by, posts_to, message_to, queue_of, ends_post, posted}
+use Rattle.user_model.specs.Posts.{PostedMsg, message, post_after, posts, posts_by, posts_to, message_to, queue_of, ends_post, posted}
+use Rattle.user_model.specs.Deeds.{Posting, to_window, to_thread, posting_of}
+use Rattle.user_model.proofs.AnswerFacts.{IsPost}
 use Rattle.user_model.specs.ReplyDelivery.{next_post_number}
 use Rattle.user_model.specs.Idle.{reply}
 use Rattle.user_model.specs.Legal.{IsLawful}
 use Rattle.user_model.proofs.PastLaws.{first_way}
 use Rattle.user_model.proofs.ListLaws.{all_weaker, all_append, all_filter, all_kept, all_one}
 use Rattle.user_model.proofs.ReplyLaws.{by_row}
-use Rattle.user_model.proofs.DeliveryReplies.{IsPost, post_told}
+use Rattle.user_model.proofs.DeliveryReplies.{post_told}
 use Rattle.user_model.proofs.PostCounts.{is_post, count_after, count-next, count_grows}
 use Rattle.user_model.proofs.KeptWindows.{not_true, or_neither, window-kept}
 use Rattle.user_model.proofs.WindowFacts.{live_running}

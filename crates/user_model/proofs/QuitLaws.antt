@@ -12,10 +12,10 @@ use Rattle.user_model.specs.declared.entry.Entry.{Entry}
 use Rattle.user_model.specs.Past.{Past, is_refused, is_refusal, unless_refused, last_of}
 use Rattle.user_model.specs.Retrievals.{removes, removed_quit, takes_quit}
 use Rattle.user_model.specs.Posts.{PostedQuit, quit, quit_after, quits, if_by}
+use Rattle.user_model.specs.Deeds.{retrieves}
 use Rattle.user_model.proofs.ClockLaws.{last_of-next, unwrap_or-or_else}
 use Rattle.user_model.specs.declared.entry.Setup.{Setup}
 use Rattle.user_model.specs.Idle.{reply}
-use Rattle.user_model.proofs.DeliveryReplies.{retrieves}
 use Rattle.user_model.proofs.ReplyLaws.{by_call}
 use Rattle.user_model.proofs.PostLaws.{is_plain}
 

@@ -27,7 +27,9 @@ use Rattle.user_model.specs.Idle.{reply}
 use Rattle.user_model.specs.Legal.{IsLawful}
 use Rattle.user_model.proofs.ListLaws.{all_weaker, all_append, all_found}
 use Rattle.user_model.proofs.ReplyLaws.{by_row, by_call}
-use Rattle.user_model.proofs.SendReplies.{Tells, LeftFrom, is_of_sends, is_serving, entry_told, plain_told, of_thread}
+use Rattle.user_model.proofs.SendReplies.{Tells, is_of_sends, entry_told, plain_told, of_thread}
+use Rattle.user_model.specs.Deeds.{is_serving}
+use Rattle.user_model.proofs.AnswerFacts.{LeftFrom}
 use Rattle.user_model.proofs.SendLaws.{is_sent, makes_none, send-stays, is_entered-next, is_answered-next, answer-next, answer-stays, stack-other, ready-next}
 use Rattle.user_model.proofs.SendStanding.{CountsFrom, IsOwedTo, ReadyStands, runs_for, HasWindow, SendStands, Standing, standing_empty, standing_refused}
 use Rattle.user_model.proofs.SendSteps.{Fits, never, other_number, same_number, or_left, or_right, not_left, not_right, either_true, and_both, not_true, some_true, none_some, same_some, list_any_append, pushed, pops, remaining, fresh, top_stands, head_stands, entered_stays, entered_now, unentered_stays, unanswered_stays, unhanded_stays, await_top, inside_number, done_parts, unmade_entered}

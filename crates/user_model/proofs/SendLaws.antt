@@ -13,7 +13,7 @@ use Rattle.user_model.specs.Stacks.{stack, stacked}
 use Rattle.user_model.specs.Sends.{SentMsg, Outcome, sends, sends_by, sent_as, send, is_entered, enters, answer, answers, is_answered}
 use Rattle.user_model.specs.Ready.{ready, arrives, departs}
 use Rattle.user_model.proofs.PastLaws.{first_way, other_way, each_of-next, each_of-same, ever-next, ever-same, standing-next}
-use Rattle.user_model.proofs.SendReplies.{SendParts, parts_of}
+use Rattle.user_model.specs.Deeds.{SendParts, parts_of}
 
 -- ---- stacks
 

@@ -23,7 +23,8 @@ use Rattle.user_model.specs.Sends.{SentMsg, send, sends, enters, is_answered, an
 use Rattle.user_model.specs.SendStories.{IsLimited}
 use Rattle.user_model.specs.Legal.{IsLawful}
 use Rattle.user_model.proofs.PastLaws.{ever-next}
-use Rattle.user_model.proofs.SendReplies.{Tells, is_serving}
+use Rattle.user_model.proofs.SendReplies.{Tells}
+use Rattle.user_model.specs.Deeds.{is_serving}
 use Rattle.user_model.proofs.SendLaws.{is_sent, makes_none, sends-next, sends-same, is_answered-next, stack-other}
 use Rattle.user_model.proofs.SendStanding.{Standing}
 use Rattle.user_model.proofs.SendSteps.{Fits, never, or_left, or_neither, not_left, not_right, some_true, none_some, list_any_append, pushed, pops, remaining, enters_fresh}

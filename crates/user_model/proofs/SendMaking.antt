@@ -20,7 +20,8 @@ use Rattle.user_model.specs.Ready.{to_enter, to_call_back}
 use Rattle.user_model.specs.Next.{result_of}
 use Rattle.user_model.specs.ReplySends.{deadline, has_come}
 use Rattle.user_model.specs.SendStories.{ends_await, hands_on, was_handed_on, result_handed}
-use Rattle.user_model.proofs.SendReplies.{SendParts, parts_of, Tells, is_of_sends}
+use Rattle.user_model.proofs.SendReplies.{Tells, is_of_sends}
+use Rattle.user_model.specs.Deeds.{SendParts, parts_of}
 use Rattle.user_model.proofs.SendLaws.{is_sent, makes_one, makes_none, send-next, send-stays, sends-same, sends-next, is_entered-next, is_answered-next, answer-next, answer-stays}
 use Rattle.user_model.proofs.SendStanding.{CountsFrom, Standing}
 use Rattle.user_model.proofs.SendSteps.{Fits, never, same_number, or_left, either_true, and_both, some_true, none_some, counts_more, pushed, pops, done_parts, fresh, unmade_answered, top_stands, head_stands, await_top, inside_number, answers_made, was_handed_on-next, loses_made}

@@ -24,7 +24,9 @@ use Rattle.user_model.specs.SendStories.{NamesOnce, ends_await, hands_on, was_ha
 use Rattle.user_model.proofs.PastLaws.{ever-next}
 use Rattle.user_model.proofs.ListLaws.{all_weaker}
 use Rattle.user_model.proofs.ReplyLaws.{ByRow, is_of_clock}
-use Rattle.user_model.proofs.SendReplies.{Tells, LeftFrom, is_of_sends, is_serving}
+use Rattle.user_model.proofs.SendReplies.{Tells, is_of_sends}
+use Rattle.user_model.specs.Deeds.{is_serving}
+use Rattle.user_model.proofs.AnswerFacts.{LeftFrom}
 use Rattle.user_model.proofs.SendLaws.{send-stays, is_entered-next, is_answered-next}
 use Rattle.user_model.proofs.SendStanding.{CountsFrom, IsOwn, IsAwaited, FrameStands, ReadyStands, runs_for, Standing}
 

@@ -36,7 +36,8 @@ use Rattle.user_model.specs.SendStories.{Handing, hands_on, was_handed_on, hande
 use Rattle.user_model.proofs.PastLaws.{each_of-next}
 use Rattle.user_model.proofs.ListLaws.{all_weaker, all_append, all_found}
 use Rattle.user_model.proofs.ReplyLaws.{is_of_clock}
-use Rattle.user_model.proofs.SendReplies.{Tells, is_of_sends, is_serving}
+use Rattle.user_model.proofs.SendReplies.{Tells, is_of_sends}
+use Rattle.user_model.specs.Deeds.{is_serving}
 use Rattle.user_model.proofs.SendLaws.{is_sent, stack-refused, answer-next, answer-stays, stack-next, stack-other}
 use Rattle.user_model.proofs.SendStanding.{CountsFrom, FrameStands, SendStands, HasWindow, Standing, runs_for}
 use Rattle.user_model.proofs.SendSteps.{Fits, never, await_top, done_parts, find_above, find_zero, same_number, or_neither, and_both, not_true, enters_fresh}

@@ -6,8 +6,9 @@ use Rattle.user_model.specs.declared.entry.Entry.{Entry}
 use Rattle.user_model.specs.declared.entry.Answer.{Answer}
 use Rattle.user_model.specs.declared.entry.Answer.TheVariants.{Wait, Value, Stuck, Busy, Advanced, Refused}
 use Rattle.user_model.specs.declared.call.Call.{Call}
-use Rattle.user_model.specs.declared.call.Call.TheVariants.{Await, SleepUntil, Tick, Advance}
+use Rattle.user_model.specs.declared.call.Call.TheVariants.{Tick, Advance}
 use Rattle.user_model.specs.Past.{Past, is_full, first}
+use Rattle.user_model.specs.Deeds.{Deed, sleeping, awaiting, deed}
 use Rattle.user_model.specs.Places.{clock, has_ended, mine}
 use Rattle.user_model.specs.Threads.{lowest, from_each}
 use Rattle.user_model.specs.Replies.{thread_reply}
@@ -49,11 +50,15 @@ abbrev pub one_of : Option ℕ → List ℕ
 one_of None = []
 one_of (Some n) = n ∷ []
 
--- the times that a call of t waits for: a sleep's, or a timeout send's
+-- the times that t waits for: a sleep's, or a timeout send's
+abbrev pub times_as : Past → ℕ → Deed → List ℕ
+times_as past t (sleeping time) = time ∷ []
+times_as past t (awaiting s) = one_of (deadline past s)
+times_as past t _ = []
+
+-- the times that a call of t waits for
 abbrev pub times_of_call : Past → ℕ → Call → List ℕ
-times_of_call past t (SleepUntil time) = time ∷ []
-times_of_call past t (Await s) = one_of (deadline past s)
-times_of_call past t _ = []
+times_of_call past t call = times_as past t (deed call)
 
 -- the times that t's last entry waits for; one that was answered otherwise waits for none
 abbrev pub times_of : Past → ℕ → Option Entry → List ℕ

@@ -1,5 +1,6 @@
 pub mod Classes
 pub mod Counts
+pub mod Deeds
 pub mod Destruction
 pub mod Filters
 pub mod Idle

@@ -4,7 +4,6 @@ use Rattle.win_num.specs.declared.message.Msg.{Msg}
 use Rattle.win_num.specs.declared.message.Filter.{Filter}
 use Rattle.win_num.specs.declared.shapes.Point.{Point}
 use Rattle.user_model.specs.declared.call.Call.{Call}
-use Rattle.user_model.specs.declared.call.Call.TheVariants.{Post, PostThread, Peek, Get, PostQuit, Dispatch, Send, SendTimeout, SendNotify, SendCallback, Await, Leave, Reply, InSend, Message, Register, Unregister, NewWindow, Doom, Unmake, Drop, NextTop, IsWindow, Parent, EndThread, Clock, SleepUntil, Yield, Tick, Advance}
 use Rattle.user_model.specs.declared.entry.Entry.{Entry}
 use Rattle.user_model.specs.declared.entry.Answer.{Answer}
 use Rattle.user_model.specs.declared.entry.Answer.TheVariants.{Posted}
@@ -12,6 +11,7 @@ use Rattle.user_model.specs.Past.{Past, place_after, standing, each_of, last_of}
 use Rattle.user_model.specs.Places.{clock, cursor, ends_thread}
 use Rattle.user_model.specs.Windows.{thread_of, drops_window}
 use Rattle.user_model.specs.Filters.{passes_posted}
+use Rattle.user_model.specs.Deeds.{Posting, to_window, to_thread, posting_of, Deed, quitting, deed}
 use Rattle.user_model.specs.Retrievals.{takes_post, takes_quit}
 
 -- a message from its parts
@@ -44,44 +44,6 @@ queue_of past who w = if w == 0 then who else thread_of past w
 -- the message, where it goes to t; it carries the clock and the cursor of its posting
 abbrev pub message_to : ℕ → ℕ → ℕ → ℕ → ℕ → ℕ → ℕ → Past → List PostedMsg
 message_to t k to w number wparam lparam before = if to == t then post_after before k (message w number wparam lparam (clock before) (cursor before)) ∷ [] else []
-
--- a message that a call posts: to the thread of a window, or for window 0 to the caller; or to a thread, without a window
-pub data Posting : Type 0 where
-  to_window : (w number wparam lparam : ℕ) → Posting
-  to_thread : (to number wparam lparam : ℕ) → Posting
-
--- the message that each call posts, where it is answered that a post was made
-abbrev pub posting_of : Call → Option Posting
-posting_of (Post w number wparam lparam) = Some (to_window w number wparam lparam)
-posting_of (PostThread to number wparam lparam) = Some (to_thread to number wparam lparam)
-posting_of (Peek w min max flags) = None
-posting_of (Get w min max) = None
-posting_of (PostQuit code) = None
-posting_of (Dispatch w number wparam lparam) = None
-posting_of (Send w number wparam lparam) = None
-posting_of (SendTimeout w number wparam lparam flags ms) = None
-posting_of (SendNotify w number wparam lparam) = None
-posting_of (SendCallback w number wparam lparam proc_no extra) = None
-posting_of (Await s) = None
-posting_of (Leave v) = None
-posting_of (Reply v) = None
-posting_of InSend = None
-posting_of (Message name) = None
-posting_of (Register name proc_no colour) = None
-posting_of (Unregister name) = None
-posting_of (NewWindow class title parent style ex l t r b) = None
-posting_of (Doom w) = None
-posting_of (Unmake w) = None
-posting_of (Drop w) = None
-posting_of (NextTop w) = None
-posting_of (IsWindow w) = None
-posting_of (Parent w) = None
-posting_of EndThread = None
-posting_of Clock = None
-posting_of (SleepUntil time) = None
-posting_of Yield = None
-posting_of (Tick ms) = None
-posting_of Advance = None
 
 -- what is posted to t under this number
 abbrev pub posted_by : ℕ → ℕ → ℕ → Option Posting → Past → List PostedMsg
@@ -123,10 +85,14 @@ pub record PostedQuit : Type 0 where
 abbrev pub quit_after : Past → ℕ → PostedQuit
 quit_after before code = record { code = code; place = place_after before }
 
+-- the quit that is posted; none where the entry removes it
+abbrev pub quits_as : Entry → Past → Deed → Option (Option PostedQuit)
+quits_as e before (quitting code) = Some (Some (quit_after before code))
+quits_as e before _ = if takes_quit e then Some None else None
+
 -- the quit that a call posts; none where the entry removes it
 abbrev pub quits : Entry → Past → Call → Option (Option PostedQuit)
-quits e before (PostQuit code) = Some (Some (quit_after before code))
-quits e before _ = if takes_quit e then Some None else None
+quits e before call = quits_as e before (deed call)
 
 -- what is said, where t says it
 abbrev pub if_by : {A : Type 0} → ℕ → ℕ → Option A → Option A

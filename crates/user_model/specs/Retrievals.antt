@@ -1,19 +1,20 @@
 -- What a retrieval removed.
 use Rattle.std.specs.Prelude.{if◌then◌else◌, ℕ, ◌==◌, Bool, true, false, Option, Some, None}
-use Rattle.win_num.specs.declared.names.TheConstants.{PM_REMOVE}
 use Rattle.user_model.specs.declared.call.Call.{Call}
-use Rattle.user_model.specs.declared.call.Call.TheVariants.{Get, Peek}
 use Rattle.user_model.specs.declared.entry.Entry.{Entry}
 use Rattle.user_model.specs.declared.entry.Answer.{Answer}
 use Rattle.user_model.specs.declared.entry.Answer.TheVariants.{Got}
 use Rattle.user_model.specs.declared.entry.Origin.TheVariants.{Posted, Quit}
-use Rattle.user_model.specs.Windows.{has_flag}
+use Rattle.user_model.specs.Deeds.{Deed, retrieving, deed}
 
--- a get removes what it retrieves, and so does a peek with bit 0 of its flags
+-- whether a retrieval removes
+abbrev pub removes_in : Deed → Bool
+removes_in (retrieving pass removes) = removes
+removes_in _ = false
+
+-- whether the call removes what it retrieves
 abbrev pub removes : Call → Bool
-removes (Get w min max) = true
-removes (Peek w min max flags) = has_flag flags PM_REMOVE
-removes _ = false
+removes call = removes_in (deed call)
 
 -- the number of the post that an answer hands out and its call removes
 abbrev pub removed_post : Answer → Call → Option ℕ

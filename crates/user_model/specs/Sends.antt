@@ -2,18 +2,18 @@
 use Rattle.std.specs.Prelude.{if◌then◌else◌, ℕ, ◌==◌, Bool, true, false, not, ◌&&◌, ◌||◌, List, [], ◌∷◌, filter, find, Option, Some, None, is_some}
 use Rattle.std.specs.List.{list_any}
 use Rattle.win_num.specs.declared.send.Kind.{Kind}
-use Rattle.win_num.specs.declared.send.Kind.TheVariants.{Wait, Timeout as WithTimeout, Notify, Callback as WithCallback}
+use Rattle.win_num.specs.declared.send.Kind.TheVariants.{Callback as WithCallback}
 use Rattle.win_num.specs.declared.send.Cause.{Cause}
 use Rattle.win_num.specs.declared.send.Cause.TheVariants.{Proc, Reply as ByReply, Loss, Timeout as ByTimeout}
 use Rattle.win_num.specs.declared.send.Frame.{Frame}
 use Rattle.win_num.specs.declared.send.Frame.TheVariants.{Entered, Inside as InsideFrame, Await as AwaitFrame}
 use Rattle.user_model.specs.declared.call.Call.{Call}
-use Rattle.user_model.specs.declared.call.Call.TheVariants.{Send, SendTimeout, SendNotify, SendCallback, Await, Leave, Reply}
 use Rattle.user_model.specs.declared.entry.Entry.{Entry}
 use Rattle.user_model.specs.declared.entry.Answer.{Answer}
 use Rattle.user_model.specs.declared.entry.Answer.TheVariants.{Inside, Begun, Enter, Callback, Left, Value, Done}
 use Rattle.user_model.specs.Past.{Past, place_after, first_of, each_of, ever}
 use Rattle.user_model.specs.Places.{clock, has_ended}
+use Rattle.user_model.specs.Deeds.{SendParts, parts_of, Deed, leaving, replying, awaiting, deed}
 use Rattle.user_model.specs.Windows.{thread_of, drops_window}
 use Rattle.user_model.specs.Stacks.{stack, top}
 
@@ -41,13 +41,14 @@ sent_as (Inside s proc_no) e past w message wparam lparam kind = sent e past w m
 sent_as (Begun s) e past w message wparam lparam kind = sent e past w message wparam lparam kind s.0 false
 sent_as _ e past w message wparam lparam kind = []
 
+-- the send that an entry makes with these parts
+abbrev pub sends_with : Option SendParts → Entry → Past → List SentMsg
+sends_with (Some of) e past = sent_as e.answer e past of.hwnd of.message of.wparam of.lparam of.kind
+sends_with None e past = []
+
 -- the send that an entry makes
 abbrev pub sends_by : Call → Entry → Past → List SentMsg
-sends_by (Send w m p q) e past = sent_as e.answer e past w m p q Wait
-sends_by (SendTimeout w m p q flags ms) e past = sent_as e.answer e past w m p q (WithTimeout flags ms)
-sends_by (SendNotify w m p q) e past = sent_as e.answer e past w m p q Notify
-sends_by (SendCallback w m p q proc_no extra) e past = sent_as e.answer e past w m p q (WithCallback proc_no extra)
-sends_by _ e past = []
+sends_by call e past = sends_with (parts_of call) e past
 
 -- all sends, in order
 abbrev pub sends : Past → List SentMsg
@@ -98,12 +99,16 @@ abbrev pub is_entered_frame : Option Frame → ℕ → Bool
 is_entered_frame (Some (Entered t)) s = t.0 == s
 is_entered_frame _ s = false
 
--- the answers that name the send: its procedure leaves, it is replied to, or its wait times out
+-- the answers that name the send: its procedure is left, it is replied to, or its wait times out
+abbrev pub answers_as : Deed → Entry → Past → ℕ → Option Outcome
+answers_as (leaving v) e past s = if left_by e.answer s then Some (outcome past v Proc) else None
+answers_as (replying v) e past s = if is_one e.answer && is_entered_frame (top past e.who.0) s then Some (outcome past v ByReply) else None
+answers_as (awaiting t) e past s = if is_timed_out e.answer && (t == s) then Some (outcome past 0 ByTimeout) else None
+answers_as _ e past s = None
+
+-- the answer that a call gives the send by name
 abbrev pub answers_in : Call → Entry → Past → ℕ → Option Outcome
-answers_in (Leave v) e past s = if left_by e.answer s then Some (outcome past v Proc) else None
-answers_in (Reply v) e past s = if is_one e.answer && is_entered_frame (top past e.who.0) s then Some (outcome past v ByReply) else None
-answers_in (Await t) e past s = if is_timed_out e.answer && (t == s) then Some (outcome past 0 ByTimeout) else None
-answers_in _ e past s = None
+answers_in call e past s = answers_as (deed call) e past s
 
 -- whether the entry drops the window of a send that isn't entered
 abbrev pub loses : Entry → Past → ℕ → Bool

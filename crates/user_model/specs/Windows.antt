@@ -3,11 +3,12 @@ use Rattle.std.specs.Prelude.{if◌then◌else◌, ℕ, zero, suc, ◌+◌, ◌=
 use Rattle.win_num.specs.PixelSets.{Box, box}
 use Rattle.win_num.specs.declared.names.TheConstants.{WS_CHILD}
 use Rattle.user_model.specs.declared.call.Call.{Call}
-use Rattle.user_model.specs.declared.call.Call.TheVariants.{NewWindow, Drop}
+use Rattle.user_model.specs.declared.call.Call.TheVariants.{Drop}
 use Rattle.user_model.specs.declared.entry.Entry.{Entry}
 use Rattle.user_model.specs.declared.entry.Answer.{Answer}
 use Rattle.user_model.specs.declared.entry.Answer.TheVariants.{Window as WindowMade}
 use Rattle.user_model.specs.Past.{Past, is_refused, each_of, last_of}
+use Rattle.user_model.specs.Deeds.{Deed, making, deed}
 use Rattle.user_model.specs.Places.{ends_thread}
 
 -- whether the flags have the bits
@@ -66,10 +67,14 @@ top_within (suc n) ws w = elim (parent_in ws w == 0) [ true ↦ w | false ↦ to
 abbrev pub top_of : List Window → ℕ → ℕ
 top_of ws w = top_within w ws w
 
--- the window that a call makes, among the windows that are live; an owner that is a child is replaced by its top-level ancestor
+-- the window that is made, among the windows that are live; an owner that is a child is replaced by its top-level ancestor
+abbrev pub made_as : ℕ → Answer → Deed → List Window → List Window
+made_as who (WindowMade w) (making class title parent style ex l t r b) ws = let child = has_flag style WS_CHILD in record { number = w.0; thread = who; class = class; title = title; parent = (if child then parent else 0); owner = (if child then 0 else top_of ws parent) } ∷ []
+made_as who _ _ ws = []
+
+-- the window that a call makes
 abbrev pub made_by : ℕ → Answer → Call → List Window → List Window
-made_by who (WindowMade w) (NewWindow class title parent style ex l t r b) ws = let child = has_flag style WS_CHILD in record { number = w.0; thread = who; class = class; title = title; parent = (if child then parent else 0); owner = (if child then 0 else top_of ws parent) } ∷ []
-made_by who _ _ ws = []
+made_by who a call ws = made_as who a (deed call) ws
 
 -- whether a call drops the window, with its kin
 abbrev pub drops_kin : Call → List Window → Window → Bool
@@ -106,10 +111,14 @@ abbrev pub number_of_window : Answer → List ℕ
 number_of_window (WindowMade w) = w.0 ∷ []
 number_of_window _ = []
 
+-- the number that is given where a window is made
+abbrev pub numbers_as : Answer → Deed → List ℕ
+numbers_as a (making class title parent style ex l t r b) = number_of_window a
+numbers_as a _ = []
+
 -- the numbers that a new window's call gives
 abbrev pub numbers_made : Answer → Call → List ℕ
-numbers_made a (NewWindow class title parent style ex l t r b) = number_of_window a
-numbers_made a _ = []
+numbers_made a call = numbers_as a (deed call)
 
 -- the numbers of all windows that were ever made, in order
 abbrev pub windows_made : Past → List ℕ
@@ -120,28 +129,40 @@ abbrev pub if_made : {A : Type 0} → ℕ → Answer → A → Option A
 if_made w (WindowMade v) a = if v.0 == w then Some a else None
 if_made w _ a = None
 
--- the style that an entry sets for w: a new window's
+-- the style that is set for w: a new window's
+abbrev pub style_as : ℕ → Answer → Deed → Option ℕ
+style_as w a (making class title parent style ex l t r b) = if_made w a style
+style_as w a _ = None
+
+-- the style that an entry sets for w
 abbrev pub style_set : ℕ → Answer → Call → Option ℕ
-style_set w a (NewWindow class title parent style ex l t r b) = if_made w a style
-style_set w a _ = None
+style_set w a call = style_as w a (deed call)
 
 -- the style of w that was set last, or 0
 abbrev pub style_of : Past → ℕ → ℕ
 style_of past w = unwrap_or (last_of (λ e before. style_set w e.answer e.call) past) 0
 
--- the extended style that an entry sets for w: a new window's
+-- the extended style that is set for w: a new window's
+abbrev pub ex_as : ℕ → Answer → Deed → Option ℕ
+ex_as w a (making class title parent style ex l t r b) = if_made w a ex
+ex_as w a _ = None
+
+-- the extended style that an entry sets for w
 abbrev pub ex_set : ℕ → Answer → Call → Option ℕ
-ex_set w a (NewWindow class title parent style ex l t r b) = if_made w a ex
-ex_set w a _ = None
+ex_set w a call = ex_as w a (deed call)
 
 -- the extended style of w that was set last, or 0
 abbrev pub ex_of : Past → ℕ → ℕ
 ex_of past w = unwrap_or (last_of (λ e before. ex_set w e.answer e.call) past) 0
 
--- the place that an entry sets for w: a new window's
+-- the place that is set for w: a new window's
+abbrev pub place_as : ℕ → Answer → Deed → Option Box
+place_as w a (making class title parent style ex l t r b) = if_made w a (box l t r b)
+place_as w a _ = None
+
+-- the place that an entry sets for w
 abbrev pub place_set : ℕ → Answer → Call → Option Box
-place_set w a (NewWindow class title parent style ex l t r b) = if_made w a (box l t r b)
-place_set w a _ = None
+place_set w a call = place_as w a (deed call)
 
 -- the place of w that was set last, from its parent's or the screen's left top corner, or nothing there
 abbrev pub place_of : Past → ℕ → Box

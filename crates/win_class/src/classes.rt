@@ -1,6 +1,6 @@
 //! The table of window classes and registered messages.
 
-ghost use Rattle.std.specs.Prelude.{◌≡◌, ◌+◌, ◌↔◌, length, Some, IfOk, OnOk, OnErr};
+ghost use Rattle.std.specs.Prelude.{◌≡◌, ◌+◌, ◌↔◌, ◌==◌, length, nat_le, Some, IfOk, OnOk, OnErr};
 ghost use Rattle.win_num.specs.declared.code.Code.{Code};
 ghost use Rattle.win_class.specs.ClassTable.{class_in, message_refusal, no_classes, number_in, register_refusal, unregister_refusal, with_class, with_message, without_class};
 
@@ -75,7 +75,7 @@ impl Classes {
         if self.classes.contains_key(&name) {
             return Err(Fault::Refused(Code::Win(1410)));
         }
-        if self.classes.len() == CLASS_LIMIT || self.registered == u32::MAX {
+        if self.is_full() || self.registered == u32::MAX {
             return Err(Fault::Refused(Code::Full));
         }
         let atom = self.registered + 1;
@@ -125,6 +125,14 @@ impl Classes {
         self.classes.len()
     }
 
+    /// Whether as many classes are registered as may be, 64.
+    pub fn is_full(&self) -> bool
+        ensures exact { result ≡ (length self.now.classes == 64) }
+        ensures limit { result ≡ nat_le 64 (length self.now.classes) }
+    {
+        self.classes.len() == CLASS_LIMIT
+    }
+
     /// How many classes were ever registered, which is the atom of the last.
     pub fn registered(&self) -> u32
         ensures { result ≡ self.now.registered }
@@ -149,6 +157,14 @@ impl Classes {
         self.messages.len()
     }
 
+    /// Whether as many messages are registered as may be, 16,384.
+    pub fn messages_are_full(&self) -> bool
+        ensures exact { result ≡ (length self.now.messages == 16384) }
+        ensures limit { result ≡ nat_le 16384 (length self.now.messages) }
+    {
+        self.messages.len() == MESSAGE_LIMIT
+    }
+
     /// The number of the message of this name, which is registered if it isn't (Microsoft,
     /// RegisterWindowMessage function): 49152, 49153 and so on in order of registration. `Full` comes
     /// exactly where the name has no number and 16,384 messages are registered. After an error the table
@@ -163,7 +179,7 @@ impl Classes {
             return Ok(FIRST_MESSAGE + place as u32);
         }
         let place = self.messages.len();
-        if place == MESSAGE_LIMIT {
+        if self.messages_are_full() {
             return Err(Fault::Refused(Code::Full));
         }
         match self.messages.insert(name) {

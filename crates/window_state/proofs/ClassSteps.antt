@@ -13,7 +13,7 @@ use Rattle.user_model.specs.Past.{Past, is_refused, is_refusal}
 use Rattle.user_model.specs.Idle.{reply}
 use Rattle.user_model.specs.Machines.{entry_of}
 use Rattle.window_state.specs.ClassTables.{classes_at}
-use Rattle.window_state.specs.Effects.{grown_classes, settled_classes}
+use Rattle.window_state.specs.Effects.{added_classes, affected_classes}
 use Rattle.window_state.specs.Needs.{FitsNaming}
 use Rattle.user_model.specs.Classes.{registered_count}
 use Rattle.user_model.specs.ReplyWindows.{number_or_next}
@@ -21,26 +21,26 @@ use Rattle.user_model.proofs.WindowReplies.{register_told, unregister_told, regi
 use Rattle.window_state.proofs.ClassLaws.{changes_classes, register_not_refused, unregister_not_refused, message_not_refused, classes_at-rest, classes_at-refused, classes_at-register, classes_at-unregister, classes_at-message}
 
 -- no change by any other call
-unchanged : (a : Answer) (call : Call) (t : ClassTable) → changes_classes call ≡ false → settled_classes a call (grown_classes a call t) ≡ t
+unchanged : (a : Answer) (call : Call) (t : ClassTable) → changes_classes call ≡ false → affected_classes a call (added_classes a call t) ≡ t
 unchanged (answers.Value v) (calls.Register name proc_no colour) t h = absurd (true≢false h)
 unchanged (answers.Value v) (calls.Message name) t h = absurd (true≢false h)
 unchanged answers.Okay (calls.Unregister name) t h = absurd (true≢false h)
 unchanged (answers.Value v) call t h = by_value call h
   where
-    by_value : (call : Call) → changes_classes call ≡ false → settled_classes (answers.Value v) call (grown_classes (answers.Value v) call t) ≡ t
+    by_value : (call : Call) → changes_classes call ≡ false → affected_classes (answers.Value v) call (added_classes (answers.Value v) call t) ≡ t
     by_value (calls.Register name proc_no colour) h = absurd (true≢false h)
     by_value (calls.Message name) h = absurd (true≢false h)
     by_value _ h = refl
 unchanged answers.Okay call t h = by_okay call h
   where
-    by_okay : (call : Call) → changes_classes call ≡ false → settled_classes answers.Okay call (grown_classes answers.Okay call t) ≡ t
+    by_okay : (call : Call) → changes_classes call ≡ false → affected_classes answers.Okay call (added_classes answers.Okay call t) ≡ t
     by_okay (calls.Unregister name) h = absurd (true≢false h)
     by_okay _ h = refl
 unchanged _ call t h = refl
 
 -- the table after an answer to a call of who
 abbrev Follows : Past → Thread → Answer → Call → Type 0
-Follows past who a call = classes_at (entry_of who call a ∷ past) ≡ settled_classes a call (grown_classes a call (classes_at past))
+Follows past who a call = classes_at (entry_of who call a ∷ past) ≡ affected_classes a call (added_classes a call (classes_at past))
 
 refused : (past : Past) (who : Thread) (a : Answer) (call : Call) → is_refusal a ≡ true → Follows past who a call
 refused past who (answers.Refused code) call h = classes_at-refused past (entry_of who call (answers.Refused code)) refl
@@ -59,10 +59,10 @@ answered setup past who a (calls.Unregister name) right fine =
 answered setup past who a call right fine = classes_at-rest past (entry_of who call a) refl ∙ sym (unchanged a call (classes_at past) refl)
 
 -- the table that an entry leaves is the table of the past with the entry
-pub classes_after : (setup : Setup) (past : Past) (e : Entry) → e.answer ≡ reply setup past e.who.0 e.call → classes_at (e ∷ past) ≡ settled_classes e.answer e.call (grown_classes e.answer e.call (classes_at past))
+pub classes_after : (setup : Setup) (past : Past) (e : Entry) → e.answer ≡ reply setup past e.who.0 e.call → classes_at (e ∷ past) ≡ affected_classes e.answer e.call (added_classes e.answer e.call (classes_at past))
 classes_after setup past e right = pick (is_refused e) refl
   where
-    pick : (b : Bool) → is_refused e ≡ b → classes_at (e ∷ past) ≡ settled_classes e.answer e.call (grown_classes e.answer e.call (classes_at past))
+    pick : (b : Bool) → is_refused e ≡ b → classes_at (e ∷ past) ≡ affected_classes e.answer e.call (added_classes e.answer e.call (classes_at past))
     pick true h = refused past e.who e.answer e.call h
     pick false h = answered setup past e.who e.answer e.call right h
 

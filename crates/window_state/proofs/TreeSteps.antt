@@ -21,14 +21,14 @@ use Rattle.user_model.proofs.DeliveryReplies.{end_told}
 use Rattle.user_model.proofs.WindowReplies.{IsUnmade}
 use Rattle.user_model.proofs.StepReplies.{step_told}
 use Rattle.window_state.specs.Trees.{IsTreeAt}
-use Rattle.window_state.specs.Effects.{IsGrownBy, settled_tree}
+use Rattle.window_state.specs.Effects.{IsAddedBy, affected_tree}
 use Rattle.window_state.proofs.TreeFacts.{as_answer, unmade_is}
 use Rattle.window_state.proofs.TreeLaws.{tree_rest, tree_doom, tree_drop, tree_tell, tree_last, tree_end}
 use Rattle.window_state.proofs.NewWindows.{tree_new}
 
 -- the table after an answer to a call of who
 abbrev Follows : Past → Thread → Windows → Answer → Call → Type 0
-Follows past who mid a call = IsTreeAt (entry_of who call a ∷ past) (settled_tree who.0 a call mid)
+Follows past who mid a call = IsTreeAt (entry_of who call a ∷ past) (affected_tree who.0 a call mid)
 
 tell_is : (u : Unmade) (v : Hwnd) → as_answer u ≡ answers.Tell v → u ≡ unmade_as.Tell v
 tell_is (unmade_as.Tell w) v e = let same : w ≡ v = cc in ap (λ (h : Hwnd). unmade_as.Tell h) same
@@ -52,7 +52,7 @@ ended setup past t who w v at u =
     let same : unmade t.live w ≡ unmade_as.Last v = last_is (unmade t.live w) v (unmade_is past t at setup who.0 w (answers.Last v) u) in
     subst (λ (s : Unmade). IsTreeAt (entry_of who (calls.Unmake w) (answers.Last v) ∷ past) (record t { live = given s t.live })) (sym same) (tree_last past t who w v at)
 
-follows : (setup : Setup) (past : Past) (t mid : Windows) (who : Thread) (a : Answer) (call : Call) → IsLawful setup past → IsTreeAt past t → a ≡ reply setup past who.0 call → IsGrownBy who.0 a call t mid → Follows past who mid a call
+follows : (setup : Setup) (past : Past) (t mid : Windows) (who : Thread) (a : Answer) (call : Call) → IsLawful setup past → IsTreeAt past t → a ≡ reply setup past who.0 call → IsAddedBy who.0 a call t mid → Follows past who mid a call
 follows setup past t mid who (answers.Tell v) call lawful at right grown =
     let by = step_told setup past who.0 call (answers.Tell v) (sym right) refl in
     subst (λ (m : Windows). Follows past who m (answers.Tell v) call) (sym grown)
@@ -80,5 +80,5 @@ follows setup past t mid who a call lawful at right grown =
     subst (IsTreeAt (entry_of who call a ∷ past)) (sym grown) (tree_rest setup past (entry_of who call a) t at right refl)
 
 -- the table that an entry leaves is the table of the past with the entry
-pub tree_after : (setup : Setup) (past : Past) (e : Entry) (t mid new : Windows) → IsLawful setup past → IsTreeAt past t → e.answer ≡ reply setup past e.who.0 e.call → IsGrownBy e.who.0 e.answer e.call t mid → new ≡ settled_tree e.who.0 e.answer e.call mid → IsTreeAt (e ∷ past) new
+pub tree_after : (setup : Setup) (past : Past) (e : Entry) (t mid new : Windows) → IsLawful setup past → IsTreeAt past t → e.answer ≡ reply setup past e.who.0 e.call → IsAddedBy e.who.0 e.answer e.call t mid → new ≡ affected_tree e.who.0 e.answer e.call mid → IsTreeAt (e ∷ past) new
 tree_after setup past e t mid new lawful at right grown is = subst (IsTreeAt (e ∷ past)) (sym is) (follows setup past t mid e.who e.answer e.call lawful at right grown)

@@ -23,9 +23,9 @@ named_by (Message name) t = with_message t name
 named_by _ t = t
 
 -- after an answer that takes memory
-abbrev pub grown_classes : Answer → Call → ClassTable → ClassTable
-grown_classes (Value v) call t = named_by call t
-grown_classes _ call t = t
+abbrev pub added_classes : Answer → Call → ClassTable → ClassTable
+added_classes (Value v) call t = named_by call t
+added_classes _ call t = t
 
 -- after a call that was answered by ok
 abbrev pub carried_classes : Call → ClassTable → ClassTable
@@ -33,9 +33,9 @@ carried_classes (Unregister name) t = without_class t name
 carried_classes _ t = t
 
 -- after an answer that takes no memory
-abbrev pub settled_classes : Answer → Call → ClassTable → ClassTable
-settled_classes Okay call t = carried_classes call t
-settled_classes _ call t = t
+abbrev pub affected_classes : Answer → Call → ClassTable → ClassTable
+affected_classes Okay call t = carried_classes call t
+affected_classes _ call t = t
 
 -- ---- windows
 
@@ -55,9 +55,9 @@ IsMadeBy who (NewWindow class title parent style ex l t r b) old new = (row : Wi
 IsMadeBy who _ old new = new ≡ old
 
 -- after an answer that takes memory
-abbrev pub IsGrownBy : ℕ → Answer → Call → Windows → Windows → Type 0
-IsGrownBy who (Window w) call old new = IsMadeBy who call old new
-IsGrownBy who _ call old new = new ≡ old
+abbrev pub IsAddedBy : ℕ → Answer → Call → Windows → Windows → Type 0
+IsAddedBy who (Window w) call old new = IsMadeBy who call old new
+IsAddedBy who _ call old new = new ≡ old
 
 -- after a call that was answered by ok
 abbrev pub carried_tree : Call → Windows → Windows
@@ -71,9 +71,9 @@ unmade_tree (Unmake w) t = record t { live = given (unmade t.live w) t.live }
 unmade_tree _ t = t
 
 -- after an answer that takes no memory
-abbrev pub settled_tree : ℕ → Answer → Call → Windows → Windows
-settled_tree who Okay call t = carried_tree call t
-settled_tree who (Tell v) call t = unmade_tree call t
-settled_tree who (Last v) call t = unmade_tree call t
-settled_tree who Ended call t = record t { live = without_thread t.live who }
-settled_tree who _ call t = t
+abbrev pub affected_tree : ℕ → Answer → Call → Windows → Windows
+affected_tree who Okay call t = carried_tree call t
+affected_tree who (Tell v) call t = unmade_tree call t
+affected_tree who (Last v) call t = unmade_tree call t
+affected_tree who Ended call t = record t { live = without_thread t.live who }
+affected_tree who _ call t = t

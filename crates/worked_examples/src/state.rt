@@ -42,10 +42,11 @@ pub fn a_new_state_has_threads_alone(alloc: Global) -> Result<bool, AllocError> 
         && state.window_count() == 0;
     let names = !state.has_class(1)
         && !state.is_used(1)
-        && state.class_count() == 0
+        && !state.classes_are_full()
         && state.registered_count() == 0
         && state.message_number(1).is_none()
-        && state.message_count() == 0;
+        && state.message_count() == 0
+        && !state.messages_are_full();
     Ok(threads && entries && windows && names)
 }
 
@@ -62,7 +63,7 @@ pub fn a_new_state_has_no_message(alloc: Global) -> Result<bool, AllocError> {
         && state.quit(2).is_none()
         && state.next_post_number() == 1;
     let count = state.send_count();
-    let sends = state.unfinished_count() == 0
+    let sends = !state.sends_are_full()
         && state.next_send() == SendId(1)
         && state.send_story(SendId(1)) == SendStory::new()
         && (count.begun, count.entered, count.unfinished) == (0, 0, 0)

@@ -24,5 +24,5 @@ returns-in-Clock c =
     let setup = c.args.state.now.setup in
     let past = c.args.state.now.past in
     let zero : c.args.who.0 ≡ 0 = rw c.in-Clock.is at c.actor_of.ensures in
-    c.clock_told.ensures
+    c.answer_to_clock.ensures
     ∙ ap (λ b. refuse (is_full past) Full (cond b (clock_row setup past c.args.call) (thread_reply setup past c.args.who.0 c.args.call))) (sym (eq-eqb c.args.who.0 0 zero))

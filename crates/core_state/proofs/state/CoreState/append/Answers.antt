@@ -13,8 +13,8 @@ use Rattle.core_state.proofs.SendCounts.{naming_fits}
 use Rattle.core_state.proofs.StoryReads.{written}
 use Rattle.core_state.proofs.state.CoreState.append.Goals as goal
 
-pub grow-requires-clause-parts : goal.grow-requires-clause-parts
-grow-requires-clause-parts c =
+pub add_item-requires-clause-parts : goal.add_item-requires-clause-parts
+add_item-requires-clause-parts c =
     let e = c.args.entry in
     let s = c.self.inside in
     let past : Past = reverse s.history.items in
@@ -23,8 +23,8 @@ grow-requires-clause-parts c =
     let at : c.cursor-cursor.result ≡ cursor past = subst (λ (v : Seen). c.cursor-cursor.result ≡ cursor v.past) (sym c.self.view_is) c.cursor-cursor.ensures in
     growth_fits s.setup past kept c.cursor-cursor.result e c.self.invariant at right
 
-pub grow-requires-clause-sends : goal.grow-requires-clause-sends
-grow-requires-clause-sends c =
+pub add_item-requires-clause-sends : goal.add_item-requires-clause-sends
+add_item-requires-clause-sends c =
     let e = c.args.entry in
     let s = c.self.inside in
     let past : Past = reverse s.history.items in
@@ -34,8 +34,8 @@ grow-requires-clause-sends c =
     let long : c.len-place.result ≡ length s.history.items = search rules in
     sends_grow s.setup past kept e c.len-place.result room c.self.invariant right (long ∙ sym (length-reverse s.history.items))
 
-pub settle_sends-lost-requires : goal.settle_sends-lost-requires
-settle_sends-lost-requires c =
+pub take_effect_on_sends-lost-requires : goal.take_effect_on_sends-lost-requires
+take_effect_on_sends-lost-requires c =
     let e = c.args.entry in
     let s = c.self.inside in
     let past : Past = reverse s.history.items in
@@ -43,16 +43,16 @@ settle_sends-lost-requires c =
     let room : is_full past ≡ false = subst (λ (v : Seen). is_full v.past ≡ false) (sym c.self.view_is) c.requires.room in
     let right : e.answer ≡ reply s.setup past e.who.0 e.call = subst (λ (v : Seen). e.answer ≡ reply v.setup v.past e.who.0 e.call) (sym c.self.view_is) c.requires.answer in
     let long : c.len-place.result ≡ length s.history.items = search rules in
-    sends_settle s.setup past kept e c.len-place.result c.grow.new.tree c.grow.new.sends room c.self.invariant right (long ∙ sym (length-reverse s.history.items)) c.in_ok-grow.ensures.tree c.in_ok-grow.ensures.sends
+    sends_settle s.setup past kept e c.len-place.result c.add_item.new.tree c.add_item.new.sends room c.self.invariant right (long ∙ sym (length-reverse s.history.items)) c.in_ok-add_item.ensures.tree c.in_ok-add_item.ensures.sends
 
-pub settle-requires : goal.settle-requires
-settle-requires c =
+pub take_effect-requires : goal.take_effect-requires
+take_effect-requires c =
     let e = c.args.entry in
     let s = c.self.inside in
     let past : Past = reverse s.history.items in
     let kept : Parts = parts s.tree s.classes s.threads.items s.post_count s.time s.sends s.tally s.stories.items in
     let right : e.answer ≡ reply s.setup past e.who.0 e.call = subst (λ (v : Seen). e.answer ≡ reply v.setup v.past e.who.0 e.call) (sym c.self.view_is) c.requires.answer in
-    settling_fits s.setup past kept e c.grow.new.classes c.grow.new.tree c.grow.new.threads.items c.self.invariant right c.in_ok-grow.ensures.classes c.in_ok-grow.ensures.tree c.in_ok-grow.ensures.threads.same_length
+    settling_fits s.setup past kept e c.add_item.new.classes c.add_item.new.tree c.add_item.new.threads.items c.self.invariant right c.in_ok-add_item.ensures.classes c.in_ok-add_item.ensures.tree c.in_ok-add_item.ensures.threads.same_length
 
 pub invariant_of-self-2 : goal.invariant_of-self-2
 invariant_of-self-2 c =
@@ -66,24 +66,24 @@ invariant_of-self-2 c =
     let newest : e ∷ past ≡ reverse c.push.new.self.items = sym (ap reverse pushed ∙ past_more s.history.items e) in
     let long : c.len-place.result ≡ length s.history.items = search rules in
     let here : c.len-place.result ≡ place_after past = long ∙ sym (length-reverse s.history.items) in
-    let grown = c.in_ok-grow.ensures in
-    let settled = c.settle.ensures in
+    let grown = c.in_ok-add_item.ensures in
+    let settled = c.take_effect.ensures in
     let first : c.first_cause-first.result ≡ first_cause s.sends e.who.0 e.answer e.call = c.first_cause-first.ensures ∙ ap (first_of s.sends) c.named_send-named.ensures in
     let before : c.deref_mut.result.now ≡ c.add_story.new.stories.items = c.deref_mut.ensures.value in
     let counted : c.add_story.new.stories.len ≡ length c.add_story.new.stories.items = search rules in
-    let losses = c.settle_sends-lost.ensures.stories in
-    let shared : length c.settle_sends-lost.new.stories ≡ length c.add_story.new.stories.items = losses.same_length ∙ ap (λ (l : List SendStory). length l) before in
-    let between = written c.settle_sends-lost.new.stories c.add_story.new.stories.items c.add_story.new.stories.len counted shared in
+    let losses = c.take_effect_on_sends-lost.ensures.stories in
+    let shared : length c.take_effect_on_sends-lost.new.stories ≡ length c.add_story.new.stories.items = losses.same_length ∙ ap (λ (l : List SendStory). length l) before in
+    let between = written c.take_effect_on_sends-lost.new.stories c.add_story.new.stories.items c.add_story.new.stories.len counted shared in
     let begun = before ∙ c.add_story.ensures ∙ ap (with_begun e.answer) c.reserve-2.ensures.items in
     let answered = subst (λ q. EachStory (noted_answer e.answer q c.len-place.result) c.deref_mut-2.result.now c.note_answer.new.stories) c.named_send-named.ensures c.note_answer.ensures in
     let noted = subst (λ (l : List SendStory). EachStory (noted_answer e.answer (named_send s.sends e.who.0 e.answer e.call) c.len-place.result) l c.note_answer.new.stories) (c.deref_mut-2.ensures.value ∙ between) answered in
     let at : c.cursor-cursor.result ≡ cursor past = subst (λ (v : Seen). c.cursor-cursor.result ≡ cursor v.past) (sym c.self.view_is) c.cursor-cursor.ensures in
-    let now = stands_step s.setup past kept c.cursor-cursor.result e c.grow.new.classes c.settle.new.classes c.grow.new.tree c.settle.new.tree c.grow.new.threads.items c.settle.new.threads.items c.note_entry.new.threads.items c.grow.new.sends c.settle_sends-lost.new.sends c.first_cause-first.result c.settle_sends-lost.result c.with-self-inside.result c.deref_mut.result.now c.settle_sends-lost.new.stories c.note_answer.new.stories c.len-place.result room right c.self.invariant at grown.classes settled.classes grown.tree settled.tree grown.threads settled.threads c.note_entry.ensures grown.sends c.settle_sends-lost.ensures.sends here first c.settle_sends-lost.ensures.lost c.with-self-inside.ensures begun c.settle_sends-lost.ensures.stories noted in
+    let now = stands_step s.setup past kept c.cursor-cursor.result e c.add_item.new.classes c.take_effect.new.classes c.add_item.new.tree c.take_effect.new.tree c.add_item.new.threads.items c.take_effect.new.threads.items c.note_entry.new.threads.items c.add_item.new.sends c.take_effect_on_sends-lost.new.sends c.first_cause-first.result c.take_effect_on_sends-lost.result c.with-self-inside.result c.deref_mut.result.now c.take_effect_on_sends-lost.new.stories c.note_answer.new.stories c.len-place.result room right c.self.invariant at grown.classes settled.classes grown.tree settled.tree grown.threads settled.threads c.note_entry.ensures grown.sends c.take_effect_on_sends-lost.ensures.sends here first c.take_effect_on_sends-lost.ensures.lost c.with-self-inside.ensures begun c.take_effect_on_sends-lost.ensures.stories noted in
     let whole =
     ap (λ (l : List SendStory). take c.add_story.new.stories.len (c.note_answer.new.stories ++ drop (length c.note_answer.new.stories) l)) between
-    ∙ written c.note_answer.new.stories c.settle_sends-lost.new.stories c.add_story.new.stories.len (counted ∙ sym shared) noted.same_length in
-    subst (λ (l : List SendStory). Stands s.setup (reverse c.push.new.self.items) (parts c.settle.new.tree c.settle.new.classes c.note_entry.new.threads.items c.count_after-self-inside.result c.time_after-self-inside.result c.settle_sends-lost.new.sends c.with-self-inside.result l)) (sym whole)
-    (subst (λ (h : Past). Stands s.setup h (parts c.settle.new.tree c.settle.new.classes c.note_entry.new.threads.items c.count_after-self-inside.result c.time_after-self-inside.result c.settle_sends-lost.new.sends c.with-self-inside.result c.note_answer.new.stories)) newest (search (rules, now)))
+    ∙ written c.note_answer.new.stories c.take_effect_on_sends-lost.new.stories c.add_story.new.stories.len (counted ∙ sym shared) noted.same_length in
+    subst (λ (l : List SendStory). Stands s.setup (reverse c.push.new.self.items) (parts c.take_effect.new.tree c.take_effect.new.classes c.note_entry.new.threads.items c.count_after-self-inside.result c.time_after-self-inside.result c.take_effect_on_sends-lost.new.sends c.with-self-inside.result l)) (sym whole)
+    (subst (λ (h : Past). Stands s.setup h (parts c.take_effect.new.tree c.take_effect.new.classes c.note_entry.new.threads.items c.count_after-self-inside.result c.time_after-self-inside.result c.take_effect_on_sends-lost.new.sends c.with-self-inside.result c.note_answer.new.stories)) newest (search (rules, now)))
 
 pub with-self-inside-requires : goal.with-self-inside-requires
 with-self-inside-requires c =
@@ -94,8 +94,8 @@ with-self-inside-requires c =
     let right : e.answer ≡ reply s.setup past e.who.0 e.call = subst (λ (v : Seen). e.answer ≡ reply v.setup v.past e.who.0 e.call) (sym c.self.view_is) c.requires.answer in
     let long : c.len-place.result ≡ length s.history.items = search rules in
     let here : c.len-place.result ≡ place_after past = long ∙ sym (length-reverse s.history.items) in
-    let grown = c.in_ok-grow.ensures in
-    tally_step s.setup past kept e c.len-place.result c.settle_sends-lost.result c.grow.new.tree c.grow.new.sends c.self.invariant right here grown.tree grown.sends c.settle_sends-lost.ensures.lost
+    let grown = c.in_ok-add_item.ensures in
+    tally_step s.setup past kept e c.len-place.result c.take_effect_on_sends-lost.result c.add_item.new.tree c.add_item.new.sends c.self.invariant right here grown.tree grown.sends c.take_effect_on_sends-lost.ensures.lost
 
 pub named_send-named-requires : goal.named_send-named-requires
 named_send-named-requires c =
