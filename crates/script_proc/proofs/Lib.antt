@@ -1,5 +1,7 @@
-pub mod HereLaws
+pub mod ItemLaws
 pub mod Lasts
-pub mod MoveLaws
+pub mod Programming
+pub mod StandLaws
 pub mod TurnLaws
 pub mod WorkerLaws
+pub mod Workings

@@ -3,7 +3,7 @@ ghost use Rattle.std.specs.Prelude.{◌<◌};
 use super::*;
 use crate::io::{MemSink, MemSource};
 use crate::refusing::Refusing;
-use script_proc::{Turn, Worker};
+use script_proc::{Program, Turn, Worker};
 use script_text::read;
 use std::alloc::{AllocError, Global};
 use std::test::Fail;
@@ -128,9 +128,10 @@ fn turns_of_a_thread(rt: HostRuntime) -> Result<(), Fail> {
         let machine = User::new(alloc, Setup::new(2, 8, 4))?;
         let mut teller = Alone { machine };
         let script = read(alloc, text).expect(&rt, "a script");
-        let mut worker = Worker::new(alloc, &script, 1)?;
+        let program = Program::new(alloc, &script)?;
+        let mut worker = Worker::new(alloc, &program, 1)?;
         for turn in turns {
-            assert_eq!(rt; worker.turn(&script, &mut teller)?, turn);
+            assert_eq!(rt; worker.turn(&program, &mut teller)?, turn);
         }
     }
     Ok(())
@@ -145,11 +146,12 @@ fn a_turn_without_memory_is_tried_again(rt: HostRuntime) -> Result<(), Fail> {
         refuses: true,
     };
     let script = read(alloc, ONE_END).expect(&rt, "a script");
-    let mut worker = Worker::new(alloc, &script, 1)?;
-    assert!(rt; worker.turn(&script, &mut teller).is_err());
+    let program = Program::new(alloc, &script)?;
+    let mut worker = Worker::new(alloc, &program, 1)?;
+    assert!(rt; worker.turn(&program, &mut teller).is_err());
     assert_eq!(rt; teller.teller.machine.history().len(), 0usize);
-    assert_eq!(rt; worker.turn(&script, &mut teller)?, Turn::Went);
-    assert_eq!(rt; worker.turn(&script, &mut teller)?, Turn::Ended);
+    assert_eq!(rt; worker.turn(&program, &mut teller)?, Turn::Went);
+    assert_eq!(rt; worker.turn(&program, &mut teller)?, Turn::Ended);
     assert_eq!(rt; teller.teller.machine.history().len(), 1usize);
     Ok(())
 }
