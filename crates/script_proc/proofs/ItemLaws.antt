@@ -1,6 +1,6 @@
 -- What items do, one by one.
-use Rattle.std.proofs.Common.{◌≡◌, ℕ, zero, suc, ◌+◌, ◌-◌, ◌*◌, ◌<◌, ◌≤◌, min, ◌==◌, Bool, true, false, List, [], ◌∷◌, ◌++◌, length, drop, Some, None, refl, sym, ap, ◌∙◌, subst, arith, append_assoc, append-nil, eq-eqb, fold}
-use Rattle.std.specs.Prelude.{slice_get, if◌then◌else◌, unwrap_or, max}
+use Rattle.std.proofs.Common.{◌≡◌, ℕ, zero, suc, ◌+◌, ◌-◌, ◌*◌, ◌<◌, ◌≤◌, min, ◌==◌, Bool, true, false, List, [], ◌∷◌, ◌++◌, length, drop, Some, None, refl, sym, ap, ◌∙◌, subst, arith, append_assoc, append-nil, eq-eqb, fold, inl, inr}
+use Rattle.std.specs.Prelude.{◌⊎◌, slice_get, if◌then◌else◌, unwrap_or, max}
 use Rattle.user_model.specs.declared.call.Call.TheVariants.{Yield}
 use Rattle.script_tree.specs.declared.operand.Test.{Test}
 use Rattle.script_tree.specs.declared.statement.Statement.{Statement, items-the_row-Statement}
@@ -14,14 +14,16 @@ use Rattle.script_tree.specs.Steps.{step, passes, statement}
 use Rattle.script_tree.specs.Weights.{weight, lines_weight, costs, steps_left}
 use Rattle.script_tree.proofs.Falls.{falls}
 use Rattle.script_proc.specs.declared.program.Line.{Line}
-use Rattle.script_proc.specs.declared.program.Line.TheVariants.{If', Else', While', End}
+use Rattle.script_proc.specs.declared.program.Line.TheVariants.{If, Else, While, End}
 use Rattle.script_proc.specs.declared.program.Program.{Program}
 use Rattle.script_proc.specs.declared.item.Item.{Item}
 use Rattle.script_proc.specs.declared.item.Item.TheVariants.{At, Once, PassEnd as PassEndItem, Making as MakingItem, Quiet as QuietItem, Running, Leaving, Restore}
 use Rattle.script_proc.specs.declared.item.Mode.{Mode}
 use Rattle.script_proc.specs.declared.item.Mode.TheVariants.{Going as GoingMode, Returning as ReturningMode, Given as GivenMode}
+use Rattle.script_proc.specs.declared.item.Few.{Few}
+use Rattle.script_proc.specs.declared.item.Few.TheVariants.{Single, Two}
 use Rattle.script_proc.specs.Programs.{Says, Stands, lines_at, IsProgramOf}
-use Rattle.script_proc.specs.Items.{piece, Covers, AllCover, IsLoop, loops, above, state_of, Keeps, IsPlain, ArePlain, IsPlaceless, ArePlaceless}
+use Rattle.script_proc.specs.Items.{few_items, piece, Covers, AllCover, IsLoop, loops, above, state_of, Keeps, IsPlain, ArePlain, IsPlaceless, ArePlaceless}
 use Rattle.script_proc.specs.Works.{statements, no_tree, as_long, all_long, Moves}
 use Rattle.script_proc.proofs.StandLaws.{drop_here, drop_past, within, drop_behind, IsSimple, says, said_weight, nothing_stands, are_lines, keeps_on, keeps_itself, by_step, lines_pass, alone_goes, else_goes, end_goes, then_goes, otherwise_goes, IsWhile, is_while, while_comes}
 
@@ -37,6 +39,13 @@ cover_is p (At at) qs h c = absurd h
 cover_is p (Once at) qs h c = absurd h
 cover_is p (PassEndItem at began) qs h c = absurd h
 cover_is p item qs h c = c
+
+pub is_plain : (item : Item) → ((at : ℕ) → item ≡ At at → ⊥) → ((at : ℕ) → item ≡ Once at → ⊥) → ((at began : ℕ) → item ≡ PassEndItem at began → ⊥) → ((run : Run) → item ≡ Running run → ⊥) → IsPlain item
+is_plain (At at) a b c d = a at refl
+is_plain (Once at) a b c d = b at refl
+is_plain (PassEndItem at began) a b c d = c at began refl
+is_plain (Running run) a b c d = d run refl
+is_plain item a b c d = tt
 
 above_more : (few : List Item) (acc : List Piece) → fold (λ ps item. piece item ∷ ps) acc few ≡ above few ++ acc
 above_more [] acc = refl
@@ -55,6 +64,9 @@ is_placeless item h = tt
 are_placeless : (few : List Item) → ArePlain few → ArePlaceless few
 are_placeless [] h = tt
 are_placeless (item ∷ few) h = (is_placeless item h.0, are_placeless few h.1)
+
+pub same_line : {a b : Line} → Some a ≡ Some b → a ≡ b
+same_line e = cc
 
 -- the weight of so many statements
 weighs : (k : ℕ) → lines_weight (statements k) ≡ 5 * k
@@ -136,7 +148,7 @@ module _ (p : Program) (n : ℕ) where
   pub simple_moves : (at : ℕ) (line : Line) (few all : List Item) (v : Variables) (st : State) → slice_get p.lines.items at ≡ Some line → IsSimple line → ArePlain few → all ≡ At (at + 1) ∷ few → ((line' : Statement) (k : ℕ) → Says line line' → Becomes (above few) st ≡ statement line' v k) → Moves p n (At at) (Going v) all st
   simple_moves at line few all v st h i f is e = subst (λ xs. Moves p n (At at) (Going v) xs st) (sym is) (record {
     keeps = λ s of qs left c.
-        let r = alone_goes s n line (lines_at p (at + 1)) qs left v i (here at line qs h c) in
+        let r = alone_goes s n left v i (here at line qs h c) in
         let rs = r.2.0 in
         (above few ++ rs, (above few, rs, refl, r.2.1, plain_cover p few (are_placeless few f)),
         subst (λ ps. Keeps s (qs ++ left) (Going v) ps st n) (sym (append_assoc (above few) rs left))
@@ -154,34 +166,34 @@ module _ (p : Program) (n : ℕ) where
   behind at passed most next rs h is g = subst (λ ls. Stands ls rs) (sym (ap (λ k. drop k p.lines.items) is ∙ drop_behind p.lines.items at passed most h)) g
 
   -- an `if` whose test holds
-  pub then_moves : (at : ℕ) (t : Test) (passed : ℕ) (v : Variables) → slice_get p.lines.items at ≡ Some (If' t passed) → holds t v ≡ true → Moves p n (At at) (Going v) (At (at + 1) ∷ []) (Going v)
+  pub then_moves : (at : ℕ) (t : Test) (passed : ℕ) (v : Variables) → slice_get p.lines.items at ≡ Some (If t passed) → holds t v ≡ true → Moves p n (At at) (Going v) (At (at + 1) ∷ []) (Going v)
   then_moves at t passed v h y = record {
     keeps = λ s of qs left c.
-        let r = then_goes s n t passed (lines_at p (at + 1)) qs left v y (here at (If' t passed) qs h c) in
+        let r = then_goes s n left v y (here at (If t passed) qs h c) in
         (r.0, at_covers (at + 1) r.0 r.1, r.2);
-    fewer = λ left. on_falls (length p.lines.items) n at (at + 1) left v v (within p.lines.items at (If' t passed) h) (omega arith);
+    fewer = λ left. on_falls (length p.lines.items) n at (at + 1) left v v (within p.lines.items at (If t passed) h) (omega arith);
   }
 
   -- and one whose test fails
-  pub otherwise_moves : (at : ℕ) (t : Test) (passed most next : ℕ) (v : Variables) → slice_get p.lines.items at ≡ Some (If' t passed) → holds t v ≡ false → length p.lines.items ≤ most → next ≡ min (at + 1 + passed) most → Moves p n (At at) (Going v) (At next ∷ []) (Going v)
+  pub otherwise_moves : (at : ℕ) (t : Test) (passed most next : ℕ) (v : Variables) → slice_get p.lines.items at ≡ Some (If t passed) → holds t v ≡ false → length p.lines.items ≤ most → next ≡ min (at + 1 + passed) most → Moves p n (At at) (Going v) (At next ∷ []) (Going v)
   otherwise_moves at t passed most next v h y short is = record {
     keeps = λ s of qs left c.
-        let r = otherwise_goes s n t passed (lines_at p (at + 1)) qs left v y (here at (If' t passed) qs h c) in
+        let r = otherwise_goes s n left v y (here at (If t passed) qs h c) in
         (r.0, at_covers next r.0 (behind at passed most next r.0 short is r.1), r.2);
-    fewer = λ left. let l = within p.lines.items at (If' t passed) h in on_falls (length p.lines.items) n at next left v v l (omega (arith, l, short, is));
+    fewer = λ left. let l = within p.lines.items at (If t passed) h in on_falls (length p.lines.items) n at next left v v l (omega (arith, l, short, is));
   }
 
-  pub else_moves : (at passed most next : ℕ) (v : Variables) → slice_get p.lines.items at ≡ Some (Else' passed) → length p.lines.items ≤ most → next ≡ min (at + 1 + passed) most → Moves p n (At at) (Going v) (At next ∷ []) (Going v)
+  pub else_moves : (at passed most next : ℕ) (v : Variables) → slice_get p.lines.items at ≡ Some (Else passed) → length p.lines.items ≤ most → next ≡ min (at + 1 + passed) most → Moves p n (At at) (Going v) (At next ∷ []) (Going v)
   else_moves at passed most next v h short is = record {
     keeps = λ s of qs left c.
-        let r = else_goes s n passed (lines_at p (at + 1)) qs left v (here at (Else' passed) qs h c) in
+        let r = else_goes s n left v (here at (Else passed) qs h c) in
         (r.0, at_covers next r.0 (behind at passed most next r.0 short is r.1), r.2);
-    fewer = λ left. let l = within p.lines.items at (Else' passed) h in on_falls (length p.lines.items) n at next left v v l (omega (arith, l, short, is));
+    fewer = λ left. let l = within p.lines.items at (Else passed) h in on_falls (length p.lines.items) n at next left v v l (omega (arith, l, short, is));
   }
 
   pub end_moves : (at : ℕ) (v : Variables) → slice_get p.lines.items at ≡ Some End → Moves p n (At at) (Going v) [] (Going v)
   end_moves at v h = record {
-    keeps = λ s of qs left c. ([], refl, end_goes s n (lines_at p (at + 1)) qs left v (here at End qs h c));
+    keeps = λ s of qs left c. ([], refl, end_goes s n left v (here at End qs h c));
     fewer = λ left. out_falls (length p.lines.items) n (length p.lines.items - at) left v;
   }
 
@@ -189,12 +201,12 @@ module _ (p : Program) (n : ℕ) where
   abbrev pub while_few : ℕ → Bool → ℕ → List Item
   while_few at b next = if b then PassEndItem at n ∷ At (at + 1) ∷ [] else At next ∷ []
 
-  looped : (s : Tree) (at : ℕ) (t : Test) (passed : ℕ) (line : Statement) (rs left : List Piece) (v : Variables) (b : Bool) (most next : ℕ) → holds t v ≡ b → slice_get p.lines.items at ≡ Some (While' t passed) → length p.lines.items ≤ most → next ≡ min (at + 1 + passed) most → IsWhile t passed (lines_at p (at + 1)) line rs → (qs : List Piece) × AllCover p (while_few at b next) qs × Keeps s (One line ∷ rs ++ left) (Going v) (qs ++ left) (Going v) n
-  looped s at t passed _ rs left v true most next y h short is (is_while {k = k} {a = a} f g) =
+  looped : {line : Statement} {rs : List Piece} (s : Tree) (at : ℕ) (t : Test) (passed : ℕ) (left : List Piece) (v : Variables) (b : Bool) (most next : ℕ) → holds t v ≡ b → slice_get p.lines.items at ≡ Some (While t passed) → length p.lines.items ≤ most → next ≡ min (at + 1 + passed) most → IsWhile t passed (lines_at p (at + 1)) line rs → (qs : List Piece) × AllCover p (while_few at b next) qs × Keeps s (One line ∷ rs ++ left) (Going v) (qs ++ left) (Going v) n
+  looped s at t passed left v true most next y h short is (is_while {k = k} {a = a} {left = rs} f g) =
       (Lines (items-the_row-Statement _ a) ∷ PassEnd (tree.While' t k a) n ∷ rs,
       (Lines (items-the_row-Statement _ a) ∷ [], PassEnd (tree.While' t k a) n ∷ rs, refl, (tree.While' t k a, rs, refl, loops h f g), at_covers (at + 1) _ f),
       by_step s n (One (tree.While' t k a)) (rs ++ left) (Going v) (Lines (items-the_row-Statement _ a) ∷ PassEnd (tree.While' t k a) n ∷ []) (Going v) (ap (λ z. if z then Becomes (Lines (items-the_row-Statement _ a) ∷ PassEnd (tree.While' t k a) n ∷ []) (Going v) else passes (Going v)) y))
-  looped s at t passed _ rs left v false most next y h short is (is_while {k = k} {a = a} f g) =
+  looped s at t passed left v false most next y h short is (is_while {k = k} {a = a} {left = rs} f g) =
       (rs, at_covers next rs (behind at passed most next rs short is g),
       by_step s n (One (tree.While' t k a)) (rs ++ left) (Going v) [] (Going v) (ap (λ z. if z then Becomes (Lines (items-the_row-Statement _ a) ∷ PassEnd (tree.While' t k a) n ∷ []) (Going v) else passes (Going v)) y))
 
@@ -203,40 +215,41 @@ module _ (p : Program) (n : ℕ) where
   while_fewer at false most next passed left v l short is = on_falls (length p.lines.items) n at next left v v l (omega (arith, l, short, is))
 
   -- a `while`
-  pub while_moves : (at : ℕ) (t : Test) (passed most next : ℕ) (v : Variables) → slice_get p.lines.items at ≡ Some (While' t passed) → length p.lines.items ≤ most → next ≡ min (at + 1 + passed) most → Moves p n (At at) (Going v) (while_few at (holds t v) next) (Going v)
+  pub while_moves : (at : ℕ) (t : Test) (passed most next : ℕ) (v : Variables) → slice_get p.lines.items at ≡ Some (While t passed) → length p.lines.items ≤ most → next ≡ min (at + 1 + passed) most → Moves p n (At at) (Going v) (while_few at (holds t v) next) (Going v)
   while_moves at t passed most next v h short is = record {
     keeps = λ s of qs left c.
-        let r = while_comes s n t passed (lines_at p (at + 1)) qs left v (here at (While' t passed) qs h c) in
-        let l = looped s at t passed r.0 r.1 left v (holds t v) most next refl h short is r.2 in
+        let r = while_comes s n left v (here at (While t passed) qs h c) in
+        let l = looped s at t passed left v (holds t v) most next refl h short is r.2 in
         (l.0, l.1, keeps_on s n _ _ _ _ _ _ r.3 l.2);
-    fewer = λ left. while_fewer at (holds t v) most next passed left v (within p.lines.items at (While' t passed) h) short is;
+    fewer = λ left. while_fewer at (holds t v) most next passed left v (within p.lines.items at (While t passed) h) short is;
   }
 
-  one_while : (at : ℕ) (t u : Test) (passed skipped : ℕ) → slice_get p.lines.items at ≡ Some (While' t passed) → slice_get p.lines.items at ≡ Some (While' u skipped) → (t ≡ u) × (passed ≡ skipped)
-  one_while at t u passed skipped h g = let e : Some (While' t passed) ≡ Some (While' u skipped) = sym h ∙ g in (cc, cc)
+  one_while : (at : ℕ) (t u : Test) (passed skipped : ℕ) → slice_get p.lines.items at ≡ Some (While t passed) → slice_get p.lines.items at ≡ Some (While u skipped) → (t ≡ u) × (passed ≡ skipped)
+  one_while at t u passed skipped h g = let e : Some (While t passed) ≡ Some (While u skipped) = sym h ∙ g in (cc, cc)
 
-  loop_is : (at : ℕ) (t : Test) (passed : ℕ) (line : Statement) (rs : List Piece) → slice_get p.lines.items at ≡ Some (While' t passed) → IsLoop p at line rs → IsWhile t passed (lines_at p (at + 1)) line rs
-  loop_is at t passed _ rs h (loops {t = u} {passed = skipped} {k = k} {a = a} g f e) =
+  loop_is : {line : Statement} {rs : List Piece} (at : ℕ) (t : Test) (passed : ℕ) → slice_get p.lines.items at ≡ Some (While t passed) → IsLoop p at line rs → IsWhile t passed (lines_at p (at + 1)) line rs
+  loop_is at t passed h (loops {t = u} {passed = skipped} {k = k} {a = a} {left = rs} g f e) =
       let same = one_while at t u passed skipped h g in
       subst (λ x. IsWhile x passed (lines_at p (at + 1)) (tree.While' u k a) rs) (sym same.0) (is_while f (subst (λ x. Stands (drop x (lines_at p (at + 1))) rs) (sym same.1) e))
 
   -- the same `while` once more
-  pub once_moves : (at : ℕ) (t : Test) (passed most next : ℕ) (v : Variables) → slice_get p.lines.items at ≡ Some (While' t passed) → length p.lines.items ≤ most → next ≡ min (at + 1 + passed) most → Moves p n (Once at) (Going v) (while_few at (holds t v) next) (Going v)
+  pub once_moves : (at : ℕ) (t : Test) (passed most next : ℕ) (v : Variables) → slice_get p.lines.items at ≡ Some (While t passed) → length p.lines.items ≤ most → next ≡ min (at + 1 + passed) most → Moves p n (Once at) (Going v) (while_few at (holds t v) next) (Going v)
   once_moves at t passed most next v h short is = record {
     keeps = λ s of qs left c.
-        let l = looped s at t passed c.0 c.1 left v (holds t v) most next refl h short is (loop_is at t passed c.0 c.1 h c.3) in
+        let l = looped s at t passed left v (holds t v) most next refl h short is (loop_is at t passed h c.3) in
         (l.0, l.1, subst (λ ps. Keeps s (ps ++ left) (Going v) (l.0 ++ left) (Going v) n) (sym c.2) l.2);
-    fewer = λ left. while_fewer at (holds t v) most next passed left v (within p.lines.items at (While' t passed) h) short is;
+    fewer = λ left. while_fewer at (holds t v) most next passed left v (within p.lines.items at (While t passed) h) short is;
   }
 
+  loopless : {line : Statement} {rs : List Piece} (at : ℕ) → IsLoop p at line rs → ((t : Test) (passed : ℕ) → slice_get p.lines.items at ≡ Some (While t passed) → ⊥) → ⊥
+  loopless at (loops {t = t} {passed = passed} g f e) h = h t passed g
+
   -- no `while` stands there
-  pub no_loop_moves : (at : ℕ) (v : Variables) → ((t : Test) (passed : ℕ) → slice_get p.lines.items at ≡ Some (While' t passed) → ⊥) → Moves p n (Once at) (Going v) [] (Going v)
+  pub no_loop_moves : (at : ℕ) (v : Variables) → ((t : Test) (passed : ℕ) → slice_get p.lines.items at ≡ Some (While t passed) → ⊥) → Moves p n (Once at) (Going v) [] (Going v)
   no_loop_moves at v h = record {
-    keeps = λ s of qs left c. absurd (loopless at c.0 c.1 c.3 h);
+    keeps = λ s of qs left c. absurd (loopless at c.3 h);
     fewer = λ left. out_falls (length p.lines.items) n (length p.lines.items - at) left v;
-  } where
-    loopless : (at : ℕ) (line : Statement) (rs : List Piece) → IsLoop p at line rs → ((t : Test) (passed : ℕ) → slice_get p.lines.items at ≡ Some (While' t passed) → ⊥) → ⊥
-    loopless at _ rs (loops {t = t} {passed = passed} g f e) h = h t passed g
+  }
 
   -- the end of a pass with an entry in it
   pub pass_moves : (at began : ℕ) (v : Variables) → (n == began) ≡ false → Moves p n (PassEndItem at began) (Going v) (Once at ∷ []) (Going v)
@@ -290,8 +303,8 @@ module _ (p : Program) (n : ℕ) where
   Hands GoingMode = ⊥
   Hands mode = Unit {0}
 
-  loop_lines : (at : ℕ) (line : Statement) (rs left : List Piece) (s : Tree) (st : State) → IsLoop p at line rs → ((xs : List Statement) → step s (Lines xs) st n ≡ Becomes [] st) → Keeps s (rs ++ left) st left st n
-  loop_lines at _ rs left s st (loops g f e) h = lines_pass s n rs left st (are_lines e) h
+  loop_lines : {line : Statement} {rs : List Piece} (at : ℕ) (left : List Piece) (s : Tree) (st : State) → IsLoop p at line rs → ((xs : List Statement) → step s (Lines xs) st n ≡ Becomes [] st) → Keeps s (rs ++ left) st left st n
+  loop_lines at left s st (loops {left = rs} g f e) h = lines_pass s n rs left st (are_lines e) h
 
   placed_keeps : (item : Item) (mode : Mode) (v : Variables) → IsPlaced item → Hands mode → (s : Tree) (qs left : List Piece) → Covers p item qs → Keeps s (qs ++ left) (state_of v mode) left (state_of v mode) n
   placed_keeps item GoingMode v i h s qs left c = absurd h
@@ -299,16 +312,16 @@ module _ (p : Program) (n : ℕ) where
   placed_keeps (At at) (GivenMode a x) v i h s qs left c = lines_pass s n qs left (Given v a x) (are_lines c) (λ xs. refl)
   placed_keeps (Once at) (ReturningMode x) v i h s qs left c =
       subst (λ ps. Keeps s (ps ++ left) (Returning v x) left (Returning v x) n) (sym c.2)
-      (keeps_on s n _ _ _ _ _ _ (by_step s n (One c.0) (c.1 ++ left) (Returning v x) [] (Returning v x) refl) (loop_lines at c.0 c.1 left s (Returning v x) c.3 (λ xs. refl)))
+      (keeps_on s n _ _ _ _ _ _ (by_step s n (One c.0) (c.1 ++ left) (Returning v x) [] (Returning v x) refl) (loop_lines at left s (Returning v x) c.3 (λ xs. refl)))
   placed_keeps (Once at) (GivenMode a x) v i h s qs left c =
       subst (λ ps. Keeps s (ps ++ left) (Given v a x) left (Given v a x) n) (sym c.2)
-      (keeps_on s n _ _ _ _ _ _ (by_step s n (One c.0) (c.1 ++ left) (Given v a x) [] (Given v a x) refl) (loop_lines at c.0 c.1 left s (Given v a x) c.3 (λ xs. refl)))
+      (keeps_on s n _ _ _ _ _ _ (by_step s n (One c.0) (c.1 ++ left) (Given v a x) [] (Given v a x) refl) (loop_lines at left s (Given v a x) c.3 (λ xs. refl)))
   placed_keeps (PassEndItem at began) (ReturningMode x) v i h s qs left c =
       subst (λ ps. Keeps s (ps ++ left) (Returning v x) left (Returning v x) n) (sym c.2)
-      (keeps_on s n _ _ _ _ _ _ (by_step s n (PassEnd c.0 began) (c.1 ++ left) (Returning v x) [] (Returning v x) refl) (loop_lines at c.0 c.1 left s (Returning v x) c.3 (λ xs. refl)))
+      (keeps_on s n _ _ _ _ _ _ (by_step s n (PassEnd c.0 began) (c.1 ++ left) (Returning v x) [] (Returning v x) refl) (loop_lines at left s (Returning v x) c.3 (λ xs. refl)))
   placed_keeps (PassEndItem at began) (GivenMode a x) v i h s qs left c =
       subst (λ ps. Keeps s (ps ++ left) (Given v a x) left (Given v a x) n) (sym c.2)
-      (keeps_on s n _ _ _ _ _ _ (by_step s n (PassEnd c.0 began) (c.1 ++ left) (Given v a x) [] (Given v a x) refl) (loop_lines at c.0 c.1 left s (Given v a x) c.3 (λ xs. refl)))
+      (keeps_on s n _ _ _ _ _ _ (by_step s n (PassEnd c.0 began) (c.1 ++ left) (Given v a x) [] (Given v a x) refl) (loop_lines at left s (Given v a x) c.3 (λ xs. refl)))
   placed_keeps (Running run) (ReturningMode x) v i h s qs left c =
       subst (λ ps. Keeps s (ps ++ left) (Returning v x) left (Returning v x) n) (sym c) (by_step s n (RunningPiece run) left (Returning v x) [] (Returning v x) refl)
   placed_keeps (Running run) (GivenMode a x) v i h s qs left c =
@@ -341,3 +354,25 @@ module _ (p : Program) (n : ℕ) where
     keeps = λ s of qs left c. ([], refl, placed_keeps item mode v i h s qs left c);
     fewer = λ left. placed_fewer item mode v i h left;
   }
+
+  -- in the mode that hands nothing on
+  pub in_going : (item : Item) (few : List Item) (st : State) (v : Variables) (mode : Mode) → mode ≡ GoingMode → Moves p n item st few (Going v) → Moves p n item st few (state_of v mode)
+  in_going item few st v mode e m = subst (λ x. Moves p n item st few (state_of v x)) (sym e) m
+
+  few_is : (at next : ℕ) (b : Bool) → few_items (if b then Two (PassEndItem at n) (At (at + 1)) else Single (At next)) ≡ while_few at b next
+  few_is at next true = refl
+  few_is at next false = refl
+
+  -- the same as a few items
+  pub while_is : (at next : ℕ) (b : Bool) (few : Few) (item : Item) (v : Variables) → few ≡ (if b then Two (PassEndItem at n) (At (at + 1)) else Single (At next)) → Moves p n item (Going v) (while_few at b next) (Going v) → Moves p n item (Going v) (few_items few) (Going v)
+  while_is at next b few item v e m = subst (λ xs. Moves p n item (Going v) xs (Going v)) (sym (ap few_items e ∙ few_is at next b)) m
+
+  pub placed_is : (item : Item) → (((x : ℕ) × (item ≡ At x)) ⊎ (((x : ℕ) × (item ≡ Once x)) ⊎ (((x : ℕ) × (y : ℕ) × (item ≡ PassEndItem x y)) ⊎ ((run : Run) × (item ≡ Running run))))) → IsPlaced item
+  placed_is item (inl x) = subst IsPlaced (sym x.1) tt
+  placed_is item (inr (inl x)) = subst IsPlaced (sym x.1) tt
+  placed_is item (inr (inr (inl x))) = subst IsPlaced (sym x.2) tt
+  placed_is item (inr (inr (inr x))) = subst IsPlaced (sym x.1) tt
+
+  pub hands_on : (mode : Mode) → (mode ≡ GoingMode → ⊥) → Hands mode
+  hands_on GoingMode h = h refl
+  hands_on mode h = tt

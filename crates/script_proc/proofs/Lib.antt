@@ -1,3 +1,4 @@
+pub mod Following
 pub mod ItemLaws
 pub mod Lasts
 pub mod Programming

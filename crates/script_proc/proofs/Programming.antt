@@ -1,5 +1,6 @@
 -- Statements put behind lines.
-use Rattle.std.proofs.Common.{◌≡◌, ℕ, zero, suc, ◌+◌, ◌-◌, ◌<◌, List, [], ◌∷◌, ◌++◌, length, drop, Some, None, refl, sym, ap, ◌∙◌, subst, arith, append_assoc, append-nil, length-append, drop_at}
+use Rattle.std.proofs.Common.{◌≡◌, ℕ, zero, suc, ◌+◌, ◌-◌, ◌<◌, List, [], ◌∷◌, ◌++◌, length, drop, Some, None, refl, sym, ap, ◌∙◌, subst, arith, append_assoc, append-nil, length-append, drop_at, take, get_or}
+use Rattle.std.proofs.lemmas.List.{take_more}
 use Rattle.std.specs.Prelude.{slice_get, slice_set, slice_index_or, unwrap_or, ◌≤◌}
 use Rattle.script_tree.specs.declared.operand.Test.{Test}
 use Rattle.script_tree.specs.declared.statement.Statement.{Statement, items-the_row-Statement}
@@ -7,17 +8,17 @@ use Rattle.script_tree.specs.declared.statement.Statement.TheVariants as tree
 use Rattle.script_tree.specs.Tree.{Tree, ProcedureTree, body_of, procedure_of, statements_of}
 use Rattle.script_tree.specs.Pieces.{Piece, Lines}
 use Rattle.script_proc.specs.declared.program.Line.{Line}
-use Rattle.script_proc.specs.declared.program.Line.TheVariants.{If', Else', While', End}
+use Rattle.script_proc.specs.declared.program.Line.TheVariants.{If, Else, While, End}
 use Rattle.script_proc.specs.declared.program.Program.{Program}
 use Rattle.script_proc.specs.Programs.{Says, Stands, alone, branch, branches, loop, out, over_else, end, Codes, IsPut, Grows, StartsAt, EachStarts, procedure_body, itself, IsProgramOf}
+
+seam : (old : List Line) (a b : Line) (code : List Line) → slice_set (old ++ a ∷ code) (length old) b ≡ old ++ b ∷ code
+seam [] a b code = refl
+seam (x ∷ old) a b code = ap (λ xs. x ∷ xs) (seam old a b code)
 
 -- a line in the middle set to another
 pub set_line : (old : List Line) (a b : Line) (code : List Line) (from : ℕ) (lines : List Line) → from ≡ length old → lines ≡ old ++ a ∷ code → slice_set lines from b ≡ old ++ b ∷ code
 set_line old a b code from lines e f = ap (λ xs. slice_set xs from b) f ∙ ap (λ k. slice_set (old ++ a ∷ code) k b) e ∙ seam old a b code
-  where
-    seam : (old : List Line) (a b : Line) (code : List Line) → slice_set (old ++ a ∷ code) (length old) b ≡ old ++ b ∷ code
-    seam [] a b code = refl
-    seam (x ∷ old) a b code = ap (λ xs. x ∷ xs) (seam old a b code)
 
 -- the lines of statements one after another
 pub codes_on : (one two : List Line) (first second : List Statement) → Codes one first → Codes two second → Codes (one ++ two) (first ++ second)
@@ -41,32 +42,32 @@ inner code body more left rest h k = subst (λ xs. Stands (code ++ rest) (Lines 
 past : {A : Type 0} (code rest : List A) → drop (length code) (code ++ rest) ≡ rest
 past code rest = drop_at code rest (length code) refl
 
-pub codes_branch : (t : Test) (k : _) (a : _) (code : List Line) (passed : ℕ) → passed ≡ length code → Codes code (items-the_row-Statement _ a) → Codes (If' t passed ∷ code) (tree.If' t k a ∷ [])
+pub codes_branch : (t : Test) (k : _) (a : _) (code : List Line) (passed : ℕ) → passed ≡ length code → Codes code (items-the_row-Statement _ a) → Codes (If t passed ∷ code) (tree.If' t k a ∷ [])
 codes_branch t k a code passed e h = record {
   by = λ rest more left g.
       branch (inner code (items-the_row-Statement _ a) more left rest h g)
       (subst (λ ls. Stands ls (Lines more ∷ left)) (sym (ap (λ i. drop i (code ++ rest)) e ∙ past code rest)) g);
 }
 
-pub codes_branches : (t : Test) (k : _) (a : _) (j : _) (b : _) (one two : List Line) (first second : ℕ) → first ≡ length one + 1 → second ≡ length two → Codes one (items-the_row-Statement _ a) → Codes two (items-the_row-Statement _ b) → Codes (If' t first ∷ (one ++ Else' second ∷ two)) (tree.IfElse' t k a j b ∷ [])
+pub codes_branches : (t : Test) (k : _) (a : _) (j : _) (b : _) (one two : List Line) (first second : ℕ) → first ≡ length one + 1 → second ≡ length two → Codes one (items-the_row-Statement _ a) → Codes two (items-the_row-Statement _ b) → Codes (If t first ∷ (one ++ Else second ∷ two)) (tree.IfElse' t k a j b ∷ [])
 codes_branches t k a j b one two first second e f h g = record {
   by = λ rest more left x.
       let other : Stands (two ++ rest) (Lines (items-the_row-Statement _ b) ∷ Lines more ∷ left) = inner two (items-the_row-Statement _ b) more left rest g x in
-      let leads : Stands (Else' second ∷ (two ++ rest)) (Lines [] ∷ Lines more ∷ left) = over_else (subst (λ ls. Stands ls (Lines more ∷ left)) (sym (ap (λ i. drop i (two ++ rest)) f ∙ past two rest)) x) in
-      let all : (one ++ Else' second ∷ two) ++ rest ≡ one ++ (Else' second ∷ (two ++ rest)) = append_assoc one (Else' second ∷ two) rest in
-      let behind : drop first ((one ++ Else' second ∷ two) ++ rest) ≡ two ++ rest =
-          ap (λ ls. drop first ls) (all ∙ sym (append_assoc one (Else' second ∷ []) (two ++ rest)))
-          ∙ drop_at (one ++ Else' second ∷ []) (two ++ rest) first (length-append one (Else' second ∷ []) ∙ sym e) in
+      let leads : Stands (Else second ∷ (two ++ rest)) (Lines [] ∷ Lines more ∷ left) = over_else (subst (λ ls. Stands ls (Lines more ∷ left)) (sym (ap (λ i. drop i (two ++ rest)) f ∙ past two rest)) x) in
+      let all : (one ++ Else second ∷ two) ++ rest ≡ one ++ (Else second ∷ (two ++ rest)) = append_assoc one (Else second ∷ two) rest in
+      let behind : drop first ((one ++ Else second ∷ two) ++ rest) ≡ two ++ rest =
+          ap (λ ls. drop first ls) (all ∙ sym (append_assoc one (Else second ∷ []) (two ++ rest)))
+          ∙ drop_at (one ++ Else second ∷ []) (two ++ rest) first (length-append one (Else second ∷ []) ∙ sym e) in
       branches
       (subst (λ ls. Stands ls (Lines (items-the_row-Statement _ a) ∷ Lines more ∷ left)) (sym all)
-      (subst (λ xs. Stands (one ++ (Else' second ∷ (two ++ rest))) (Lines xs ∷ Lines more ∷ left)) (append-nil (items-the_row-Statement _ a)) (h.by (Else' second ∷ (two ++ rest)) [] (Lines more ∷ left) leads)))
+      (subst (λ xs. Stands (one ++ (Else second ∷ (two ++ rest))) (Lines xs ∷ Lines more ∷ left)) (append-nil (items-the_row-Statement _ a)) (h.by (Else second ∷ (two ++ rest)) [] (Lines more ∷ left) leads)))
       (subst (λ ls. Stands ls (Lines (items-the_row-Statement _ b) ∷ Lines more ∷ left)) (sym behind) other);
 }
 
 whole : (code : List Line) (body : List Statement) (rest : List Line) → Codes code body → Stands (code ++ End ∷ rest) (Lines body ∷ [])
 whole code body rest h = subst (λ xs. Stands (code ++ End ∷ rest) (Lines xs ∷ [])) (append-nil body) (h.by (End ∷ rest) [] [] end)
 
-pub codes_loop : (t : Test) (k : _) (a : _) (code : List Line) (passed : ℕ) → passed ≡ length code + 1 → Codes code (items-the_row-Statement _ a) → Codes (While' t passed ∷ (code ++ End ∷ [])) (tree.While' t k a ∷ [])
+pub codes_loop : (t : Test) (k : _) (a : _) (code : List Line) (passed : ℕ) → passed ≡ length code + 1 → Codes code (items-the_row-Statement _ a) → Codes (While t passed ∷ (code ++ End ∷ [])) (tree.While' t k a ∷ [])
 codes_loop t k a code passed e h = record {
   by = λ rest more left x.
       let all : (code ++ End ∷ []) ++ rest ≡ code ++ End ∷ rest = append_assoc code (End ∷ []) rest in
@@ -102,6 +103,12 @@ module _ {A : Type 0} (body : A → List Statement) where
   each_more lines (q ∷ places) (y ∷ xs) place x h g = (h.0, each_more lines places xs place x h.1 g)
   each_more lines [] (y ∷ xs) place x h g = absurd h
   each_more lines (q ∷ places) [] place x h g = absurd h
+
+  pub each_step : (mid lines : List Line) (places new : List ℕ) (xs : List A) (i place : ℕ) (x : A) (statements : List Statement) → i < length xs → x ≡ get_or xs i x → statements ≡ body x → EachStarts body mid places (take i xs) → Grows mid lines → StartsAt lines place statements → new ≡ places ++ place ∷ [] → EachStarts body lines new (take (i + 1) xs)
+  each_step mid lines places new xs i place x statements h f is each g starts e =
+      subst (λ ps. EachStarts body lines ps (take (i + 1) xs)) (sym e)
+      (subst (λ ys. EachStarts body lines (places ++ place ∷ []) ys) (sym (take_more xs i x h ∙ ap (λ y. take i xs ++ y ∷ []) (sym f)))
+      (each_more lines places (take i xs) place x (each_on mid lines places (take i xs) g each) (subst (λ ys. StartsAt lines place ys) is starts)))
 
 -- the first line ends a body without statements
 pub nothing_starts : (lines : List Line) → Grows (End ∷ []) lines → StartsAt lines 0 []
@@ -151,30 +158,30 @@ block_length : (old a b code : List Line) (first : Line) → a ≡ old ++ first 
 block_length old a b code first f g =
     omega (arith, ap length f, length-append old (first ∷ []), ap length g, length-append a code)
 
-pub put_branch : (old a b c : List Line) (statement : Statement) (body : List Statement) (t : Test) (k : _) (row : _) (from passed : ℕ) → statement ≡ tree.If' t k row → items-the_row-Statement _ row ≡ body → from ≡ length old → a ≡ old ++ If' t 0 ∷ [] → IsPut body a b → passed ≡ length b - from - 1 → c ≡ slice_set b from (If' t passed) → IsPut (statement ∷ []) old c
+pub put_branch : (old a b c : List Line) (statement : Statement) (body : List Statement) (t : Test) (k : _) (row : _) (from passed : ℕ) → statement ≡ tree.If' t k row → items-the_row-Statement _ row ≡ body → from ≡ length old → a ≡ old ++ If t 0 ∷ [] → IsPut body a b → passed ≡ length b - from - 1 → c ≡ slice_set b from (If t passed) → IsPut (statement ∷ []) old c
 put_branch old a b c statement body t k row from passed is same e f h count g =
     let code = h.0 in
-    let long : passed ≡ length code = omega (arith, count, block_length old a b code (If' t 0) f h.1, e) in
-    (If' t passed ∷ code, block_set old a b c code (If' t 0) (If' t passed) from e f h.1 g,
-    subst (λ x. Codes (If' t passed ∷ code) (x ∷ [])) (sym is) (codes_branch t k row code passed long (subst (λ xs. Codes code xs) (sym same) h.2)))
+    let long : passed ≡ length code = omega (arith, count, block_length old a b code (If t 0) f h.1, e) in
+    (If t passed ∷ code, block_set old a b c code (If t 0) (If t passed) from e f h.1 g,
+    subst (λ x. Codes (If t passed ∷ code) (x ∷ [])) (sym is) (codes_branch t k row code passed long (subst (λ xs. Codes code xs) (sym same) h.2)))
 
-pub put_loop : (old a b c d : List Line) (statement : Statement) (body : List Statement) (t : Test) (k : _) (row : _) (from passed : ℕ) → statement ≡ tree.While' t k row → items-the_row-Statement _ row ≡ body → from ≡ length old → a ≡ old ++ While' t 0 ∷ [] → IsPut body a b → c ≡ b ++ End ∷ [] → passed ≡ length c - from - 1 → d ≡ slice_set c from (While' t passed) → IsPut (statement ∷ []) old d
+pub put_loop : (old a b c d : List Line) (statement : Statement) (body : List Statement) (t : Test) (k : _) (row : _) (from passed : ℕ) → statement ≡ tree.While' t k row → items-the_row-Statement _ row ≡ body → from ≡ length old → a ≡ old ++ While t 0 ∷ [] → IsPut body a b → c ≡ b ++ End ∷ [] → passed ≡ length c - from - 1 → d ≡ slice_set c from (While t passed) → IsPut (statement ∷ []) old d
 put_loop old a b c d statement body t k row from passed is same e f h last count g =
     let code = h.0 ++ End ∷ [] in
     let all : c ≡ a ++ code = last ∙ ap (λ ls. ls ++ End ∷ []) h.1 ∙ append_assoc a h.0 (End ∷ []) in
-    let long : passed ≡ length h.0 + 1 = omega (arith, count, block_length old a c code (While' t 0) f all, e, length-append h.0 (End ∷ [])) in
-    (While' t passed ∷ code, block_set old a c d code (While' t 0) (While' t passed) from e f all g,
-    subst (λ x. Codes (While' t passed ∷ code) (x ∷ [])) (sym is) (codes_loop t k row h.0 passed long (subst (λ xs. Codes h.0 xs) (sym same) h.2)))
+    let long : passed ≡ length h.0 + 1 = omega (arith, count, block_length old a c code (While t 0) f all, e, length-append h.0 (End ∷ [])) in
+    (While t passed ∷ code, block_set old a c d code (While t 0) (While t passed) from e f all g,
+    subst (λ x. Codes (While t passed ∷ code) (x ∷ [])) (sym is) (codes_loop t k row h.0 passed long (subst (λ xs. Codes h.0 xs) (sym same) h.2)))
 
-pub put_branches : (old a b c d e f : List Line) (statement : Statement) (first second : List Statement) (t : Test) (k : _) (row : _) (j : _) (other : _) (from middle passed skipped : ℕ) → statement ≡ tree.IfElse' t k row j other → items-the_row-Statement _ row ≡ first → items-the_row-Statement _ other ≡ second → from ≡ length old → a ≡ old ++ If' t 0 ∷ [] → IsPut first a b → middle ≡ length b → c ≡ b ++ Else' 0 ∷ [] → IsPut second c d → passed ≡ length d - middle - 1 → e ≡ slice_set d middle (Else' passed) → skipped ≡ middle - from → f ≡ slice_set e from (If' t skipped) → IsPut (statement ∷ []) old f
+pub put_branches : (old a b c d e f : List Line) (statement : Statement) (first second : List Statement) (t : Test) (k : _) (row : _) (j : _) (other : _) (from middle passed skipped : ℕ) → statement ≡ tree.IfElse' t k row j other → items-the_row-Statement _ row ≡ first → items-the_row-Statement _ other ≡ second → from ≡ length old → a ≡ old ++ If t 0 ∷ [] → IsPut first a b → middle ≡ length b → c ≡ b ++ Else 0 ∷ [] → IsPut second c d → passed ≡ length d - middle - 1 → e ≡ slice_set d middle (Else passed) → skipped ≡ middle - from → f ≡ slice_set e from (If t skipped) → IsPut (statement ∷ []) old f
 put_branches old a b c d e f statement first second t k row j other from middle passed skipped is same one at begin h mid over g count set skip done =
-    let code = h.0 ++ Else' passed ∷ g.0 in
-    let inner_set : e ≡ b ++ Else' passed ∷ g.0 = block_set b c d e g.0 (Else' 0) (Else' passed) middle mid over g.1 set in
-    let all : e ≡ a ++ code = inner_set ∙ ap (λ ls. ls ++ Else' passed ∷ g.0) h.1 ∙ append_assoc a h.0 (Else' passed ∷ g.0) in
-    let long : passed ≡ length g.0 = omega (arith, count, mid, block_length b c d g.0 (Else' 0) over g.1) in
-    let front : skipped ≡ length h.0 + 1 = omega (arith, skip, mid, at, block_length old a b h.0 (If' t 0) begin h.1) in
-    (If' t skipped ∷ code, block_set old a e f code (If' t 0) (If' t skipped) from at begin all done,
-    subst (λ x. Codes (If' t skipped ∷ code) (x ∷ [])) (sym is)
+    let code = h.0 ++ Else passed ∷ g.0 in
+    let inner_set : e ≡ b ++ Else passed ∷ g.0 = block_set b c d e g.0 (Else 0) (Else passed) middle mid over g.1 set in
+    let all : e ≡ a ++ code = inner_set ∙ ap (λ ls. ls ++ Else passed ∷ g.0) h.1 ∙ append_assoc a h.0 (Else passed ∷ g.0) in
+    let long : passed ≡ length g.0 = omega (arith, count, mid, block_length b c d g.0 (Else 0) over g.1) in
+    let front : skipped ≡ length h.0 + 1 = omega (arith, skip, mid, at, block_length old a b h.0 (If t 0) begin h.1) in
+    (If t skipped ∷ code, block_set old a e f code (If t 0) (If t skipped) from at begin all done,
+    subst (λ x. Codes (If t skipped ∷ code) (x ∷ [])) (sym is)
     (codes_branches t k row j other h.0 g.0 skipped passed front long (subst (λ xs. Codes h.0 xs) (sym same) h.2) (subst (λ xs. Codes g.0 xs) (sym one) g.2)))
 
 pub put_more : (old mid new : List Line) (done : List Statement) (statement : Statement) (all : List Statement) → IsPut done old mid → IsPut (statement ∷ []) mid new → all ≡ done ++ statement ∷ [] → IsPut all old new
@@ -189,3 +196,30 @@ put_grows statements old mid new h e = grows_on old mid new (h.0, h.1) (End ∷ 
 
 pub grows_nothing : (old : List Line) → Grows old old
 grows_nothing old = ([], sym (append-nil old))
+
+-- ---- by the statement
+
+-- an `if`, an `if` with `else` and a `while`, with these bodies
+abbrev pub IsIf : Statement → Test → List Statement → Type 0
+IsIf (tree.If' u k a) t body = (u ≡ t) × (items-the_row-Statement _ a ≡ body)
+IsIf statement t body = ⊥
+
+abbrev pub IsIfElse : Statement → Test → List Statement → List Statement → Type 0
+IsIfElse (tree.IfElse' u k a j b) t first second = (u ≡ t) × (items-the_row-Statement _ a ≡ first) × (items-the_row-Statement _ b ≡ second)
+IsIfElse statement t first second = ⊥
+
+abbrev pub IsLoopOf : Statement → Test → List Statement → Type 0
+IsLoopOf (tree.While' u k a) t body = (u ≡ t) × (items-the_row-Statement _ a ≡ body)
+IsLoopOf statement t body = ⊥
+
+pub put_if : (old a b c : List Line) (statement : Statement) (body : List Statement) (t : Test) (from passed : ℕ) → IsIf statement t body → from ≡ length old → a ≡ old ++ If t 0 ∷ [] → IsPut body a b → passed ≡ length b - from - 1 → c ≡ slice_set b from (If t passed) → IsPut (statement ∷ []) old c
+put_if old a b c (tree.If' u k row) body t from passed i = put_branch old a b c (tree.If' u k row) body t k row from passed (ap (λ x. tree.If' x k row) i.0) i.1
+put_if old a b c statement body t from passed i = absurd i
+
+pub put_while : (old a b c d : List Line) (statement : Statement) (body : List Statement) (t : Test) (from passed : ℕ) → IsLoopOf statement t body → from ≡ length old → a ≡ old ++ While t 0 ∷ [] → IsPut body a b → c ≡ b ++ End ∷ [] → passed ≡ length c - from - 1 → d ≡ slice_set c from (While t passed) → IsPut (statement ∷ []) old d
+put_while old a b c d (tree.While' u k row) body t from passed i = put_loop old a b c d (tree.While' u k row) body t k row from passed (ap (λ x. tree.While' x k row) i.0) i.1
+put_while old a b c d statement body t from passed i = absurd i
+
+pub put_if_else : (old a b c d e f : List Line) (statement : Statement) (first second : List Statement) (t : Test) (from middle passed skipped : ℕ) → IsIfElse statement t first second → from ≡ length old → a ≡ old ++ If t 0 ∷ [] → IsPut first a b → middle ≡ length b → c ≡ b ++ Else 0 ∷ [] → IsPut second c d → passed ≡ length d - middle - 1 → e ≡ slice_set d middle (Else passed) → skipped ≡ middle - from → f ≡ slice_set e from (If t skipped) → IsPut (statement ∷ []) old f
+put_if_else old a b c d e f (tree.IfElse' u k row j other) first second t from middle passed skipped i = put_branches old a b c d e f (tree.IfElse' u k row j other) first second t k row j other from middle passed skipped (ap (λ x. tree.IfElse' x k row j other) i.0) i.1 i.2
+put_if_else old a b c d e f statement first second t from middle passed skipped i = absurd i

@@ -13,15 +13,18 @@ use Rattle.script_tree.specs.Steps.{step, passes, statement}
 use Rattle.script_tree.specs.Traces.{Makes, silent}
 use Rattle.script_tree.specs.Weights.{weight}
 use Rattle.script_proc.specs.declared.program.Line.{Line}
-use Rattle.script_proc.specs.declared.program.Line.TheVariants.{Let, Compute, If', Else', While', End, Return, Call, Sleep, Create, Destroy, Default}
+use Rattle.script_proc.specs.declared.program.Line.TheVariants.{Let, Compute, If, Else, While, End, Return, Call, Sleep, Create, Destroy, Default}
 use Rattle.script_proc.specs.Programs.{Says, Stands, alone, branch, branches, loop, out, over_else, end}
 use Rattle.script_proc.specs.Items.{Keeps}
 
 -- the list from a place on is the element there and the list behind it
+drop_suc : {A : Type 0} (xs : List A) (i : ℕ) (x : A) → slice_get xs i ≡ Some x → drop i xs ≡ x ∷ drop (suc i) xs
+drop_suc [] i x h = absurd cc
+drop_suc (y ∷ xs) zero x h = let e : y ≡ x = cc in ap (λ z. z ∷ xs) e
+drop_suc (y ∷ xs) (suc i) x h = drop_suc xs i x h
+
 pub drop_here : {A : Type 0} (xs : List A) (i : ℕ) (x : A) → slice_get xs i ≡ Some x → drop i xs ≡ x ∷ drop (i + 1) xs
-drop_here [] i x h = absurd cc
-drop_here (y ∷ xs) zero x h = let e : y ≡ x = cc in ap (λ z. z ∷ xs) e
-drop_here (y ∷ xs) (suc i) x h = drop_here xs i x h
+drop_here xs i x h = drop_suc xs i x h ∙ ap (λ k. x ∷ drop k xs) (sym (add-one i))
 
 pub drop_past : {A : Type 0} (xs : List A) (i : ℕ) → slice_get xs i ≡ None → drop i xs ≡ []
 drop_past [] zero h = refl
@@ -46,11 +49,18 @@ drop_behind xs at passed most h = drop_most xs (at + 1 + passed) most h ∙ sym 
 
 -- a line that is no border of a block
 abbrev pub IsSimple : Line → Type 0
-IsSimple (If' t k) = ⊥
-IsSimple (Else' k) = ⊥
-IsSimple (While' t k) = ⊥
+IsSimple (If t k) = ⊥
+IsSimple (Else k) = ⊥
+IsSimple (While t k) = ⊥
 IsSimple End = ⊥
 IsSimple line = Unit {0}
+
+pub is_simple : (line : Line) → ((t : Test) (k : ℕ) → line ≡ If t k → ⊥) → ((k : ℕ) → line ≡ Else k → ⊥) → ((t : Test) (k : ℕ) → line ≡ While t k → ⊥) → (line ≡ End → ⊥) → IsSimple line
+is_simple (If t k) a b c d = a t k refl
+is_simple (Else k) a b c d = b k refl
+is_simple (While t k) a b c d = c t k refl
+is_simple End a b c d = d refl
+is_simple line a b c d = tt
 
 -- it says a statement
 pub says : (line : Line) → IsSimple line → (line' : Statement) × Says line line'
@@ -115,26 +125,26 @@ module _ (s : Tree) (n : ℕ) where
   lines_pass (p ∷ qs) left st h f = absurd h
 
   -- a statement without a body
-  pub alone_goes : (line : Line) (rest : List Line) (qs left : List Piece) (v : Variables) → IsSimple line → Stands (line ∷ rest) qs → (line' : Statement) × Says line line' × ((rs : List Piece) × Stands rest rs × Keeps s (qs ++ left) (Going v) (One line' ∷ rs ++ left) (Going v) n)
-  alone_goes line rest _ left v i (alone {statement = line'} {more = more} {left = under} d h) = (line', d, (Lines more ∷ under, h, by_step (Lines (line' ∷ more)) (under ++ left) (Going v) (One line' ∷ Lines more ∷ []) (Going v) refl))
-  alone_goes line rest _ left v i (branch h g) = absurd i
-  alone_goes line rest _ left v i (branches h g) = absurd i
-  alone_goes line rest _ left v i (loop h g) = absurd i
-  alone_goes line rest _ left v i (out {left = under} h) = let r = alone_goes line rest under left v i h in (r.0, r.1, (r.2.0, r.2.1, ends (under ++ left) _ v (Going v) r.2.2))
-  alone_goes line rest _ left v i (over_else h) = absurd i
-  alone_goes line rest _ left v i end = absurd i
+  pub alone_goes : {line : Line} {rest : List Line} {qs : List Piece} (left : List Piece) (v : Variables) → IsSimple line → Stands (line ∷ rest) qs → (line' : Statement) × Says line line' × ((rs : List Piece) × Stands rest rs × Keeps s (qs ++ left) (Going v) (One line' ∷ rs ++ left) (Going v) n)
+  alone_goes left v i (alone {statement = line'} {more = more} {left = under} d h) = (line', d, (Lines more ∷ under, h, by_step (Lines (line' ∷ more)) (under ++ left) (Going v) (One line' ∷ Lines more ∷ []) (Going v) refl))
+  alone_goes left v i (branch h g) = absurd i
+  alone_goes left v i (branches h g) = absurd i
+  alone_goes left v i (loop h g) = absurd i
+  alone_goes left v i (out {left = under} h) = let r = alone_goes left v i h in (r.0, r.1, (r.2.0, r.2.1, ends (under ++ left) _ v (Going v) r.2.2))
+  alone_goes left v i (over_else h) = absurd i
+  alone_goes left v i end = absurd i
 
   -- an `else`
-  pub else_goes : (passed : ℕ) (rest : List Line) (qs left : List Piece) (v : Variables) → Stands (Else' passed ∷ rest) qs → (rs : List Piece) × Stands (drop passed rest) rs × Keeps s (qs ++ left) (Going v) (rs ++ left) (Going v) n
-  else_goes passed rest _ left v (alone d h) = absurd d
-  else_goes passed rest _ left v (out {left = under} h) = let r = else_goes passed rest under left v h in (r.0, r.1, ends (under ++ left) _ v (Going v) r.2)
-  else_goes passed rest _ left v (over_else {left = under} h) = (under, h, ends (under ++ left) (under ++ left) v (Going v) (keeps_itself _ _))
+  pub else_goes : {passed : ℕ} {rest : List Line} {qs : List Piece} (left : List Piece) (v : Variables) → Stands (Else passed ∷ rest) qs → (rs : List Piece) × Stands (drop passed rest) rs × Keeps s (qs ++ left) (Going v) (rs ++ left) (Going v) n
+  else_goes left v (alone d h) = absurd d
+  else_goes left v (out {left = under} h) = let r = else_goes left v h in (r.0, r.1, ends (under ++ left) _ v (Going v) r.2)
+  else_goes left v (over_else {left = under} h) = (under, h, ends (under ++ left) (under ++ left) v (Going v) (keeps_itself _ _))
 
   -- the end of a pass or a body
-  pub end_goes : (rest : List Line) (qs left : List Piece) (v : Variables) → Stands (End ∷ rest) qs → Keeps s (qs ++ left) (Going v) left (Going v) n
-  end_goes rest _ left v (alone d h) = absurd d
-  end_goes rest _ left v (out {left = under} h) = ends (under ++ left) left v (Going v) (end_goes rest under left v h)
-  end_goes rest _ left v end = ends left left v (Going v) (keeps_itself _ _)
+  pub end_goes : {rest : List Line} {qs : List Piece} (left : List Piece) (v : Variables) → Stands (End ∷ rest) qs → Keeps s (qs ++ left) (Going v) left (Going v) n
+  end_goes left v (alone d h) = absurd d
+  end_goes left v (out {left = under} h) = ends (under ++ left) left v (Going v) (end_goes left v h)
+  end_goes left v end = ends left left v (Going v) (keeps_itself _ _)
 
   -- the line of an `if` whose test comes out so
   choose : (x y : Step) (b c : Bool) → b ≡ c → (if b then x else y) ≡ (if c then x else y)
@@ -144,29 +154,29 @@ module _ (s : Tree) (n : ℕ) where
   one_goes line more under left v ps h =
       keeps_on _ _ _ _ _ _ (by_step (Lines (line ∷ more)) (under ++ left) (Going v) (One line ∷ Lines more ∷ []) (Going v) refl) (by_step (One line) (Lines more ∷ under ++ left) (Going v) ps (Going v) h)
 
-  pub then_goes : (t : Test) (passed : ℕ) (rest : List Line) (qs left : List Piece) (v : Variables) → holds t v ≡ true → Stands (If' t passed ∷ rest) qs → (rs : List Piece) × Stands rest rs × Keeps s (qs ++ left) (Going v) (rs ++ left) (Going v) n
-  then_goes t passed rest _ left v y (alone d h) = absurd d
-  then_goes t passed rest _ left v y (branch {k = k} {a = a} {more = more} {left = under} h g) =
+  pub then_goes : {t : Test} {passed : ℕ} {rest : List Line} {qs : List Piece} (left : List Piece) (v : Variables) → holds t v ≡ true → Stands (If t passed ∷ rest) qs → (rs : List Piece) × Stands rest rs × Keeps s (qs ++ left) (Going v) (rs ++ left) (Going v) n
+  then_goes left v y (alone d h) = absurd d
+  then_goes left v y (branch {t = t} {k = k} {a = a} {more = more} {left = under} h g) =
       (Lines (items-the_row-Statement _ a) ∷ Lines more ∷ under, h, one_goes (tree.If' t k a) more under left v (Lines (items-the_row-Statement _ a) ∷ []) (choose (Becomes (Lines (items-the_row-Statement _ a) ∷ []) (Going v)) (passes (Going v)) (holds t v) true y))
-  then_goes t passed rest _ left v y (branches {k = k} {a = a} {j = j} {b = b} {more = more} {left = under} h g) =
+  then_goes left v y (branches {t = t} {k = k} {a = a} {j = j} {b = b} {more = more} {left = under} h g) =
       (Lines (items-the_row-Statement _ a) ∷ Lines more ∷ under, h, one_goes (tree.IfElse' t k a j b) more under left v (Lines (items-the_row-Statement _ a) ∷ []) (ap (λ z. Becomes (Lines (if z then items-the_row-Statement _ a else items-the_row-Statement _ b) ∷ []) (Going v)) y))
-  then_goes t passed rest _ left v y (out {left = under} h) = let r = then_goes t passed rest under left v y h in (r.0, r.1, ends (under ++ left) _ v (Going v) r.2)
+  then_goes left v y (out {left = under} h) = let r = then_goes left v y h in (r.0, r.1, ends (under ++ left) _ v (Going v) r.2)
 
-  pub otherwise_goes : (t : Test) (passed : ℕ) (rest : List Line) (qs left : List Piece) (v : Variables) → holds t v ≡ false → Stands (If' t passed ∷ rest) qs → (rs : List Piece) × Stands (drop passed rest) rs × Keeps s (qs ++ left) (Going v) (rs ++ left) (Going v) n
-  otherwise_goes t passed rest _ left v y (alone d h) = absurd d
-  otherwise_goes t passed rest _ left v y (branch {k = k} {a = a} {more = more} {left = under} h g) =
+  pub otherwise_goes : {t : Test} {passed : ℕ} {rest : List Line} {qs : List Piece} (left : List Piece) (v : Variables) → holds t v ≡ false → Stands (If t passed ∷ rest) qs → (rs : List Piece) × Stands (drop passed rest) rs × Keeps s (qs ++ left) (Going v) (rs ++ left) (Going v) n
+  otherwise_goes left v y (alone d h) = absurd d
+  otherwise_goes left v y (branch {t = t} {k = k} {a = a} {more = more} {left = under} h g) =
       (Lines more ∷ under, g, one_goes (tree.If' t k a) more under left v [] (choose (Becomes (Lines (items-the_row-Statement _ a) ∷ []) (Going v)) (passes (Going v)) (holds t v) false y))
-  otherwise_goes t passed rest _ left v y (branches {k = k} {a = a} {j = j} {b = b} {more = more} {left = under} h g) =
+  otherwise_goes left v y (branches {t = t} {k = k} {a = a} {j = j} {b = b} {more = more} {left = under} h g) =
       (Lines (items-the_row-Statement _ b) ∷ Lines more ∷ under, g, one_goes (tree.IfElse' t k a j b) more under left v (Lines (items-the_row-Statement _ b) ∷ []) (ap (λ z. Becomes (Lines (if z then items-the_row-Statement _ a else items-the_row-Statement _ b) ∷ []) (Going v)) y))
-  otherwise_goes t passed rest _ left v y (out {left = under} h) = let r = otherwise_goes t passed rest under left v y h in (r.0, r.1, ends (under ++ left) _ v (Going v) r.2)
+  otherwise_goes left v y (out {left = under} h) = let r = otherwise_goes left v y h in (r.0, r.1, ends (under ++ left) _ v (Going v) r.2)
 
 -- the lines behind a `while` are its pass, and stand for what is behind it
 pub data IsWhile (t : Test) (passed : ℕ) (rest : List Line) : Statement → List Piece → Type 0 where
   is_while : {k : _} {a : _} {left : List Piece} → Stands rest (Lines (items-the_row-Statement _ a) ∷ []) → Stands (drop passed rest) left → IsWhile t passed rest (tree.While' t k a) left
 
 module _ (s : Tree) (n : ℕ) where
-  pub while_comes : (t : Test) (passed : ℕ) (rest : List Line) (qs left : List Piece) (v : Variables) → Stands (While' t passed ∷ rest) qs → (line : Statement) × (rs : List Piece) × IsWhile t passed rest line rs × Keeps s (qs ++ left) (Going v) (One line ∷ rs ++ left) (Going v) n
-  while_comes t passed rest _ left v (alone d h) = absurd d
-  while_comes t passed rest _ left v (loop {k = k} {a = a} {more = more} {left = under} h g) =
+  pub while_comes : {t : Test} {passed : ℕ} {rest : List Line} {qs : List Piece} (left : List Piece) (v : Variables) → Stands (While t passed ∷ rest) qs → (line : Statement) × (rs : List Piece) × IsWhile t passed rest line rs × Keeps s (qs ++ left) (Going v) (One line ∷ rs ++ left) (Going v) n
+  while_comes left v (alone d h) = absurd d
+  while_comes left v (loop {t = t} {k = k} {a = a} {more = more} {left = under} h g) =
       (tree.While' t k a, Lines more ∷ under, is_while h g, by_step s n (Lines (tree.While' t k a ∷ more)) (under ++ left) (Going v) (One (tree.While' t k a) ∷ Lines more ∷ []) (Going v) refl)
-  while_comes t passed rest _ left v (out {left = under} h) = let r = while_comes t passed rest under left v h in (r.0, r.1, r.2, ends s n (under ++ left) _ v (Going v) r.3)
+  while_comes left v (out {left = under} h) = let r = while_comes left v h in (r.0, r.1, r.2, ends s n (under ++ left) _ v (Going v) r.3)

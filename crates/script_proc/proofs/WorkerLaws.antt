@@ -65,6 +65,9 @@ module _ (p : Program) where
         subst (λ xs. steps_left no_tree n xs st' < steps_left no_tree n (all_long size n items) st) (sym (all_of new below few f))
         (subst (λ xs. steps_left no_tree n (all_long size n few ++ all_long size n below) st' < steps_left no_tree n xs st) (sym (all_of items below (item ∷ []) e)) (m.fewer (all_long size n below)))
 
+    pub keeps_same : (s : Tree) (items mid new : List Item) (a b : State) → new ≡ mid → KeepsAll s p n items a mid b → KeepsAll s p n items a new b
+    keeps_same s items mid new a b e h = subst (λ xs. KeepsAll s p n items a xs b) (sym e) h
+
     pub keeps_all_on : (s : Tree) (items mid new : List Item) (a b c : State) → KeepsAll s p n items a mid b → KeepsAll s p n mid b new c → KeepsAll s p n items a new c
     keeps_all_on s items mid new a b c h k ps x =
         let r = h ps x in

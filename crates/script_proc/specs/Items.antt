@@ -16,7 +16,7 @@ use Rattle.script_tree.specs.Tree.{Tree}
 use Rattle.script_tree.specs.Pieces.{Piece, Lines, One, PassEnd, Making, Again, Giving, Settle, Quiet, Sleeping, Running, Leaving, Leaves, Left, Restore, Feed, State, Going, Returning, Given, Trace, End}
 use Rattle.script_tree.specs.Traces.{Makes}
 use Rattle.script_proc.specs.declared.program.Line.{Line}
-use Rattle.script_proc.specs.declared.program.Line.TheVariants.{While'}
+use Rattle.script_proc.specs.declared.program.Line.TheVariants.{While}
 use Rattle.script_proc.specs.declared.program.Program.{Program}
 use Rattle.script_proc.specs.Programs.{Stands, lines_at}
 use Rattle.script_proc.specs.declared.item.Item.{Item}
@@ -46,7 +46,7 @@ piece (FeedItem q) = Feed q
 
 -- the lines from a place on are that `while`, its pass, and what is behind it
 pub data IsLoop (p : Program) (at : ℕ) : Statement → List Piece → Type 0 where
-  loops : {t : Test} {passed : ℕ} {k : _} {a : _} {left : List Piece} → slice_get p.lines.items at ≡ Some (While' t passed) → Stands (lines_at p (at + 1)) (Lines (items-the_row-Statement _ a) ∷ []) → Stands (drop passed (lines_at p (at + 1))) left → IsLoop p at (tree.While' t k a) left
+  loops : {t : Test} {passed : ℕ} {k : _} {a : _} {left : List Piece} → slice_get p.lines.items at ≡ Some (While t passed) → Stands (lines_at p (at + 1)) (Lines (items-the_row-Statement _ a) ∷ []) → Stands (drop passed (lines_at p (at + 1))) left → IsLoop p at (tree.While' t k a) left
 
 -- the pieces that an item stands for: one that has a place in the program stands for all pieces up to the end of its pass or body
 abbrev pub Covers : Program → Item → List Piece → Type 0

@@ -1,12 +1,12 @@
 -- What the lines of a program stand for.
-use Rattle.std.specs.Prelude.{◌≡◌, ℕ, ◌-◌, List, [], ◌∷◌, ◌++◌, drop, slice_get, unwrap_or, ⊤, ⊥}
+use Rattle.std.specs.Prelude.{◌≡◌, ℕ, ◌-◌, List, [], ◌∷◌, ◌++◌, drop, slice_get, unwrap_or}
 use Rattle.script_tree.specs.declared.statement.Statement.{Statement, items-the_row-Statement}
 use Rattle.script_tree.specs.declared.statement.Statement.TheVariants as tree
 use Rattle.script_tree.specs.declared.operand.Test.{Test}
 use Rattle.script_tree.specs.Tree.{Tree, ProcedureTree, body_of, procedure_of}
 use Rattle.script_tree.specs.Pieces.{Piece, Lines}
 use Rattle.script_proc.specs.declared.program.Line.{Line}
-use Rattle.script_proc.specs.declared.program.Line.TheVariants.{Let, Compute, If', Else', While', End, Return, Call, Sleep, Create, Destroy, Default}
+use Rattle.script_proc.specs.declared.program.Line.TheVariants.{Let, Compute, If, Else, While, End, Return, Call, Sleep, Create, Destroy, Default}
 use Rattle.script_proc.specs.declared.program.Program.{Program}
 
 -- a statement without a body
@@ -33,15 +33,15 @@ pub data Stands : List Line → List Piece → Type 0 where
   -- a statement without a body
   alone : {line : Line} {rest : List Line} {statement : Statement} {more : List Statement} {left : List Piece} → Says line statement → Stands rest (Lines more ∷ left) → Stands (line ∷ rest) (Lines (statement ∷ more) ∷ left)
   -- an `if`: its body comes next, and what is behind it stands behind as many lines as are passed over
-  branch : {t : Test} {passed : ℕ} {k : _} {a : _} {rest : List Line} {more : List Statement} {left : List Piece} → Stands rest (Lines (items-the_row-Statement _ a) ∷ Lines more ∷ left) → Stands (drop passed rest) (Lines more ∷ left) → Stands (If' t passed ∷ rest) (Lines (tree.If' t k a ∷ more) ∷ left)
+  branch : {t : Test} {passed : ℕ} {k : _} {a : _} {rest : List Line} {more : List Statement} {left : List Piece} → Stands rest (Lines (items-the_row-Statement _ a) ∷ Lines more ∷ left) → Stands (drop passed rest) (Lines more ∷ left) → Stands (If t passed ∷ rest) (Lines (tree.If' t k a ∷ more) ∷ left)
   -- an `if` with an `else`: its other body stands behind as many lines as are passed over
-  branches : {t : Test} {passed : ℕ} {k : _} {a : _} {j : _} {b : _} {rest : List Line} {more : List Statement} {left : List Piece} → Stands rest (Lines (items-the_row-Statement _ a) ∷ Lines more ∷ left) → Stands (drop passed rest) (Lines (items-the_row-Statement _ b) ∷ Lines more ∷ left) → Stands (If' t passed ∷ rest) (Lines (tree.IfElse' t k a j b ∷ more) ∷ left)
+  branches : {t : Test} {passed : ℕ} {k : _} {a : _} {j : _} {b : _} {rest : List Line} {more : List Statement} {left : List Piece} → Stands rest (Lines (items-the_row-Statement _ a) ∷ Lines more ∷ left) → Stands (drop passed rest) (Lines (items-the_row-Statement _ b) ∷ Lines more ∷ left) → Stands (If t passed ∷ rest) (Lines (tree.IfElse' t k a j b ∷ more) ∷ left)
   -- a `while`: a pass comes next, and what is behind it stands behind as many lines as are passed over
-  loop : {t : Test} {passed : ℕ} {k : _} {a : _} {rest : List Line} {more : List Statement} {left : List Piece} → Stands rest (Lines (items-the_row-Statement _ a) ∷ []) → Stands (drop passed rest) (Lines more ∷ left) → Stands (While' t passed ∷ rest) (Lines (tree.While' t k a ∷ more) ∷ left)
+  loop : {t : Test} {passed : ℕ} {k : _} {a : _} {rest : List Line} {more : List Statement} {left : List Piece} → Stands rest (Lines (items-the_row-Statement _ a) ∷ []) → Stands (drop passed rest) (Lines more ∷ left) → Stands (While t passed ∷ rest) (Lines (tree.While' t k a ∷ more) ∷ left)
   -- at the end of a branch what is behind its `if` comes next
   out : {lines : List Line} {left : List Piece} → Stands lines left → Stands lines (Lines [] ∷ left)
   -- at the `else` what is behind the `if` stands behind as many lines as are passed over
-  over_else : {passed : ℕ} {rest : List Line} {left : List Piece} → Stands (drop passed rest) left → Stands (Else' passed ∷ rest) (Lines [] ∷ left)
+  over_else : {passed : ℕ} {rest : List Line} {left : List Piece} → Stands (drop passed rest) left → Stands (Else passed ∷ rest) (Lines [] ∷ left)
   -- the end of a pass or of a body
   end : {rest : List Line} → Stands (End ∷ rest) (Lines [] ∷ [])
 

@@ -82,8 +82,11 @@ fn line_at(
 fn once(program: &Program, at: usize, variables: &Variables, used: u32) -> Few
     ensures { Moves program.now used (Item.Once at) (Going variables.now) (few_items result) (Going variables.now) }
 {
-    match program.lines().get(at) {
-        Some(Line::While(test, passed)) => while_at(at, test, *passed, variables, used),
+    let Some(line) = program.lines().get(at) else {
+        return Few::Nothing;
+    };
+    match line {
+        Line::While(test, passed) => while_at(at, test, *passed, variables, used),
         _ => Few::Nothing,
     }
 }

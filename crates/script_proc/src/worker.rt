@@ -90,7 +90,7 @@ impl Worker {
     {
         self.used += 1;
         let few = follow(call, answer, &mut self.variables, &mut self.mode);
-        set_last(&mut self.items, few);
+        set_last(&mut self.items, &few);
     }
 }
 
@@ -116,6 +116,6 @@ fn settle(
             return Ok(Some(call));
         }
         let few = step(program, item, variables, mode, used);
-        set_last(items, few);
+        set_last(items, &few);
     }
 }

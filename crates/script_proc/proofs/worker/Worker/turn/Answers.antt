@@ -16,8 +16,8 @@ returns-in_default-clause-did g c s of =
     record { whole = whole; stays = record { worker = c.next_call.ensures.worker s; used = c.next_call.ensures.used } }
 
 pub returns-in_default-clause-spent : goal.returns-in_default-clause-spent
-returns-in_default-clause-spent g c s t tr call w cut full =
-    absurd (not_both s t tr call (subst (λ o. IsTrace s t tr (end_of o)) c.in_default.is (c.in_ok-call.ensures.next s t tr w)) cut)
+returns-in_default-clause-spent g c s t tr call w next full =
+    absurd (not_both s t tr call (subst (λ o. IsTrace s t tr (end_of o)) c.in_default.is (c.in_ok-call.ensures.next s t tr w)) next)
 
 pub returns-in_default-clause-goes_on : goal.returns-in_default-clause-goes_on
 returns-in_default-clause-goes_on g c = goes_on_itself _ _ _
@@ -56,7 +56,7 @@ returns-clause-ended g c =
 
 pub returns-clause-spent : goal.returns-clause-spent
 returns-clause-spent g c =
-    if_any _ c.ask.result (λ turn s t tr call w cut full. absurd (omega (arith, full, c.if-spent.false, c.budget.ensures, w.program.budget, c.used.ensures.used, c.next_call.ensures.used)))
+    if_any _ c.ask.result (λ turn s t tr call w next full. absurd (omega (arith, full, c.if-spent.false, c.budget.ensures, w.program.budget, c.used.ensures.used, c.next_call.ensures.used)))
 
 pub returns-clause-untouched : goal.returns-clause-untouched
 returns-clause-untouched g c =
