@@ -1,5 +1,5 @@
 -- The last of a list of items.
-use Rattle.std.proofs.Common.{◌≡◌, ℕ, ◌-◌, List, [], ◌∷◌, ◌++◌, length, take, refl, ap, ◌∙◌, arith, append_assoc, length-append}
+use Rattle.std.proofs.Common.{◌≡◌, ℕ, suc, ◌-◌, ◌<◌, get_or, sym, List, [], ◌∷◌, ◌++◌, length, take, refl, ap, ◌∙◌, arith, append_assoc, length-append}
 use Rattle.std.specs.Prelude.{slice_set}
 
 set_seam : {A : Type 0} (below : List A) (item : A) (rest : List A) (a : A) → slice_set (below ++ item ∷ rest) (length below) a ≡ below ++ a ∷ rest
@@ -32,3 +32,12 @@ pub popped : {A : Type 0} (xs below ys : List A) (item : A) (n : ℕ) → xs ≡
 popped xs below ys item n e r h =
     let place : n - 1 ≡ length below = omega (arith, ap length e, length-append below (item ∷ [])) in
     r ∙ ap (λ zs. take (n - 1) zs) e ∙ ap (λ k. take k (below ++ item ∷ [])) place ∙ take_seam below item
+
+-- the last element by its place
+pub last_at : {A : Type 0} (xs : List A) (d : A) → 0 < length xs → (below : List A) × (xs ≡ below ++ get_or xs (length xs - 1) d ∷ [])
+last_at [] d h = absurd (omega (arith, h))
+last_at (x ∷ []) d h = ([], refl)
+last_at (x ∷ y ∷ xs) d h =
+    let r = last_at (y ∷ xs) d (omega arith) in
+    let on : length (x ∷ y ∷ xs) - 1 ≡ suc (length (y ∷ xs) - 1) = omega arith in
+    (x ∷ r.0, ap (λ zs. x ∷ zs) r.1 ∙ ap (λ k. x ∷ (r.0 ++ get_or (x ∷ y ∷ xs) k d ∷ [])) (sym on))

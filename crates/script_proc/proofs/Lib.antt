@@ -1,5 +1,8 @@
-pub mod HereLaws
+pub mod Following
+pub mod ItemLaws
 pub mod Lasts
-pub mod MoveLaws
+pub mod Programming
+pub mod StandLaws
 pub mod TurnLaws
 pub mod WorkerLaws
+pub mod Workings

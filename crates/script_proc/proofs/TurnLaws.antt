@@ -9,6 +9,7 @@ use Rattle.script_tree.specs.Tree.{Tree}
 use Rattle.script_tree.specs.Pieces.{Trace, Whole, Cut}
 use Rattle.script_tree.specs.Traces.{IsTrace}
 use Rattle.script_tree.proofs.TraceLaws.{one_end}
+use Rattle.script_proc.specs.declared.program.Program.{Program}
 use Rattle.script_proc.specs.declared.worker.Worker.{Worker}
 use Rattle.script_proc.specs.declared.turn.Turn.{Turn}
 use Rattle.script_proc.specs.declared.turn.Turn.TheVariants.{Went, Idle, Ended, Spent}
@@ -51,16 +52,16 @@ came_to before after who n call told other w e h =
 pub looked_of : (before after : TellerView) (m n : ℕ) → m ≡ n → HasLooked before after m → HasLooked before after n
 looked_of before after m n e h = subst (λ t. HasLooked before after t) e h
 
-module _ (s : Tree) (old mid new : Worker) (before after : TellerView) (call : Call) where
+module _ (s : Tree) (p : Program) (old mid new : Worker) (before after : TellerView) (call : Call) where
   -- what came of the next call is what the turn did
-  pub asked_did : CanCall s old call → Stays s old mid → thread_of mid ≡ thread_of old → (turn : Turn) → Asked mid new before after call turn → Did s old new before after turn
+  pub asked_did : CanCall s p old call → Stays s p old mid → thread_of mid ≡ thread_of old → (turn : Turn) → Asked mid new before after call turn → Did s p old new before after turn
   asked_did can stays same Went h = record {
     call = call;
     can = can;
     answer = h.answer;
     told = came_to before after (caller mid) (thread_of old) call (Answered h.answer) (Answered h.answer) same refl h.told;
     looked = looked_of before after (thread_of mid) (thread_of old) same h.looked;
-    worker = λ t tr w. h.worker s t tr (stays.worker t tr w);
+    worker = λ t tr w. h.worker s p t tr (stays.worker t tr w);
     used = h.used ∙ ap (λ n. n + 1) stays.used;
   }
   asked_did can stays same Idle h = record {
@@ -70,11 +71,12 @@ module _ (s : Tree) (old mid new : Worker) (before after : TellerView) (call : C
       told = came_to before after (caller mid) (thread_of old) call Barred Barred same refl h.0.told;
       looked = looked_of before after (thread_of mid) (thread_of old) same h.0.looked;
     };
-    stays = subst (λ w. Stays s old w) (sym h.1) stays;
+    stays = subst (λ w. Stays s p old w) (sym h.1) stays;
   }
   asked_did can stays same Ended h = absurd h
   asked_did can stays same Spent h = absurd h
 
+module _ (mid new : Worker) (before after : TellerView) (call : Call) where
   pub asks_somebody : (turn : Turn) → Asked mid new before after call turn → AsksNobody turn → ⊥
   asks_somebody Went h nobody = nobody
   asks_somebody Idle h nobody = nobody

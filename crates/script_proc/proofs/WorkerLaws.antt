@@ -1,41 +1,123 @@
 -- What a worker's items complete.
-use Rattle.std.proofs.Common.{ℕ, suc, List, [], ◌∷◌, ◌++◌, Option, Some, None, Result, Ok, Err, IfOk, sym, subst, append_assoc, append-nil}
+use Rattle.std.proofs.Common.{◌≡◌, ◌<◌, ℕ, suc, List, [], ◌∷◌, ◌++◌, length, Option, Some, None, Result, Ok, Err, IfOk, refl, sym, ap, ◌∙◌, subst, append_assoc, append-nil, fold}
+use Rattle.std.proofs.lemmas.List.Sums.{fold-append}
 use Rattle.user_model.specs.declared.call.Call.{Call}
 use Rattle.user_model.specs.declared.entry.Answer.{Answer}
 use Rattle.script_tree.specs.declared.variables.Variables.{Variables}
 use Rattle.script_tree.specs.Tree.{Tree}
-use Rattle.script_tree.specs.Pieces.{Piece, State, Trace, End, Whole, Cut}
-use Rattle.script_tree.specs.Traces.{Makes, IsTrace, over, cut}
+use Rattle.script_tree.specs.Pieces.{Piece, Lines, State, Trace, End, Whole, Cut, Asks}
+use Rattle.script_tree.specs.Steps.{step, follows, answered, variables_of}
+use Rattle.script_tree.specs.Traces.{Makes, IsTrace, over, entry, cut}
+use Rattle.script_tree.specs.Weights.{steps_left}
+use Rattle.script_proc.specs.declared.program.Program.{Program}
 use Rattle.script_proc.specs.declared.item.Item.{Item}
+use Rattle.script_proc.specs.declared.item.Item.TheVariants.{At, Once, PassEnd as PassEndItem, Making as MakingItem, Leaves as LeavesItem}
 use Rattle.script_proc.specs.declared.item.Mode.{Mode}
-use Rattle.script_proc.specs.Items.{standing, state_of, Keeps, Enters, IsReady}
+use Rattle.script_proc.specs.declared.item.Mode.TheVariants.{Going as GoingMode, Returning as ReturningMode, Given as GivenMode}
+use Rattle.script_proc.specs.Programs.{IsProgramOf}
+use Rattle.script_proc.specs.Items.{piece, Covers, AllCover, above, state_of, asks, ArePlaceless, Keeps, Enters, KeepsAll, Asking, IsReady}
+use Rattle.script_proc.specs.Works.{no_tree, as_long, all_long, work, Moves}
 use Rattle.script_proc.specs.Workers.{end_of}
-use Rattle.script_proc.proofs.MoveLaws.{last_asks}
+use Rattle.script_proc.proofs.ItemLaws.{plain_cover, long_more}
 
 pub if_ok : {X E : Type 0} (P Q : X → Type 0) (r : Result X E) → ((x : X) → P x → Q x) → IfOk r P → IfOk r Q
 if_ok P Q (Ok x) f h = f x h
 if_ok P Q (Err e) f h = tt
 
-module _ (s : Tree) (t : ℕ) where
-  -- whatever trace the pieces make after so many entries, the entries and then that trace are one of the thread
-  abbrev pub Completes : Trace → List Piece → State → ℕ → Type 0
-  Completes tr ps st n = (more : Trace) (e : End) → Makes s ps st n more e → IsTrace s t (tr ++ more) e
+module _ (p : Program) where
+  -- what items stand for is what the upper ones stand for over what the lower ones do
+  split_cover : (below few : List Item) (ps : List Piece) → AllCover p (below ++ few) ps → (upper : List Piece) × (under : List Piece) × (ps ≡ upper ++ under) × AllCover p below under × AllCover p few upper
+  split_cover [] few ps h = (ps, [], sym (append-nil ps), refl, h)
+  split_cover (item ∷ below) few ps h =
+      let r = split_cover below few h.0 h.4 in
+      (r.0, r.1 ++ h.1, h.2 ∙ ap (λ xs. xs ++ h.1) r.2 ∙ append_assoc r.0 r.1 h.1, (r.1, h.1, refl, h.3, r.3), r.4)
 
-  -- pieces that keep all traces complete the entries too
-  pub kept_completes : (tr : Trace) (ps qs : List Piece) (st st' : State) (n : ℕ) → Completes tr ps st n → Keeps s ps st qs st' n → Completes tr qs st' n
-  kept_completes tr ps qs st st' n h k more e m = h more e (k.by more e m)
+  join_cover : (below few : List Item) (upper under : List Piece) → AllCover p below under → AllCover p few upper → AllCover p (below ++ few) (upper ++ under)
+  join_cover [] few upper under h f = subst (λ xs. AllCover p few xs) (sym (ap (λ xs. upper ++ xs) h ∙ append-nil upper)) f
+  join_cover (item ∷ below) few upper under h f =
+      (upper ++ h.0, h.1, ap (λ xs. upper ++ xs) h.2 ∙ sym (append_assoc upper h.0 h.1), h.3, join_cover below few upper h.0 h.4 f)
 
-  ready_end : (items : List Item) (v : Variables) (mode : Mode) (n : ℕ) (o : Option Call) → IsReady items mode o → Makes s (standing s items).left (state_of v mode) n [] (end_of o)
-  ready_end items v mode n None h = subst (λ xs. Makes s (standing s xs).left (state_of v mode) n [] Whole) (sym h) over
-  ready_end items v mode n (Some call) h =
-      let r = last_asks s items v mode n call h in
-      subst (λ ps. Makes s ps (state_of v mode) n [] (Cut call)) (sym r.2) (cut call r.3)
+  -- the last item over those below it
+  last_cover : (items below : List Item) (item : Item) (ps : List Piece) → items ≡ below ++ item ∷ [] → AllCover p items ps → (qs : List Piece) × (under : List Piece) × (ps ≡ qs ++ under) × Covers p item qs × AllCover p below under
+  last_cover items below item ps e h =
+      let r = split_cover below (item ∷ []) ps (subst (λ xs. AllCover p xs ps) e h) in
+      let above_none : r.4.0 ≡ [] = r.4.4 in
+      (r.4.1, r.1, r.2 ∙ ap (λ xs. xs ++ r.1) (r.4.2 ∙ ap (λ xs. xs ++ r.4.1) above_none), r.4.3, r.3)
 
-  -- what is ready is how the trace ends
-  pub ready_ends : (tr : Trace) (items : List Item) (v : Variables) (mode : Mode) (n : ℕ) (o : Option Call) → Completes tr (standing s items).left (state_of v mode) n → IsReady items mode o → IsTrace s t tr (end_of o)
-  ready_ends tr items v mode n o h r = subst (λ xs. IsTrace s t xs (end_of o)) (append-nil tr) (h [] (end_of o) (ready_end items v mode n o r))
+  module _ (n : ℕ) where
+    -- what the last item does, all items do
+    pub last_keeps : (s : Tree) (items below new : List Item) (item : Item) (few : List Item) (st st' : State) → items ≡ below ++ item ∷ [] → new ≡ below ++ few → Moves p n item st few st' → IsProgramOf s p → KeepsAll s p n items st new st'
+    last_keeps s items below new item few st st' e f m of ps h =
+        let r = last_cover items below item ps e h in
+        let k = m.keeps s of r.0 r.1 r.3 in
+        (k.0 ++ r.1, subst (λ xs. AllCover p xs (k.0 ++ r.1)) (sym f) (join_cover below few k.0 r.1 r.4 k.1),
+        subst (λ xs. Keeps s xs st (k.0 ++ r.1) st' n) (sym r.2) k.2)
 
-  -- one entry more
-  pub entered_completes : (tr : Trace) (ps qs : List Piece) (st st' : State) (n : ℕ) (call : Call) (a : Answer) → Completes tr ps st n → Enters s ps st qs st' n call a → Completes (tr ++ (call, a) ∷ []) qs st' (suc n)
-  entered_completes tr ps qs st st' n call a h k more e m =
-      subst (λ x. IsTrace s t x e) (sym (append_assoc tr ((call, a) ∷ []) more)) (h ((call, a) ∷ more) e (k.by more e m))
+    all_of : (items below few : List Item) → items ≡ below ++ few → all_long (length p.lines.items) n items ≡ all_long (length p.lines.items) n few ++ all_long (length p.lines.items) n below
+    all_of items below few e =
+        ap (λ xs. all_long (length p.lines.items) n xs) e
+        ∙ fold-append (λ ps item. as_long (length p.lines.items) n item ∷ ps) [] below few
+        ∙ long_more (length p.lines.items) n few (all_long (length p.lines.items) n below)
+
+    pub last_fewer : (items below new : List Item) (item : Item) (few : List Item) (st st' : State) → items ≡ below ++ item ∷ [] → new ≡ below ++ few → Moves p n item st few st' → work (length p.lines.items) n new st' < work (length p.lines.items) n items st
+    last_fewer items below new item few st st' e f m =
+        let size = length p.lines.items in
+        subst (λ xs. steps_left no_tree n xs st' < steps_left no_tree n (all_long size n items) st) (sym (all_of new below few f))
+        (subst (λ xs. steps_left no_tree n (all_long size n few ++ all_long size n below) st' < steps_left no_tree n xs st) (sym (all_of items below (item ∷ []) e)) (m.fewer (all_long size n below)))
+
+    pub keeps_same : (s : Tree) (items mid new : List Item) (a b : State) → new ≡ mid → KeepsAll s p n items a mid b → KeepsAll s p n items a new b
+    keeps_same s items mid new a b e h = subst (λ xs. KeepsAll s p n items a xs b) (sym e) h
+
+    pub keeps_all_on : (s : Tree) (items mid new : List Item) (a b c : State) → KeepsAll s p n items a mid b → KeepsAll s p n mid b new c → KeepsAll s p n items a new c
+    keeps_all_on s items mid new a b c h k ps x =
+        let r = h ps x in
+        let q = k r.0 r.1 in
+        (q.0, q.1, record { by = λ tr e m. r.2.by tr e (q.2.by tr e m) })
+
+  -- the item that asks for a call makes it
+  asks_so : (s : Tree) (item : Item) (mode : Mode) (call : Call) (v : Variables) (n : ℕ) → asks item mode ≡ Some call → step s (piece item) (state_of v mode) n ≡ Asks call
+  asks_so s (MakingItem c) GoingMode call v n h = let e : c ≡ call = cc in ap Asks e
+  asks_so s (MakingItem c) (ReturningMode x) call v n h = let e : c ≡ call = cc in ap Asks e
+  asks_so s (LeavesItem frame x) GoingMode call v n h = cc
+  asks_so s item mode call v n h = absurd cc
+
+  asks_covers : (item : Item) (mode : Mode) (call : Call) (qs : List Piece) → asks item mode ≡ Some call → Covers p item qs → qs ≡ piece item ∷ []
+  asks_covers (MakingItem c) mode call qs h k = k
+  asks_covers (LeavesItem frame x) mode call qs h k = k
+  asks_covers item mode call qs h k = absurd cc
+
+  state_variables : (v : Variables) (mode : Mode) → variables_of (state_of v mode) ≡ v
+  state_variables v GoingMode = refl
+  state_variables v (ReturningMode x) = refl
+  state_variables v (GivenMode a x) = refl
+
+  module _ (s : Tree) (t : ℕ) where
+    -- whatever trace the pieces make after so many entries, the entries and then that trace are one of the thread
+    abbrev pub Completes : Trace → List Piece → State → ℕ → Type 0
+    Completes tr ps st n = (more : Trace) (e : End) → Makes s ps st n more e → IsTrace s t (tr ++ more) e
+
+    ready_end : (items : List Item) (ps : List Piece) (v : Variables) (mode : Mode) (n : ℕ) (o : Option Call) → AllCover p items ps → IsReady items mode o → Makes s ps (state_of v mode) n [] (end_of o)
+    ready_end items ps v mode n None c h = let none : ps ≡ [] = subst (λ xs. AllCover p xs ps) h c in subst (λ xs. Makes s xs (state_of v mode) n [] Whole) (sym none) over
+    ready_end items ps v mode n (Some call) c h =
+        let r = last_cover items h.0 h.1 ps h.2 c in
+        let first : ps ≡ piece h.1 ∷ r.1 = r.2 ∙ ap (λ xs. xs ++ r.1) (asks_covers h.1 mode call r.0 h.3 r.3) in
+        subst (λ xs. Makes s xs (state_of v mode) n [] (Cut call)) (sym first) (cut call (asks_so s h.1 mode call v n h.3))
+
+    -- what is ready is how the trace ends
+    pub ready_ends : (tr : Trace) (items : List Item) (ps : List Piece) (v : Variables) (mode : Mode) (n : ℕ) (o : Option Call) → AllCover p items ps → Completes tr ps (state_of v mode) n → IsReady items mode o → IsTrace s t tr (end_of o)
+    ready_ends tr items ps v mode n o c h r = subst (λ xs. IsTrace s t xs (end_of o)) (append-nil tr) (h [] (end_of o) (ready_end items ps v mode n o c r))
+
+    -- what follows an answer, in the place of the item that made the call
+    pub entered : (tr : Trace) (items new : List Item) (few : List Item) (ps : List Piece) (v v' : Variables) (mode mode' : Mode) (n : ℕ) (call : Call) (a : Answer) → (r : Asking items mode call) → new ≡ r.0 ++ few → ArePlaceless few → above few ≡ follows call a → state_of v' mode' ≡ answered call a v → AllCover p items ps → Completes tr ps (state_of v mode) n → (qs : List Piece) × AllCover p new qs × Completes (tr ++ (call, a) ∷ []) qs (state_of v' mode') (suc n)
+    entered tr items new few ps v v' mode mode' n call a r f i g st c h =
+        let l = last_cover items r.0 r.1 ps r.2 c in
+        let first : ps ≡ piece r.1 ∷ l.1 = l.2 ∙ ap (λ xs. xs ++ l.1) (asks_covers r.1 mode call l.0 r.3 l.3) in
+        let states : state_of v' mode' ≡ answered call a (variables_of (state_of v mode)) = st ∙ ap (answered call a) (sym (state_variables v mode)) in
+        (above few ++ l.1, subst (λ xs. AllCover p xs (above few ++ l.1)) (sym f) (join_cover r.0 few (above few) l.1 l.4 (plain_cover p few i)),
+        λ more e m.
+            subst (λ x. IsTrace s t x e) (sym (append_assoc tr ((call, a) ∷ []) more))
+            (h ((call, a) ∷ more) e
+            (subst (λ xs. Makes s xs (state_of v mode) n ((call, a) ∷ more) e) (sym first)
+            (entry call a (asks_so s r.1 mode call v n r.3)
+            (subst (λ x. Makes s (follows call a ++ l.1) x (suc n) more e) states
+            (subst (λ xs. Makes s (xs ++ l.1) (state_of v' mode') (suc n) more e) g m))))))

@@ -8,6 +8,7 @@ use Rattle.user_model.specs.Tellers.{TellerView, HasLooked, CameTo}
 use Rattle.script_tree.specs.Tree.{Tree}
 use Rattle.script_tree.specs.Pieces.{Trace, End, Whole, Cut}
 use Rattle.script_tree.specs.Traces.{IsTrace}
+use Rattle.script_proc.specs.declared.program.Program.{Program}
 use Rattle.script_proc.specs.declared.worker.Worker.{Worker}
 use Rattle.script_proc.specs.declared.turn.Turn.{Turn}
 use Rattle.script_proc.specs.declared.turn.Turn.TheVariants.{Went, Idle, Ended, Spent}
@@ -18,17 +19,17 @@ abbrev pub caller : Worker → Thread
 caller w = record { 0 = thread_of w }
 
 -- the trace that the worker stands for ends so
-abbrev pub IsCut : Tree → Worker → End → Type 0
-IsCut s w e = (t : ℕ) (tr : Trace) → IsWorkerOf s t tr w → IsTrace s t tr e
+abbrev pub IsCut : Tree → Program → Worker → End → Type 0
+IsCut s p w e = (t : ℕ) (tr : Trace) → IsWorkerOf s p t tr w → IsTrace s t tr e
 
 -- the worker stands for the trace that it stood for
-pub record Stays (s : Tree) (old new : Worker) : Type 0 where
-  pub worker : (t : ℕ) (tr : Trace) → IsWorkerOf s t tr old → IsWorkerOf s t tr new
+pub record Stays (s : Tree) (p : Program) (old new : Worker) : Type 0 where
+  pub worker : (t : ℕ) (tr : Trace) → IsWorkerOf s p t tr old → IsWorkerOf s p t tr new
   pub used : uses new ≡ uses old
 
 -- the trace has a next call, and some of the budget is left
-pub record CanCall (s : Tree) (w : Worker) (call : Call) : Type 0 where
-  pub next : IsCut s w (Cut call)
+pub record CanCall (s : Tree) (p : Program) (w : Worker) (call : Call) : Type 0 where
+  pub next : IsCut s p w (Cut call)
   pub left : uses w < s.budget
 
 -- the call was made, and stands with its answer at the end of the trace
@@ -36,7 +37,7 @@ pub record HasMadeOne (old new : Worker) (before after : TellerView) (call : Cal
   pub answer : Answer
   pub told : CameTo before after (caller old) call (Answered answer)
   pub looked : HasLooked before after (thread_of old)
-  pub worker : (s : Tree) (t : ℕ) (tr : Trace) → IsWorkerOf s t tr old → IsWorkerOf s t (tr ++ (call, answer) ∷ []) new
+  pub worker : (s : Tree) (p : Program) (t : ℕ) (tr : Trace) → IsWorkerOf s p t tr old → IsWorkerOf s p t (tr ++ (call, answer) ∷ []) new
   pub used : uses new ≡ uses old + 1
 
 -- the call was not made, since the thread is barred
@@ -51,40 +52,40 @@ Asked old new before after call Idle = HasMadeNone before after (caller old) cal
 Asked old new before after call turn = ⊥
 
 -- the next call was made, and stands with its answer at the end of the trace
-pub record HasGone (s : Tree) (old new : Worker) (before after : TellerView) : Type 0 where
+pub record HasGone (s : Tree) (p : Program) (old new : Worker) (before after : TellerView) : Type 0 where
   pub call : Call
-  pub can : CanCall s old call
+  pub can : CanCall s p old call
   pub answer : Answer
   pub told : CameTo before after (caller old) call (Answered answer)
   pub looked : HasLooked before after (thread_of old)
-  pub worker : (t : ℕ) (tr : Trace) → IsWorkerOf s t tr old → IsWorkerOf s t (tr ++ (call, answer) ∷ []) new
+  pub worker : (t : ℕ) (tr : Trace) → IsWorkerOf s p t tr old → IsWorkerOf s p t (tr ++ (call, answer) ∷ []) new
   pub used : uses new ≡ uses old + 1
 
 -- the next call was not made, since the thread is barred
-pub record HasIdled (s : Tree) (old new : Worker) (before after : TellerView) : Type 0 where
+pub record HasIdled (s : Tree) (p : Program) (old new : Worker) (before after : TellerView) : Type 0 where
   pub call : Call
-  pub can : CanCall s old call
+  pub can : CanCall s p old call
   pub idle : HasMadeNone before after (caller old) call
-  pub stays : Stays s old new
+  pub stays : Stays s p old new
 
 -- the trace is whole
-pub record HasEnded (s : Tree) (old new : Worker) : Type 0 where
-  pub whole : IsCut s old Whole
-  pub stays : Stays s old new
+pub record HasEnded (s : Tree) (p : Program) (old new : Worker) : Type 0 where
+  pub whole : IsCut s p old Whole
+  pub stays : Stays s p old new
 
 -- the trace has a next call, and the budget is used up
-pub record HasSpent (s : Tree) (old new : Worker) : Type 0 where
+pub record HasSpent (s : Tree) (p : Program) (old new : Worker) : Type 0 where
   pub call : Call
-  pub next : IsCut s old (Cut call)
+  pub next : IsCut s p old (Cut call)
   pub spent : s.budget ≤ uses old
-  pub stays : Stays s old new
+  pub stays : Stays s p old new
 
 -- what the turn did
-abbrev pub Did : Tree → Worker → Worker → TellerView → TellerView → Turn → Type 0
-Did s old new before after Went = HasGone s old new before after
-Did s old new before after Idle = HasIdled s old new before after
-Did s old new before after Ended = HasEnded s old new
-Did s old new before after Spent = HasSpent s old new
+abbrev pub Did : Tree → Program → Worker → Worker → TellerView → TellerView → Turn → Type 0
+Did s p old new before after Went = HasGone s p old new before after
+Did s p old new before after Idle = HasIdled s p old new before after
+Did s p old new before after Ended = HasEnded s p old new
+Did s p old new before after Spent = HasSpent s p old new
 
 -- the turn asked no teller
 abbrev pub AsksNobody : Turn → Type 0

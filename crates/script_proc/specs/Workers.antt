@@ -1,11 +1,13 @@
 -- What a worker stands for.
-use Rattle.std.specs.Prelude.{◌≡◌, ◌≤◌, ◌+◌, ℕ, ◌++◌, length, Option, Some, None, vec_len, vec_capacity}
+use Rattle.std.specs.Prelude.{◌≡◌, ◌≤◌, ◌+◌, ℕ, List, ◌++◌, length, Option, Some, None, vec_len, vec_capacity}
 use Rattle.user_model.specs.declared.call.Call.{Call}
 use Rattle.script_tree.specs.Tree.{Tree}
-use Rattle.script_tree.specs.Pieces.{Trace, End, Whole, Cut}
+use Rattle.script_tree.specs.Pieces.{Piece, Trace, End, Whole, Cut}
 use Rattle.script_tree.specs.Traces.{Makes, IsTrace}
+use Rattle.script_proc.specs.declared.program.Program.{Program}
 use Rattle.script_proc.specs.declared.worker.Worker.{Worker}
-use Rattle.script_proc.specs.Items.{standing, state_of, IsReady}
+use Rattle.script_proc.specs.Programs.{IsProgramOf}
+use Rattle.script_proc.specs.Items.{AllCover, state_of, IsReady}
 
 -- the thread of the worker
 abbrev pub thread_of : Worker → ℕ
@@ -15,9 +17,12 @@ thread_of w = w.thread
 abbrev pub uses : Worker → ℕ
 uses w = w.used
 
--- the worker stands for this trace of the thread: whatever its items make goes on with it, it counts the entries, and the thread is its own
-pub record IsWorkerOf (s : Tree) (t : ℕ) (tr : Trace) (w : Worker) : Type 0 where
-  pub by : (more : Trace) (e : End) → Makes s (standing s w.items.items).left (state_of w.variables w.mode) w.used more e → IsTrace s t (tr ++ more) e
+-- the worker stands for this trace of the thread of a script with that program: whatever the pieces make that its items stand for goes on with it, it counts the entries, and the thread is its own
+pub record IsWorkerOf (s : Tree) (p : Program) (t : ℕ) (tr : Trace) (w : Worker) : Type 0 where
+  pub program : IsProgramOf s p
+  pub left : List Piece
+  pub stands : AllCover p w.items.items left
+  pub by : (more : Trace) (e : End) → Makes s left (state_of w.variables w.mode) w.used more e → IsTrace s t (tr ++ more) e
   pub counts : w.used ≡ length tr
   pub thread : w.thread ≡ t
 

@@ -1,34 +1,18 @@
 //! What a thread has left to do, one thing after another.
 
-use script_tree::{Parameters, Place, Run, Variables};
+use script_tree::{Parameters, Place, Run};
 use user_model::{Answer, Call};
 use win_num::Frame;
-
-/// How a block stands in its thread's script: as a body, or in the statement before the place of the
-/// block around it.
-#[derive(Clone, Copy)]
-pub enum Way {
-    /// The body of this thread, from 1.
-    Thread(u8),
-    /// The body of this procedure, from 0.
-    Procedure(u32),
-    /// The first body of an `if`.
-    First,
-    /// The body behind `else`.
-    Second,
-    /// The body of a `while`.
-    Pass,
-}
 
 /// One thing that is left to do.
 #[derive(Clone, Copy)]
 pub enum Item {
-    /// The statements of a block from a place on.
-    Block(Way, usize),
-    /// The statement before the place once more.
-    Once,
-    /// The end of a pass of the `while` before the place, which began after so many entries.
-    PassEnd(u32),
+    /// The lines of the program from a place on.
+    At(usize),
+    /// The `while` at a place once more.
+    Once(usize),
+    /// The end of a pass of the `while` at a place, which began after so many entries.
+    PassEnd(usize, u32),
     /// A call, made until its answer is that of no attempt.
     Making(Call),
     /// The same call once more, after the procedure of an attempt.
@@ -75,23 +59,4 @@ pub enum Few {
     Three(Item, Item, Item),
     Four(Item, Item, Item, Item),
     Five(Item, Item, Item, Item, Item),
-}
-
-/// What an item does that makes no call: it becomes a few others, and hands something to the next.
-#[derive(Clone, Copy)]
-pub struct Move {
-    pub items: Few,
-    pub variables: Variables,
-    pub mode: Mode,
-}
-
-/// What is next.
-#[derive(Clone, Copy)]
-pub enum Ahead {
-    /// Nothing is left.
-    Nothing,
-    /// A call.
-    Calls(Call),
-    /// A step that makes no call.
-    Moves(Move),
 }

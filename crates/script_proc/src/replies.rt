@@ -1,31 +1,27 @@
 //! What follows a call and its answer.
 
-ghost use Rattle.std.specs.Prelude.{◌≡◌, [], Option, IfNone, IfSome, Some};
-ghost use Rattle.script_tree.specs.Tree.{Tree};
-ghost use Rattle.script_tree.specs.declared.statement.Statement.{Statement};
-ghost use Rattle.script_tree.specs.Pieces.{Becomes};
+ghost use Rattle.std.specs.Prelude.{◌≡◌, IfNone, IfSome, Some};
 ghost use Rattle.script_tree.specs.Steps.{follows, answered, following as following_of, after_answer, given as given_of, is_last as is_last_of, parameters_of, parameters_from};
 ghost use Rattle.user_model.specs.Stacks.{leaves as leaves_of, waits as waits_of};
-ghost use Rattle.script_proc.specs.Items.{told as told_by, step_of, asks, IsSilent};
+ghost use Rattle.script_proc.specs.Items.{told as told_by, above, few_items, state_of, asks, IsSilent, ArePlaceless};
 
-use crate::item::{Few, Item, Mode, Move};
-use crate::moves::{goes, hands};
+use crate::item::{Few, Item, Mode};
 use script_tree::{Parameters, Run, Variables, result_of};
 use user_model::{Answer, Call};
 use win_num::Frame;
 
 /// The call that an item asks for.
-pub fn asked(item: Item, mode: Mode) -> Option<Call>
-    ensures none { IfNone result (IsSilent item mode) }
-    ensures some { IfSome result (λ call. asks item mode ≡ Some call) }
+pub fn asked(item: &Item, mode: &Mode) -> Option<Call>
+    ensures none { IfNone result (IsSilent item.now mode.now) }
+    ensures some { IfSome result (λ call. asks item.now mode.now ≡ Some call) }
 {
     match item {
         Item::Making(call) => match mode {
             Mode::Given(_, _) => None,
-            _ => Some(call),
+            _ => Some(*call),
         },
         Item::Leaves(_, value) => match mode {
-            Mode::Going => Some(Call::Leave(value)),
+            Mode::Going => Some(Call::Leave(*value)),
             _ => None,
         },
         _ => None,
@@ -110,12 +106,13 @@ fn told(answer: &Answer) -> Parameters
 }
 
 /// The answer is handed on.
-fn gives(answer: Answer, variables: Variables) -> Move
-    ensures { (s : Tree) (around : Option Statement) → step_of s around result ≡ Becomes [] (given_of variables answer) }
+fn gives(answer: Answer, variables: &mut Variables, mode: &mut Mode) -> Few
+    ensures items { result ≡ Few.Nothing }
+    ensures state { state_of variables.new mode.new ≡ given_of variables.old answer }
 {
-    let mut next = variables;
-    next.receive(&answer);
-    hands(next, Mode::Given(answer, result_of(&answer)))
+    variables.receive(&answer);
+    *mode = Mode::Given(answer, result_of(&answer));
+    Few::Nothing
 }
 
 /// A procedure runs, and then this is left.
@@ -131,10 +128,13 @@ fn runs(procedure: u32, parameters: Parameters, frame: Frame, then: Item) -> Few
 }
 
 /// What follows an answer other than `wait` to a call that isn't the last of its thread.
-fn following(call: Call, answer: Answer, variables: Variables) -> Move
-    ensures { (s : Tree) (around : Option Statement) → step_of s around result ≡ Becomes (following_of call answer) (after_answer call answer variables) }
+fn following(call: Call, answer: Answer, variables: &mut Variables, mode: &mut Mode) -> Few
+    requires { mode.old ≡ Mode.Going }
+    ensures placeless { ArePlaceless (few_items result) }
+    ensures pieces { above (few_items result) ≡ following_of call answer }
+    ensures state { state_of variables.new mode.new ≡ after_answer call answer variables.old }
 {
-    let items = match answer {
+    match answer {
         Answer::Enter { send, proc_no, .. } => {
             let message = told(&answer);
             runs(proc_no, message, Frame::Entered(send), Item::Again(call))
@@ -161,25 +161,27 @@ fn following(call: Call, answer: Answer, variables: Variables) -> Move
             if waits(&call) {
                 Few::Single(Item::Making(Call::Await(u64::from(send.0))))
             } else {
-                return gives(answer, variables);
+                gives(answer, variables, mode)
             }
         }
-        _ => return gives(answer, variables),
-    };
-    goes(items, variables)
+        _ => gives(answer, variables, mode),
+    }
 }
 
 /// What follows a call and its answer: after `wait` the same call, after the last call nothing.
-pub fn follow(call: Call, answer: Answer, variables: Variables) -> Move
-    ensures { (s : Tree) (around : Option Statement) → step_of s around result ≡ Becomes (follows call answer) (answered call answer variables) }
+pub fn follow(call: Call, answer: Answer, variables: &mut Variables, mode: &mut Mode) -> Few
+    ensures placeless { ArePlaceless (few_items result) }
+    ensures pieces { above (few_items result) ≡ follows call answer }
+    ensures state { state_of variables.new mode.new ≡ answered call answer variables.old }
 {
+    *mode = Mode::Going;
     match answer {
-        Answer::Wait => goes(Few::Single(Item::Making(call)), variables),
+        Answer::Wait => Few::Single(Item::Making(call)),
         _ => {
             if is_last(&call) {
-                gives(answer, variables)
+                gives(answer, variables, mode)
             } else {
-                following(call, answer, variables)
+                following(call, answer, variables, mode)
             }
         }
     }

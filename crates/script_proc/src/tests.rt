@@ -1,3 +1,4 @@
+use crate::program::Program;
 use crate::worker::Worker;
 use script_tree::{
     Body, CallStatement, Comparison, Creation, Letter, Name, Operand, Operator, Procedure, Script,
@@ -168,7 +169,7 @@ fn destroys(alloc: Global) -> Result<Body, AllocError> {
     Ok(Body::new(body))
 }
 
-fn script(alloc: Global) -> Result<Script, AllocError> {
+fn program(alloc: Global) -> Result<Program, AllocError> {
     let mut procedures = Vec::new(alloc);
     procedures.push(hands_on(alloc)?)?;
     procedures.push(named(alloc, Vec::new(alloc))?)?;
@@ -180,7 +181,7 @@ fn script(alloc: Global) -> Result<Script, AllocError> {
     threads.push(asks(alloc)?)?;
     threads.push(waits_for_others(alloc)?)?;
     threads.push(destroys(alloc)?)?;
-    Ok(Script::new(
+    let script = Script::new(
         8,
         4,
         100,
@@ -188,7 +189,8 @@ fn script(alloc: Global) -> Result<Script, AllocError> {
         Vec::new(alloc),
         procedures,
         threads,
-    ))
+    );
+    Program::new(alloc, &script)
 }
 
 fn got(number: u32, wparam: u64) -> Answer {
@@ -230,12 +232,12 @@ fn left(send: u32) -> Answer {
 fn makes(
     rt: &impl Abort,
     worker: &mut Worker,
-    script: &Script,
+    program: &Program,
     wanted: &[(Call, Answer)],
 ) -> Result<(), AllocError> {
     for (call, answer) in wanted {
         assert!(rt; worker.used() < 100);
-        let next = worker.next_call(script)?;
+        let next = worker.next_call(program)?;
         assert!(rt; next == Some(*call));
         if let Some(asked) = next {
             worker.take(asked, *answer);
@@ -246,24 +248,24 @@ fn makes(
 
 #[test]
 fn posts_until_the_test_fails(rt: HostRuntime) -> Result<(), Fail> {
-    let script = script(rt.alloc())?;
-    let mut worker = Worker::new(rt.alloc(), &script, 1)?;
+    let program = program(rt.alloc())?;
+    let mut worker = Worker::new(rt.alloc(), &program, 1)?;
     let wanted = [
         (Call::PostThread(2, 1024, 0, 0), Answer::Posted(1)),
         (Call::PostThread(2, 1024, 1, 0), Answer::Posted(2)),
         (Call::PostThread(2, 18, 0, 0), Answer::Posted(3)),
         (Call::EndThread, Answer::Ended),
     ];
-    makes(&rt, &mut worker, &script, &wanted)?;
-    assert!(rt; worker.next_call(&script)? == None);
+    makes(&rt, &mut worker, &program, &wanted)?;
+    assert!(rt; worker.next_call(&program)? == None);
     assert_eq!(rt; worker.used(), 4);
     Ok(())
 }
 
 #[test]
 fn waits_and_adds(rt: HostRuntime) -> Result<(), Fail> {
-    let script = script(rt.alloc())?;
-    let mut worker = Worker::new(rt.alloc(), &script, 2)?;
+    let program = program(rt.alloc())?;
+    let mut worker = Worker::new(rt.alloc(), &program, 2)?;
     let wanted = [
         (Call::Get(0, 0, 0), Answer::Wait),
         (Call::Get(0, 0, 0), got(1024, 0)),
@@ -275,18 +277,18 @@ fn waits_and_adds(rt: HostRuntime) -> Result<(), Fail> {
         (Call::PostQuit(12), Answer::Okay),
         (Call::EndThread, Answer::Ended),
     ];
-    makes(&rt, &mut worker, &script, &wanted)?;
-    assert!(rt; worker.next_call(&script)? == None);
+    makes(&rt, &mut worker, &program, &wanted)?;
+    assert!(rt; worker.next_call(&program)? == None);
     assert_eq!(rt; worker.used(), 9);
     Ok(())
 }
 
 #[test]
 fn yields_after_a_pass_without_a_call(rt: HostRuntime) -> Result<(), Fail> {
-    let script = script(rt.alloc())?;
+    let program = program(rt.alloc())?;
     let post = Call::PostThread(9, 1, 0, 0);
     let quit = Call::PostQuit(18446744073709551615);
-    let mut worker = Worker::new(rt.alloc(), &script, 3)?;
+    let mut worker = Worker::new(rt.alloc(), &program, 3)?;
     let wanted = [
         (post, Answer::Refused(Code::Win(1444))),
         (quit, Answer::Refused(Code::Win(1444))),
@@ -294,16 +296,16 @@ fn yields_after_a_pass_without_a_call(rt: HostRuntime) -> Result<(), Fail> {
         (Call::Yield, Answer::Okay),
         (Call::EndThread, Answer::Ended),
     ];
-    makes(&rt, &mut worker, &script, &wanted)?;
-    assert!(rt; worker.next_call(&script)? == None);
+    makes(&rt, &mut worker, &program, &wanted)?;
+    assert!(rt; worker.next_call(&program)? == None);
     assert_eq!(rt; worker.used(), 5);
     Ok(())
 }
 
 #[test]
 fn makes_a_window_and_serves(rt: HostRuntime) -> Result<(), Fail> {
-    let script = script(rt.alloc())?;
-    let mut worker = Worker::new(rt.alloc(), &script, 4)?;
+    let program = program(rt.alloc())?;
+    let mut worker = Worker::new(rt.alloc(), &program, 4)?;
     let wanted = [
         (Call::Register(0, 0, 0), Answer::Value(1)),
         (
@@ -324,16 +326,16 @@ fn makes_a_window_and_serves(rt: HostRuntime) -> Result<(), Fail> {
         (Call::Get(0, 0, 0), got(18, 0)),
         (Call::EndThread, Answer::Ended),
     ];
-    makes(&rt, &mut worker, &script, &wanted)?;
-    assert!(rt; worker.next_call(&script)? == None);
+    makes(&rt, &mut worker, &program, &wanted)?;
+    assert!(rt; worker.next_call(&program)? == None);
     assert_eq!(rt; worker.used(), 15);
     Ok(())
 }
 
 #[test]
 fn sends_and_serves_meanwhile(rt: HostRuntime) -> Result<(), Fail> {
-    let script = script(rt.alloc())?;
-    let mut worker = Worker::new(rt.alloc(), &script, 5)?;
+    let program = program(rt.alloc())?;
+    let mut worker = Worker::new(rt.alloc(), &program, 5)?;
     let done = Answer::Done {
         result: 9,
         cause: Cause::Proc,
@@ -350,16 +352,16 @@ fn sends_and_serves_meanwhile(rt: HostRuntime) -> Result<(), Fail> {
         (Call::PostQuit(9), Answer::Okay),
         (Call::EndThread, Answer::Ended),
     ];
-    makes(&rt, &mut worker, &script, &wanted)?;
-    assert!(rt; worker.next_call(&script)? == None);
+    makes(&rt, &mut worker, &program, &wanted)?;
+    assert!(rt; worker.next_call(&program)? == None);
     assert_eq!(rt; worker.used(), 10);
     Ok(())
 }
 
 #[test]
 fn sleeps_times_out_and_is_called_back(rt: HostRuntime) -> Result<(), Fail> {
-    let script = script(rt.alloc())?;
-    let mut worker = Worker::new(rt.alloc(), &script, 6)?;
+    let program = program(rt.alloc())?;
+    let mut worker = Worker::new(rt.alloc(), &program, 6)?;
     let timed_out = Answer::Done {
         result: 0,
         cause: Cause::Timeout,
@@ -389,16 +391,16 @@ fn sleeps_times_out_and_is_called_back(rt: HostRuntime) -> Result<(), Fail> {
         (Call::PostQuit(1), Answer::Okay),
         (Call::EndThread, Answer::Ended),
     ];
-    makes(&rt, &mut worker, &script, &wanted)?;
-    assert!(rt; worker.next_call(&script)? == None);
+    makes(&rt, &mut worker, &program, &wanted)?;
+    assert!(rt; worker.next_call(&program)? == None);
     assert_eq!(rt; worker.used(), 12);
     Ok(())
 }
 
 #[test]
 fn destroys_and_returns(rt: HostRuntime) -> Result<(), Fail> {
-    let script = script(rt.alloc())?;
-    let mut worker = Worker::new(rt.alloc(), &script, 7)?;
+    let program = program(rt.alloc())?;
+    let mut worker = Worker::new(rt.alloc(), &program, 7)?;
     let wanted = [
         (Call::Dispatch(0, 0, 0, 0), Answer::Okay),
         (Call::PostQuit(0), Answer::Okay),
@@ -414,8 +416,8 @@ fn destroys_and_returns(rt: HostRuntime) -> Result<(), Fail> {
         (Call::PostQuit(1), Answer::Okay),
         (Call::EndThread, Answer::Ended),
     ];
-    makes(&rt, &mut worker, &script, &wanted)?;
-    assert!(rt; worker.next_call(&script)? == None);
+    makes(&rt, &mut worker, &program, &wanted)?;
+    assert!(rt; worker.next_call(&program)? == None);
     assert_eq!(rt; worker.used(), 13);
     Ok(())
 }

@@ -8,14 +8,14 @@ use crate::item::{Few, Item};
 use std::alloc::AllocError;
 
 /// Puts a few items in the place of the last.
-pub fn replace_last(items: &mut Vec<Item>, few: Few) -> Result<(), AllocError>
+fn replace_last(items: &mut Vec<Item>, few: &Few) -> Result<(), AllocError>
     requires { items.old.items ≢ [] }
     ensures succeeds { vec_len items.old + 4 ≤ vec_capacity items.old → IsOk result }
-    ensures ok { OnOk result ((below : List Item) (item : Item) → items.old.items ≡ below ++ item ∷ [] → items.new.items ≡ below ++ few_items few) }
+    ensures ok { OnOk result ((below : List Item) (item : Item) → items.old.items ≡ below ++ item ∷ [] → items.new.items ≡ below ++ few_items few.now) }
     ensures err { OnErr result (items.new.items ≡ items.old.items) }
 {
     let last = items.len() - 1;
-    match few {
+    match *few {
         Few::Nothing => {
             items.pop();
         }
@@ -41,10 +41,10 @@ pub fn replace_last(items: &mut Vec<Item>, few: Few) -> Result<(), AllocError>
 }
 
 /// The same where there is room.
-pub fn set_last(items: &mut Vec<Item>, few: Few)
+pub fn set_last(items: &mut Vec<Item>, few: &Few)
     requires room { vec_len items.old + 4 ≤ vec_capacity items.old }
     requires some { items.old.items ≢ [] }
-    ensures { (below : List Item) (item : Item) → items.old.items ≡ below ++ item ∷ [] → items.new.items ≡ below ++ few_items few }
+    ensures { (below : List Item) (item : Item) → items.old.items ≡ below ++ item ∷ [] → items.new.items ≡ below ++ few_items few.now }
 {
     let _ = replace_last(items, few);
 }

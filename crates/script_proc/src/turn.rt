@@ -4,11 +4,13 @@ ghost use Rattle.std.specs.Prelude.{◌≡◌, ◌<◌, ◌≤◌, ◌+◌, ◌^
 ghost use Rattle.user_model.specs.Tellers.{GoesOn};
 ghost use Rattle.script_tree.specs.Pieces.{Trace, Whole, Cut};
 ghost use Rattle.script_tree.specs.Traces.{IsTrace};
+ghost use Rattle.script_tree.specs.Tree.{Tree};
+ghost use Rattle.script_proc.specs.Programs.{IsProgramOf};
 ghost use Rattle.script_proc.specs.Workers.{IsWorkerOf, IsAt, thread_of, uses};
 ghost use Rattle.script_proc.specs.Turns.{Stays, Asked, Did, AsksNobody};
 
+use crate::program::Program;
 use crate::worker::Worker;
-use script_tree::Script;
 use std::alloc::AllocError;
 use user_model::{Call, Teller, Told};
 
@@ -30,23 +32,23 @@ impl Worker {
     /// the program has ended, else `Spent` exactly where the budget of the script is used up, and asks
     /// nobody there; else it is `Idle` where the thread is barred, and `Went` where the call was
     /// answered. After want of memory it has made no call, and the turn may be tried again.
-    pub fn turn<T: Teller>(&mut self, script: &Script, teller: &mut T) -> Result<Turn, AllocError>
+    pub fn turn<T: Teller>(&mut self, program: &Program, teller: &mut T) -> Result<Turn, AllocError>
         requires { T.serves teller.old (thread_of self.old) }
-        ensures did { IfOk result (Did script.now self.old self.new (T.view teller.old) (T.view teller.new)) }
-        ensures ended { IfOk result (λ turn. (t : ℕ) (tr : Trace) → IsWorkerOf script.now t tr self.old → IsTrace script.now t tr Whole → turn ≡ Turn.Ended) }
-        ensures spent { IfOk result (λ turn. (t : ℕ) (tr : Trace) (call : Call) → IsWorkerOf script.now t tr self.old → IsTrace script.now t tr (Cut call) → script.now.budget ≤ uses self.old → turn ≡ Turn.Spent) }
+        ensures did { IfOk result (λ turn. (s : Tree) → IsProgramOf s program.now → Did s program.now self.old self.new (T.view teller.old) (T.view teller.new) turn) }
+        ensures ended { IfOk result (λ turn. (s : Tree) (t : ℕ) (tr : Trace) → IsWorkerOf s program.now t tr self.old → IsTrace s t tr Whole → turn ≡ Turn.Ended) }
+        ensures spent { IfOk result (λ turn. (s : Tree) (t : ℕ) (tr : Trace) (call : Call) → IsWorkerOf s program.now t tr self.old → IsTrace s t tr (Cut call) → s.budget ≤ uses self.old → turn ≡ Turn.Spent) }
         ensures untouched { IfOk result (λ turn. AsksNobody turn → teller.new ≡ teller.old) }
-        ensures no_memory { OnErr result (Stays script.now self.old self.new) }
+        ensures no_memory { OnErr result ((s : Tree) → Stays s program.now self.old self.new) }
         ensures no_entry { OnErr result ((T.view teller.new).mine (thread_of self.old) ≡ (T.view teller.old).mine (thread_of self.old)) }
         ensures goes_on { GoesOn (T.view teller.old) (T.view teller.new) (T.serves teller.old) (thread_of self.old) }
         ensures still { T.is_still teller.old teller.new }
         ensures serves { (t : ℕ) → T.serves teller.old t ↔ T.serves teller.new t }
         ensures thread { thread_of self.new ≡ thread_of self.old }
     {
-        let Some(call) = self.next_call(script)? else {
+        let Some(call) = self.next_call(program)? else {
             return Ok(Turn::Ended);
         };
-        let spent = self.used() >= script.budget();
+        let spent = self.used() >= program.budget();
         if spent {
             return Ok(Turn::Spent);
         }

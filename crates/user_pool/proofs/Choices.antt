@@ -15,7 +15,7 @@ use Rattle.log_text.specs.Ends.{setup_of, used}
 use Rattle.user_pool.specs.Runs.{is_runnable, behind_first, left, listed, last_thread, first_above, in_turn, clock_move, choice}
 use Rattle.user_pool.specs.Moves.{IsNextPlace, left_after}
 use Rattle.user_pool.specs.declared.seat.Seat.{Seat}
-use Rattle.user_pool.specs.Seats.{SeatsStand}
+use Rattle.user_pool.specs.Seats.{SeatsCount}
 use Rattle.user_pool.proofs.Turns.{is_thread_of, barred_is_idle, lowest_all, lowest_nobody, and_right, found_passes, turn_runs, runnable_can, thread_positive, thread_within}
 
 -- ---- whether a thread can move, as the machine and its worker tell
@@ -23,10 +23,10 @@ use Rattle.user_pool.proofs.Turns.{is_thread_of, barred_is_idle, lowest_all, low
 used_is : (past : Past) (t : ℕ) → length (trace_of past t) ≡ used past t
 used_is past t = length-reverse (map told (mine past t)) ∙ length-map (mine past t) told
 
-pub seat_used : (s : Tree) (past : Past) (seats : List Seat) (t : ℕ) (d : Seat) → SeatsStand s past seats → 0 < t → t ≤ length seats → (get_or seats (t - 1) d).worker.used ≡ used past t
+pub seat_used : (s : Tree) (past : Past) (seats : List Seat) (t : ℕ) (d : Seat) → SeatsCount s past seats → 0 < t → t ≤ length seats → (get_or seats (t - 1) d).worker.used ≡ used past t
 seat_used s past seats t d stands positive within =
     let back : t - 1 + 1 ≡ t = omega arith in
-    (stands.at (t - 1) d (omega arith)).worker.counts ∙ ap (λ (u : ℕ). length (trace_of past u)) back ∙ used_is past t
+    (stands.at (t - 1) d (omega arith)).used ∙ ap (λ (u : ℕ). length (trace_of past u)) back ∙ used_is past t
 
 pub runs_is : (s : Tree) (past : Past) (setup : Setup) (t : ℕ) → setup ≡ setup_of s → 0 < t → t ≤ length s.threads → is_runnable s past t ≡ (not (is_barred setup past t) && nat_lt (used past t) s.budget)
 runs_is s past setup t same positive within =

@@ -17,12 +17,13 @@ use Rattle.user_model.proofs.Lowest.{lowest_found, lowest_here}
 use Rattle.script_tree.specs.Tree.{Tree}
 use Rattle.script_tree.specs.Traces.{trace_of}
 use Rattle.script_tree.proofs.PastLaws.{trace_of-own, trace_of-other}
+use Rattle.script_proc.specs.declared.program.Program.{Program}
 use Rattle.script_proc.specs.Workers.{IsWorkerOf}
 use Rattle.log_text.specs.Ends.{setup_of}
 use Rattle.user_pool.specs.declared.seat.Seat.{Seat}
 use Rattle.user_pool.specs.Runs.{ComesNext, choice}
 use Rattle.user_pool.specs.Moves.{HasMoved}
-use Rattle.user_pool.specs.Seats.{IsSeatOf, SeatsStand}
+use Rattle.user_pool.specs.Seats.{IsSeatOf, SeatsStand, SeatsCount}
 use Rattle.user_pool.proofs.Ended.{has_ended-next}
 
 -- what a call that came next does to the past
@@ -52,58 +53,65 @@ end_other true own ended e = ap (λ b. cond b true ended) e
 end_other false own ended e = refl
 
 -- the seat of the thread that moved
-pub seat_own : (s : Tree) (past now : Past) (t : ℕ) (call : Call) (setup : Setup) (answer : Answer) (seat : Seat) (ended : Bool) → setup ≡ setup_of s → is_full past ≡ false
+pub seat_own : (s : Tree) (p : Program) (past now : Past) (t : ℕ) (call : Call) (setup : Setup) (answer : Answer) (seat : Seat) (ended : Bool) → setup ≡ setup_of s → is_full past ≡ false
     → (let who : Thread = record { 0 = t } in now ≡ after setup past who call) → answer ≡ reply setup past t call
-    → IsWorkerOf s t (trace_of past t ++ (call, answer) ∷ []) seat.worker → ended ≡ has_ended past t → seat.ended ≡ cond (is_end answer) true ended → IsSeatOf s now t seat
-seat_own s past now t call setup answer seat ended same room is right worker before after =
+    → IsWorkerOf s p t (trace_of past t ++ (call, answer) ∷ []) seat.worker → ended ≡ has_ended past t → seat.ended ≡ cond (is_end answer) true ended → IsSeatOf s p now t seat
+seat_own s p past now t call setup answer seat ended same room is right worker before after =
     let who : Thread = record { 0 = t } in
     let e : Entry = entry_by (setup_of s) past who call in
     let told : answer ≡ e.answer = right ∙ ap (λ (x : Setup). reply x past t call) same in
     let hit : eqb t t ≡ true = grind (arith, nat_tests) in
-    subst (λ h. IsSeatOf s h t seat) (sym (with_entry s past now t call setup same room is)) (record {
-      worker = subst (λ tr. IsWorkerOf s t tr seat.worker) (ap (λ a. trace_of past t ++ (call, a) ∷ []) told ∙ sym (trace_of-own past e t refl)) worker;
+    subst (λ h. IsSeatOf s p h t seat) (sym (with_entry s past now t call setup same room is)) (record {
+      worker = subst (λ tr. IsWorkerOf s p t tr seat.worker) (ap (λ a. trace_of past t ++ (call, a) ∷ []) told ∙ sym (trace_of-own past e t refl)) worker;
       ended = after ∙ ap (λ a. cond (is_end a) true ended) told ∙ ap (λ b. cond (is_end e.answer) true b) before ∙ sym (has_ended-next e past t ∙ end_own (is_end e.answer) (eqb t t) (has_ended past t) hit);
     })
 
 -- the seat of another thread
-seat_other : (s : Tree) (past : Past) (e : Entry) (t : ℕ) (seat : Seat) → eqb e.who.0 t ≡ false → e.who.0 ≢ t → IsSeatOf s past t seat → IsSeatOf s (e ∷ past) t seat
-seat_other s past e t seat miss other stands = record {
-  worker = subst (λ tr. IsWorkerOf s t tr seat.worker) (sym (trace_of-other past e t other)) stands.worker;
+seat_other : (s : Tree) (p : Program) (past : Past) (e : Entry) (t : ℕ) (seat : Seat) → eqb e.who.0 t ≡ false → e.who.0 ≢ t → IsSeatOf s p past t seat → IsSeatOf s p (e ∷ past) t seat
+seat_other s p past e t seat miss other stands = record {
+  worker = subst (λ tr. IsWorkerOf s p t tr seat.worker) (sym (trace_of-other past e t other)) stands.worker;
   ended = stands.ended ∙ sym (has_ended-next e past t ∙ end_other (is_end e.answer) (eqb e.who.0 t) (has_ended past t) miss);
 }
 
-pub seat_stays : (s : Tree) (past now : Past) (actor t : ℕ) (seat : Seat) → HasMoved s past now actor → actor ≢ t → IsSeatOf s past t seat → IsSeatOf s now t seat
-seat_stays s past now actor t seat moved other stands =
+pub seat_stays : (s : Tree) (p : Program) (past now : Past) (actor t : ℕ) (seat : Seat) → HasMoved s past now actor → actor ≢ t → IsSeatOf s p past t seat → IsSeatOf s p now t seat
+seat_stays s p past now actor t seat moved other stands =
     let differs : moved.entry.who.0 ≢ t = λ e. other (sym moved.who ∙ e) in
     let miss : eqb moved.entry.who.0 t ≡ false = grind (arith, nat_tests, differs) in
-    subst (λ h. IsSeatOf s h t seat) (sym moved.newest) (seat_other s past moved.entry t seat miss differs stands)
+    subst (λ h. IsSeatOf s p h t seat) (sym moved.newest) (seat_other s p past moved.entry t seat miss differs stands)
 
 -- all seats, after the clock's move
-pub seats_clock : (s : Tree) (past now : Past) (seats : List Seat) → HasMoved s past now 0 → SeatsStand s past seats → SeatsStand s now seats
-seats_clock s past now seats moved stands = record {
+pub seats_clock : (s : Tree) (p : Program) (past now : Past) (seats : List Seat) → HasMoved s past now 0 → SeatsStand s p past seats → SeatsStand s p now seats
+seats_clock s p past now seats moved stands = record {
   count = stands.count;
-  at = λ i d lt. seat_stays s past now 0 (i + 1) (get_or seats i d) moved (λ e. absurd (omega (arith, e))) (stands.at i d lt);
+  at = λ i d lt. seat_stays s p past now 0 (i + 1) (get_or seats i d) moved (λ e. absurd (omega (arith, e))) (stands.at i d lt);
 }
 
 -- and after a thread's
-pub seats_thread : (s : Tree) (past now : Past) (seats : List Seat) (actor : ℕ) (seat : Seat) → HasMoved s past now actor → 0 < actor → actor ≤ length s.threads → SeatsStand s past seats → IsSeatOf s now actor seat → SeatsStand s now (set seats (actor - 1) seat)
-seats_thread s past now seats actor seat moved positive within stands here = record {
+pub seats_thread : (s : Tree) (p : Program) (past now : Past) (seats : List Seat) (actor : ℕ) (seat : Seat) → HasMoved s past now actor → 0 < actor → actor ≤ length s.threads → SeatsStand s p past seats → IsSeatOf s p now actor seat → SeatsStand s p now (set seats (actor - 1) seat)
+seats_thread s p past now seats actor seat moved positive within stands here = record {
   count = length-set seats (actor - 1) seat ∙ stands.count;
   at = λ i d lt. elim (eqb_tells i (actor - 1)) [
     | inl x ↦
         let there : i + 1 ≡ actor = omega (arith, x.1) in
         let place : actor - 1 < length seats = omega (arith, stands.count) in
         let same : get_or (set seats (actor - 1) seat) i d ≡ seat = ap (λ k. get_or (set seats (actor - 1) seat) k d) x.1 ∙ get_or-set_same seats (actor - 1) seat d place in
-        subst (λ z. IsSeatOf s now (i + 1) z) (sym same) (subst (λ u. IsSeatOf s now u seat) (sym there) here)
+        subst (λ z. IsSeatOf s p now (i + 1) z) (sym same) (subst (λ u. IsSeatOf s p now u seat) (sym there) here)
     | inr x ↦
         let other : actor ≢ i + 1 = λ e. x.1 (omega (arith, e)) in
         let in_place : i < length seats = omega (arith, lt, length-set seats (actor - 1) seat) in
-        subst (λ z. IsSeatOf s now (i + 1) z) (sym (get_or-set_other seats (actor - 1) i seat d x.1)) (seat_stays s past now actor (i + 1) (get_or seats i d) moved other (stands.at i d in_place))
+        subst (λ z. IsSeatOf s p now (i + 1) z) (sym (get_or-set_other seats (actor - 1) i seat d x.1)) (seat_stays s p past now actor (i + 1) (get_or seats i d) moved other (stands.at i d in_place))
   ];
 }
 
+-- what they stand for counts them
+pub seats_count : (s : Tree) (p : Program) (past : Past) (seats : List Seat) → SeatsStand s p past seats → SeatsCount s past seats
+seats_count s p past seats stands = record {
+  count = stands.count;
+  at = λ i d lt. record { used = (stands.at i d lt).worker.counts; ended = (stands.at i d lt).ended };
+}
+
 -- one that hasn't ended is enough
-pub someone_left : (s : Tree) (past : Past) (seats : List Seat) (i : ℕ) (d : Seat) → SeatsStand s past seats → lowest (λ t. not (has_ended past t)) i ≡ None → i < length seats → (get_or seats i d).ended ≡ false → have_all_ended (setup_of s) past ≡ false
+pub someone_left : (s : Tree) (past : Past) (seats : List Seat) (i : ℕ) (d : Seat) → SeatsCount s past seats → lowest (λ t. not (has_ended past t)) i ≡ None → i < length seats → (get_or seats i d).ended ≡ false → have_all_ended (setup_of s) past ≡ false
 someone_left s past seats i d stands before within goes =
     let here : has_ended past (i + 1) ≡ false = sym (stands.at i d within).ended ∙ goes in
     ap is_none (lowest_found (λ t. not (has_ended past t)) (length s.threads) (i + 1) (lowest_here (λ t. not (has_ended past t)) i before (ap not here)) (omega (arith, within, stands.count)))

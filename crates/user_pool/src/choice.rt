@@ -3,7 +3,7 @@
 ghost use Rattle.std.specs.Prelude.{◌≡◌, ◌<◌, ◌≤◌, ◌&&◌, nat_lt, length, drop, IsNone, IfSome, None};
 ghost use Rattle.user_pool.specs.Runs.{is_runnable, first_above, last_thread, left, choice};
 ghost use Rattle.user_pool.specs.Moves.{IsNextPlace, left_after};
-ghost use Rattle.user_pool.specs.Seats.{SeatsStand};
+ghost use Rattle.user_pool.specs.Seats.{SeatsCount};
 ghost use Rattle.log_text.specs.Ends.{setup_of};
 
 use crate::seat::Seat;
@@ -21,7 +21,7 @@ pub struct Choice {
 /// Whether a number is a thread's that can move: it isn't idle, and has some of its budget left.
 fn runnable<M: Machine>(script: &Script, machine: &M, seats: &[Seat], number: u8) -> bool
     requires setup { M.setup machine.now ≡ setup_of script.now }
-    requires seats { SeatsStand script.now (M.past machine.now) seats.now }
+    requires seats { SeatsCount script.now (M.past machine.now) seats.now }
     ensures { result ≡ is_runnable script.now (M.past machine.now) number }
 {
     if number == 0 || number as usize > seats.len() {
@@ -39,7 +39,7 @@ fn runnable_above<M: Machine>(
     thread: u8,
 ) -> bool
     requires setup { M.setup machine.now ≡ setup_of script.now }
-    requires seats { SeatsStand script.now (M.past machine.now) seats.now }
+    requires seats { SeatsCount script.now (M.past machine.now) seats.now }
     ensures { result ≡ (nat_lt low thread && is_runnable script.now (M.past machine.now) thread) }
 {
     low < thread && runnable(script, machine, seats, thread)
@@ -49,7 +49,7 @@ fn runnable_above<M: Machine>(
 fn first_above<M: Machine>(script: &Script, machine: &M, seats: &[Seat], low: u8) -> Option<u8>
     requires few { length script.now.threads ≤ 15 }
     requires setup { M.setup machine.now ≡ setup_of script.now }
-    requires seats { SeatsStand script.now (M.past machine.now) seats.now }
+    requires seats { SeatsCount script.now (M.past machine.now) seats.now }
     ensures { result ≡ first_above script.now (M.past machine.now) low }
 {
     let threads = script.thread_count();
@@ -66,7 +66,7 @@ fn first_above<M: Machine>(script: &Script, machine: &M, seats: &[Seat], low: u8
 fn next_place<M: Machine>(script: &Script, machine: &M, seats: &[Seat], from: usize) -> usize
     requires from { from ≤ length script.now.order }
     requires setup { M.setup machine.now ≡ setup_of script.now }
-    requires seats { SeatsStand script.now (M.past machine.now) seats.now }
+    requires seats { SeatsCount script.now (M.past machine.now) seats.now }
     ensures { IsNextPlace (is_runnable script.now (M.past machine.now)) script.now.order from result }
 {
     let order = script.order();
@@ -89,7 +89,7 @@ fn choose_thread<M: Machine>(
 ) -> Choice
     requires few { length script.now.threads ≤ 15 }
     requires setup { M.setup machine.now ≡ setup_of script.now }
-    requires seats { SeatsStand script.now (M.past machine.now) seats.now }
+    requires seats { SeatsCount script.now (M.past machine.now) seats.now }
     requires last { last ≡ last_thread (M.past machine.now) }
     requires from { from ≤ length script.now.order }
     requires left { left script.now (M.past machine.now) ≡ drop from script.now.order }
@@ -120,7 +120,7 @@ pub fn choose<M: Machine>(
 ) -> Option<Choice>
     requires few { length script.now.threads ≤ 15 }
     requires setup { M.setup machine.now ≡ setup_of script.now }
-    requires seats { SeatsStand script.now (M.past machine.now) seats.now }
+    requires seats { SeatsCount script.now (M.past machine.now) seats.now }
     requires last { last ≡ last_thread (M.past machine.now) }
     requires from { from ≤ length script.now.order }
     requires left { left script.now (M.past machine.now) ≡ drop from script.now.order }

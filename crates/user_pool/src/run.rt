@@ -7,11 +7,12 @@ ghost use Rattle.user_model.specs.Legal.{IsLawful};
 ghost use Rattle.log_text.specs.Ends.{setup_of, end_of};
 ghost use Rattle.user_pool.specs.Runs.{choice, IsRun, IsListed};
 ghost use Rattle.user_pool.specs.Moves.{CanMove, HasMoved};
-ghost use Rattle.user_pool.specs.Seats.{SeatsStand};
+ghost use Rattle.user_pool.specs.Seats.{SeatsStand, SeatsCount};
 
 use crate::choice::choose;
 use crate::seat::{Seat, new_seats};
 use log_text::End;
+use script_proc::Program;
 use script_tree::Script;
 use std::alloc::{AllocError, Global};
 use user_model::{Answer, Call, Entry, Machine};
@@ -20,39 +21,41 @@ use win_num::Thread;
 /// Makes the next call of a thread.
 fn thread_turn<M: Machine>(
     script: &Script,
+    program: &Program,
     machine: &mut M,
     seats: &mut Vec<Seat>,
     actor: u8,
 ) -> Result<(), AllocError>
     requires small { script.now.budget ≤ 65536 }
     requires setup { M.setup machine.old ≡ setup_of script.now }
-    requires seats { SeatsStand script.now (M.past machine.old) seats.old.items }
+    requires seats { SeatsStand script.now program.now (M.past machine.old) seats.old.items }
     requires chosen { choice script.now (M.past machine.old) ≡ Some actor }
     requires thread { 0 < actor }
     requires can { CanMove script.now (M.past machine.old) actor }
     requires room { is_full (M.past machine.old) ≡ false }
     requires run { IsRun script.now (M.past machine.old) }
     ensures moved { OnOk result (HasMoved script.now (M.past machine.old) (M.past machine.new) actor) }
-    ensures seats { OnOk result (SeatsStand script.now (M.past machine.new) seats.new.items) }
+    ensures seats { OnOk result (SeatsStand script.now program.now (M.past machine.new) seats.new.items) }
     ensures setup { M.setup machine.new ≡ setup_of script.now }
 {
     let seat = &mut seats[(actor - 1) as usize];
-    seat.turn(script, machine, actor)?;
+    seat.turn(script, program, machine, actor)?;
     Ok(())
 }
 
 /// Lets the clock go on.
 fn clock_turn<M: Machine>(
     script: &Script,
+    program: &Program,
     machine: &mut M,
     seats: &[Seat],
 ) -> Result<(), AllocError>
     requires setup { M.setup machine.old ≡ setup_of script.now }
-    requires seats { SeatsStand script.now (M.past machine.old) seats.now }
+    requires seats { SeatsStand script.now program.now (M.past machine.old) seats.now }
     requires chosen { choice script.now (M.past machine.old) ≡ Some 0 }
     requires room { is_full (M.past machine.old) ≡ false }
     ensures moved { OnOk result (HasMoved script.now (M.past machine.old) (M.past machine.new) 0) }
-    ensures seats { OnOk result (SeatsStand script.now (M.past machine.new) seats.now) }
+    ensures seats { OnOk result (SeatsStand script.now program.now (M.past machine.new) seats.now) }
     ensures setup { M.setup machine.new ≡ setup_of script.now }
 {
     let _answer = machine.step(Thread(0), Call::Advance)?;
@@ -62,29 +65,30 @@ fn clock_turn<M: Machine>(
 /// Makes the next call of the actor that was chosen.
 fn turn<M: Machine>(
     script: &Script,
+    program: &Program,
     machine: &mut M,
     seats: &mut Vec<Seat>,
     actor: u8,
 ) -> Result<(), AllocError>
     requires small { script.now.budget ≤ 65536 }
     requires setup { M.setup machine.old ≡ setup_of script.now }
-    requires seats { SeatsStand script.now (M.past machine.old) seats.old.items }
+    requires seats { SeatsStand script.now program.now (M.past machine.old) seats.old.items }
     requires chosen { choice script.now (M.past machine.old) ≡ Some actor }
     requires room { is_full (M.past machine.old) ≡ false }
     requires run { IsRun script.now (M.past machine.old) }
     ensures moved { OnOk result (HasMoved script.now (M.past machine.old) (M.past machine.new) actor) }
-    ensures seats { OnOk result (SeatsStand script.now (M.past machine.new) seats.new.items) }
+    ensures seats { OnOk result (SeatsStand script.now program.now (M.past machine.new) seats.new.items) }
     ensures setup { M.setup machine.new ≡ setup_of script.now }
 {
     if actor == 0 {
-        return clock_turn(script, machine, seats);
+        return clock_turn(script, program, machine, seats);
     }
-    thread_turn(script, machine, seats, actor)
+    thread_turn(script, program, machine, seats, actor)
 }
 
 /// Whether all threads have ended.
 fn have_all_ended<M: Machine>(script: &Script, machine: &M, seats: &[Seat]) -> bool
-    requires seats { SeatsStand script.now (M.past machine.now) seats.now }
+    requires seats { SeatsCount script.now (M.past machine.now) seats.now }
     ensures { result ≡ have_all_ended (setup_of script.now) (M.past machine.now) }
 {
     for seat in seats {
@@ -107,7 +111,7 @@ fn ends_stuck(history: &[Entry]) -> bool
 
 /// How the run that is over has ended.
 fn end_of<M: Machine>(script: &Script, machine: &M, seats: &[Seat]) -> End
-    requires seats { SeatsStand script.now (M.past machine.now) seats.now }
+    requires seats { SeatsCount script.now (M.past machine.now) seats.now }
     requires listed { IsListed script.now (M.past machine.now) }
     ensures { result ≡ end_of script.now (M.past machine.now) }
 {
@@ -130,11 +134,12 @@ fn run_on<M: Machine>(alloc: Global, script: &Script, machine: &mut M) -> Result
     ensures end { IfOk result (λ end. end ≡ end_of script.now (M.past machine.new)) }
     ensures setup { M.setup machine.new ≡ setup_of script.now }
 {
-    let mut seats = new_seats(alloc, script)?;
+    let program = Program::new(alloc, script)?;
+    let mut seats = new_seats(alloc, script, &program)?;
     let mut last = 0;
     let mut place = 0;
     while let Some(chosen) = choose(script, machine, &seats, last, place) {
-        turn(script, machine, &mut seats, chosen.actor)?;
+        turn(script, &program, machine, &mut seats, chosen.actor)?;
         place = chosen.place;
         if chosen.actor != 0 {
             last = chosen.actor;

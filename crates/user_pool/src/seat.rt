@@ -6,9 +6,11 @@ ghost use Rattle.user_model.specs.Places.{is_end};
 ghost use Rattle.log_text.specs.Ends.{setup_of};
 ghost use Rattle.user_pool.specs.Runs.{choice, IsRun};
 ghost use Rattle.user_pool.specs.Moves.{CanMove, HasMoved};
+ghost use Rattle.script_tree.specs.Tree.{Tree};
+ghost use Rattle.script_proc.specs.Programs.{IsProgramOf};
 ghost use Rattle.user_pool.specs.Seats.{IsSeatOf, SeatsStand};
 
-use script_proc::Worker;
+use script_proc::{Program, Worker};
 use script_tree::Script;
 use std::alloc::{AllocError, Global};
 use user_model::{Answer, Machine};
@@ -23,10 +25,10 @@ pub struct Seat {
 
 impl Seat {
     /// A thread before its first entry. `AllocError` comes only for want of memory.
-    pub fn new(alloc: Global, script: &Script, thread: u8) -> Result<Seat, AllocError>
-        ensures { IfOk result (λ seat. IsSeatOf script.now [] thread seat) }
+    pub fn new(alloc: Global, program: &Program, thread: u8) -> Result<Seat, AllocError>
+        ensures { IfOk result (λ seat. (s : Tree) → IsProgramOf s program.now → IsSeatOf s program.now [] thread seat) }
     {
-        let worker = Worker::new(alloc, script, thread)?;
+        let worker = Worker::new(alloc, program, thread)?;
         Ok(Seat {
             worker,
             ended: false,
@@ -37,22 +39,23 @@ impl Seat {
     pub fn turn<M: Machine>(
         &mut self,
         script: &Script,
+        program: &Program,
         machine: &mut M,
         actor: u8,
     ) -> Result<(), AllocError>
         requires small { script.now.budget ≤ 65536 }
         requires setup { M.setup machine.old ≡ setup_of script.now }
-        requires seat { IsSeatOf script.now (M.past machine.old) actor self.old }
+        requires seat { IsSeatOf script.now program.now (M.past machine.old) actor self.old }
         requires chosen { choice script.now (M.past machine.old) ≡ Some actor }
         requires thread { 0 < actor }
         requires can { CanMove script.now (M.past machine.old) actor }
         requires room { is_full (M.past machine.old) ≡ false }
         requires run { IsRun script.now (M.past machine.old) }
         ensures moved { OnOk result (HasMoved script.now (M.past machine.old) (M.past machine.new) actor) }
-        ensures seat { OnOk result (IsSeatOf script.now (M.past machine.new) actor self.new) }
+        ensures seat { OnOk result (IsSeatOf script.now program.now (M.past machine.new) actor self.new) }
         ensures setup { M.setup machine.new ≡ setup_of script.now }
     {
-        let Some(call) = self.worker.next_call(script)? else {
+        let Some(call) = self.worker.next_call(program)? else {
             unreachable!();
         };
         let answer = machine.step(Thread(actor), call)?;
@@ -70,13 +73,18 @@ fn ended_by(ended: bool, answer: Answer) -> bool
 }
 
 /// The threads of a script before the first entry, in order. `AllocError` comes only for want of memory.
-pub fn new_seats(alloc: Global, script: &Script) -> Result<Vec<Seat>, AllocError>
-    requires { length script.now.threads ≤ 15 }
-    ensures { IfOk result (λ seats. SeatsStand script.now [] seats.items) }
+pub fn new_seats(
+    alloc: Global,
+    script: &Script,
+    program: &Program,
+) -> Result<Vec<Seat>, AllocError>
+    requires program { IsProgramOf script.now program.now }
+    requires few { length script.now.threads ≤ 15 }
+    ensures { IfOk result (λ seats. SeatsStand script.now program.now [] seats.items) }
 {
     let mut seats = Vec::new(alloc);
     for thread in 0..script.thread_count() {
-        seats.push(Seat::new(alloc, script, thread + 1)?)?;
+        seats.push(Seat::new(alloc, program, thread + 1)?)?;
     }
     Ok(seats)
 }

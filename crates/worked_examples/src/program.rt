@@ -3,7 +3,7 @@
 ghost use Rattle.std.specs.Prelude.{◌<◌};
 
 use crate::refusing::Refusing;
-use script_proc::{Turn, Worker};
+use script_proc::{Program, Turn, Worker};
 use script_text::read;
 use std::alloc::{AllocError, Global};
 use user_app::io::{MemSink, MemSource};
@@ -129,9 +129,10 @@ pub fn turns_of_a_thread(alloc: Global) -> Result<bool, AllocError> {
         let Ok(script) = read(alloc, text) else {
             return Ok(false);
         };
-        let mut worker = Worker::new(alloc, &script, 1)?;
+        let program = Program::new(alloc, &script)?;
+        let mut worker = Worker::new(alloc, &program, 1)?;
         for turn in turns {
-            if worker.turn(&script, &mut teller)? != turn {
+            if worker.turn(&program, &mut teller)? != turn {
                 return Ok(false);
             }
         }
@@ -149,11 +150,12 @@ pub fn a_turn_without_memory_is_tried_again(alloc: Global) -> Result<bool, Alloc
     let Ok(script) = read(alloc, ONE_END) else {
         return Ok(false);
     };
-    let mut worker = Worker::new(alloc, &script, 1)?;
-    let refused = worker.turn(&script, &mut teller).is_err();
+    let program = Program::new(alloc, &script)?;
+    let mut worker = Worker::new(alloc, &program, 1)?;
+    let refused = worker.turn(&program, &mut teller).is_err();
     let before = teller.teller.machine.history().len();
-    let first = worker.turn(&script, &mut teller)?;
-    let second = worker.turn(&script, &mut teller)?;
+    let first = worker.turn(&program, &mut teller)?;
+    let second = worker.turn(&program, &mut teller)?;
     let after = teller.teller.machine.history().len();
     Ok(refused && before == 0 && first == Turn::Went && second == Turn::Ended && after == 1)
 }

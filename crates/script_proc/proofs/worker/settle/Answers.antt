@@ -1,24 +1,40 @@
-use Rattle.std.proofs.Common.{◌≡◌, false, rules, sym, ◌∙◌}
-use Rattle.script_proc.proofs.MoveLaws.{last_moves}
-use Rattle.script_proc.proofs.HereLaws.{not_done_leads}
+use Rattle.std.proofs.Common.{◌≡◌, [], ◌∷◌, ◌++◌, sym, ap, ◌∙◌}
+use Rattle.script_proc.specs.Items.{state_of, few_items}
+use Rattle.script_proc.proofs.Lasts.{last_at}
+use Rattle.script_proc.proofs.WorkerLaws.{keeps_same, keeps_all_on, last_keeps, last_fewer}
 use Rattle.script_proc.proofs.worker.settle.Goals as goal
 
-pub steps-preserved-in-Moves : goal.steps-preserved-in-Moves
-steps-preserved-in-Moves c =
-    let m = rw c.in-Moves.is at c.ahead.ensures in
-    let last = sym c.as_slice.ensures.value ∙ m.2 in
-    let new = c.here.new in
-    let l = last_moves c.args.script.now new.items.items m.0 c.replace_last.new.items.items m.1 new.variables new.mode c.args.used c.in-Moves.next last (c.in_ok-replace_last-in-Moves.ensures.ok m.0 m.1 last) m.3 in
-    let not : c.in_ok-done.done ≡ false = search rules in
-    let k = not_done_leads c.args.script.now c.args.used c.steps.items.items c.steps.variables c.steps.mode new.items.items new.variables new.mode c.in_ok-done.done _ _ not c.in_ok-done.ensures.done l in
-    record { by = λ tr e x. c.steps.invariant.by tr e (k.by tr e x) }
+pub returns-in_err-reserve-clause-kept : goal.returns-in_err-reserve-clause-kept
+returns-in_err-reserve-clause-kept c s of =
+    keeps_same c.args.program.now c.args.used s c.args.items.now.items c.steps.items.items c.reserve.new.self.items (state_of c.args.variables.now c.args.mode.now) (state_of c.steps.variables c.steps.mode) c.in_err-reserve.ensures.items (c.steps.invariant s of)
 
-pub steps-smaller-in-Moves : goal.steps-smaller-in-Moves
-steps-smaller-in-Moves c =
-    let m = rw c.in-Moves.is at c.ahead.ensures in
-    let last = sym c.as_slice.ensures.value ∙ m.2 in
-    let new = c.here.new in
-    let l = last_moves c.args.script.now new.items.items m.0 c.replace_last.new.items.items m.1 new.variables new.mode c.args.used c.in-Moves.next last (c.in_ok-replace_last-in-Moves.ensures.ok m.0 m.1 last) m.3 in
-    let not : c.in_ok-done.done ≡ false = search rules in
-    let k = not_done_leads c.args.script.now c.args.used c.steps.items.items c.steps.variables c.steps.mode new.items.items new.variables new.mode c.in_ok-done.done _ _ not c.in_ok-done.ensures.done l in
-    k.fewer
+pub returns-in_default-clause-kept : goal.returns-in_default-clause-kept
+returns-in_default-clause-kept c s of =
+    keeps_same c.args.program.now c.args.used s c.args.items.now.items c.steps.items.items c.reserve.new.self.items (state_of c.args.variables.now c.args.mode.now) (state_of c.steps.variables c.steps.mode) c.in_ok-reserve.ensures.items (c.steps.invariant s of)
+
+pub returns-in-Some-asked-clause-kept : goal.returns-in-Some-asked-clause-kept
+returns-in-Some-asked-clause-kept c s of =
+    keeps_same c.args.program.now c.args.used s c.args.items.now.items c.steps.items.items c.reserve.new.self.items (state_of c.args.variables.now c.args.mode.now) (state_of c.steps.variables c.steps.mode) c.in_ok-reserve.ensures.items (c.steps.invariant s of)
+
+pub steps-smaller : goal.steps-smaller
+steps-smaller c =
+    let h = c.in-Some.ensures.item in
+    let item = c.in-Some.item.now in
+    let at = last_at c.deref.result.now item h.3.0 in
+    let same = sym c.deref.ensures.value ∙ at.1 ∙ ap (λ x. at.0 ++ x ∷ []) (sym h.1) in
+    let few = few_items c.step-few.result in
+    let last = sym c.in_ok-reserve.ensures.items ∙ same in
+    let new = c.set_last.ensures at.0 item same in
+    last_fewer c.args.program.now c.args.used c.steps.items.items at.0 c.set_last.new.items.items item few (state_of c.steps.variables c.steps.mode) (state_of c.step-few.new.variables c.step-few.new.mode) last new c.step-few.ensures
+
+pub steps-preserved : goal.steps-preserved
+steps-preserved c s of =
+    let h = c.in-Some.ensures.item in
+    let item = c.in-Some.item.now in
+    let at = last_at c.deref.result.now item h.3.0 in
+    let same = sym c.deref.ensures.value ∙ at.1 ∙ ap (λ x. at.0 ++ x ∷ []) (sym h.1) in
+    let few = few_items c.step-few.result in
+    let last = sym c.in_ok-reserve.ensures.items ∙ same in
+    let new = c.set_last.ensures at.0 item same in
+    keeps_all_on c.args.program.now c.args.used s c.args.items.now.items c.steps.items.items c.set_last.new.items.items (state_of c.args.variables.now c.args.mode.now) (state_of c.steps.variables c.steps.mode) (state_of c.step-few.new.variables c.step-few.new.mode) (c.steps.invariant s of)
+    (last_keeps c.args.program.now c.args.used s c.steps.items.items at.0 c.set_last.new.items.items item few (state_of c.steps.variables c.steps.mode) (state_of c.step-few.new.variables c.step-few.new.mode) last new c.step-few.ensures of)

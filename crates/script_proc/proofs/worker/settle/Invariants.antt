@@ -1,10 +1,13 @@
-use Rattle.script_tree.specs.Weights.{steps_left}
-use Rattle.script_proc.specs.Items.{standing, state_of, Keeps}
+use Rattle.std.proofs.Common.{length}
+use Rattle.script_tree.specs.Tree.{Tree}
+use Rattle.script_proc.specs.Programs.{IsProgramOf}
+use Rattle.script_proc.specs.Items.{state_of, KeepsAll}
+use Rattle.script_proc.specs.Works.{work}
 use Rattle.script_proc.proofs.worker.settle.Given as goal
 
 abbrev pub invariant-steps : goal.invariant-steps
 invariant-steps l =
-    Keeps l.script (standing l.script l.initial.items.items).left (state_of l.initial.variables l.initial.mode) (standing l.script l.items.items).left (state_of l.variables l.mode) l.used
+    (s : Tree) → IsProgramOf s l.program → KeepsAll s l.program l.used l.initial.items.items (state_of l.initial.variables l.initial.mode) l.items.items (state_of l.variables l.mode)
 
 abbrev pub decreases-steps : goal.decreases-steps
-decreases-steps l = steps_left l.script l.used (standing l.script l.items.items).left (state_of l.variables l.mode)
+decreases-steps l = work (length l.program.lines.items) l.used l.items.items (state_of l.variables l.mode)

@@ -1,5 +1,12 @@
+use Rattle.user_pool.proofs.Seating.{seats_count}
 use Rattle.user_pool.proofs.NeverFull.{has_room}
 use Rattle.user_pool.proofs.run.run_on.Goals as goal
 
 pub turn-requires-clause-room : goal.turn-requires-clause-room
 turn-requires-clause-room g c = has_room c.args.script.now (g.M.Machine.past c.loop-chosen.machine) c.requires.few c.requires.small c.loop-chosen.invariant.run
+
+pub choose-requires-clause-seats : goal.choose-requires-clause-seats
+choose-requires-clause-seats g c = seats_count c.args.script.now c.loop-chosen.program (g.M.Machine.past c.loop-chosen.machine) c.loop-chosen.seats.items c.loop-chosen.invariant.seats
+
+pub end_of-requires-clause-seats : goal.end_of-requires-clause-seats
+end_of-requires-clause-seats g c = seats_count c.args.script.now c.loop-chosen.program (g.M.Machine.past c.loop-chosen.machine) c.loop-chosen.seats.items c.loop-chosen.invariant.seats

@@ -7,7 +7,7 @@ use Rattle.user_pool.proofs.run.run_on.Given as goal
 abbrev pub invariant-loop-chosen : goal.invariant-loop-chosen
 invariant-loop-chosen g l = record {
   run : IsRun l.script (g.M.Machine.past l.machine);
-  seats : SeatsStand l.script (g.M.Machine.past l.machine) l.seats.items;
+  seats : SeatsStand l.script l.program (g.M.Machine.past l.machine) l.seats.items;
   last : l.last ≡ last_thread (g.M.Machine.past l.machine);
   within : l.place ≤ length l.script.order;
   left : left l.script (g.M.Machine.past l.machine) ≡ drop l.place l.script.order;

@@ -6,5 +6,5 @@ use Rattle.user_pool.proofs.seat.new_seats.Given as goal
 abbrev pub invariant-loop-thread : goal.invariant-loop-thread
 invariant-loop-thread l = record {
   count : length l.seats.items ≡ l.thread;
-  at : (i : ℕ) (d : Seat) → i < length l.seats.items → IsSeatOf l.script [] (i + 1) (get_or l.seats.items i d);
+  at : (i : ℕ) (d : Seat) → i < length l.seats.items → IsSeatOf l.script l.program [] (i + 1) (get_or l.seats.items i d);
 }

@@ -1,11 +1,19 @@
-use Rattle.script_proc.specs.Items.{standing, state_of}
-use Rattle.script_proc.proofs.WorkerLaws.{kept_completes, ready_ends}
+use Rattle.script_proc.proofs.Workings.{next_ends}
 use Rattle.script_proc.proofs.worker.Worker.next_call.Goals as goal
 
-pub returns-clause-next : goal.returns-clause-next
-returns-clause-next c t tr h =
+pub returns-clause-worker : goal.returns-clause-worker
+returns-clause-worker c s t tr h =
     let w = c.args.self.now in
-    let s = c.args.script.now in
     let new = c.settle.new in
-    let k = kept_completes s t tr (standing s w.items.items).left (standing s new.items.items).left (state_of w.variables w.mode) (state_of new.variables new.mode) w.used h.by c.settle.ensures.kept in
-    ready_ends s t tr new.items.items new.variables new.mode w.used c.in_ok-next.next k c.in_ok-next.ensures.ready
+    let k = c.settle.ensures.kept s h.program h.left h.stands in
+    record {
+      program = h.program;
+      left = k.0;
+      stands = k.1;
+      by = λ more e m. h.by more e (k.2.by more e m);
+      counts = h.counts;
+      thread = h.thread;
+    }
+
+pub returns-clause-next : goal.returns-clause-next
+returns-clause-next c = next_ends c.args.program.now c.args.self.now c.settle.new.items.items c.settle.new.variables c.settle.new.mode c.settle.result c.settle.ensures.kept c.settle.ensures.ready

@@ -1,21 +1,23 @@
 use Rattle.std.proofs.Common.{[], ◌∷◌, ◌++◌, sym, subst, add-one, arith, length-append}
-use Rattle.script_proc.specs.Items.{standing, state_of}
-use Rattle.script_proc.proofs.MoveLaws.{last_enters}
-use Rattle.script_proc.proofs.WorkerLaws.{Completes, entered_completes}
+use Rattle.script_proc.specs.Items.{state_of, few_items}
+use Rattle.script_proc.proofs.WorkerLaws.{Completes, entered}
 use Rattle.script_proc.proofs.worker.Worker.take.Goals as goal
 
 pub returns-clause-worker : goal.returns-clause-worker
-returns-clause-worker c s t tr h =
+returns-clause-worker c s p t past h =
     let w = c.args.self.now in
     let call = c.args.call in
     let a = c.args.answer in
-    let m = c.follow-next.result in
+    let v = c.follow-few.new.variables in
+    let mode = c.follow-few.new.mode in
     let r = c.requires.at.ready in
     let new = c.set_last.new.items.items in
-    let k = last_enters s w.items.items r.0 new r.1 w.variables w.mode w.used m call a r.2 r.3 (c.set_last.ensures r.0 r.1 r.2) (c.follow-next.ensures s (standing s r.0).around) in
-    let left = entered_completes s t tr (standing s w.items.items).left (standing s new).left (state_of w.variables w.mode) (state_of m.variables m.mode) w.used call a h.by k in
+    let e = entered p s t past w.items.items new (few_items c.follow-few.result) h.left w.variables v w.mode mode w.used call a r (c.set_last.ensures r.0 r.1 r.2) c.follow-few.ensures.placeless c.follow-few.ensures.pieces c.follow-few.ensures.state h.stands h.by in
     record {
-      by = subst (λ n. Completes s t (tr ++ (call, a) ∷ []) (standing s new).left (state_of m.variables m.mode) n) (sym (add-one w.used)) left;
-      counts = omega (arith, h.counts, length-append tr ((call, a) ∷ []));
+      program = h.program;
+      left = e.0;
+      stands = e.1;
+      by = subst (λ n. Completes p s t (past ++ (call, a) ∷ []) e.0 (state_of v mode) n) (sym (add-one w.used)) e.2;
+      counts = omega (arith, h.counts, length-append past ((call, a) ∷ []));
       thread = h.thread;
     }

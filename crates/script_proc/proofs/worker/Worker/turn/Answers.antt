@@ -1,7 +1,9 @@
 use Rattle.std.proofs.Common.{◌≡◌, ◌<◌, OnErr, sym, subst, arith}
 use Rattle.user_model.specs.Tellers.{GoesOn}
+use Rattle.script_tree.specs.Tree.{Tree}
 use Rattle.script_tree.specs.Pieces.{Cut, Whole}
 use Rattle.script_tree.specs.Traces.{IsTrace}
+use Rattle.script_proc.specs.Programs.{IsProgramOf}
 use Rattle.script_proc.specs.Workers.{uses, end_of}
 use Rattle.script_proc.specs.Turns.{Asked, IsCut, Stays}
 use Rattle.script_proc.proofs.WorkerLaws.{if_ok}
@@ -9,16 +11,13 @@ use Rattle.script_proc.proofs.TurnLaws.{goes_on_itself, not_both, if_any, on_err
 use Rattle.script_proc.proofs.worker.Worker.turn.Goals as goal
 
 pub returns-in_default-clause-did : goal.returns-in_default-clause-did
-returns-in_default-clause-did g c =
-    let s = c.args.script.now in
-    let whole : IsCut s c.args.self.now Whole = λ t tr w. subst (λ o. IsTrace s t tr (end_of o)) c.in_default.is (c.in_ok-call.ensures.next t tr w) in
-    record { whole = whole; stays = record { worker = c.next_call.ensures.worker; used = c.next_call.ensures.used } }
+returns-in_default-clause-did g c s of =
+    let whole : IsCut s c.args.program.now c.args.self.now Whole = λ t tr w. subst (λ o. IsTrace s t tr (end_of o)) c.in_default.is (c.in_ok-call.ensures.next s t tr w) in
+    record { whole = whole; stays = record { worker = c.next_call.ensures.worker s; used = c.next_call.ensures.used } }
 
 pub returns-in_default-clause-spent : goal.returns-in_default-clause-spent
-returns-in_default-clause-spent g c =
-    let s = c.args.script.now in
-    let whole : IsCut s c.args.self.now Whole = λ t tr w. subst (λ o. IsTrace s t tr (end_of o)) c.in_default.is (c.in_ok-call.ensures.next t tr w) in
-    λ t tr call w cut full. absurd (not_both s t tr call (whole t tr w) cut)
+returns-in_default-clause-spent g c s t tr call w next full =
+    absurd (not_both s t tr call (subst (λ o. IsTrace s t tr (end_of o)) c.in_default.is (c.in_ok-call.ensures.next s t tr w)) next)
 
 pub returns-in_default-clause-goes_on : goal.returns-in_default-clause-goes_on
 returns-in_default-clause-goes_on g c = goes_on_itself _ _ _
@@ -27,16 +26,13 @@ pub returns-in_default-clause-still : goal.returns-in_default-clause-still
 returns-in_default-clause-still g c = g.met.T.Teller.still_itself c.args.teller.now
 
 pub returns-then-spent-clause-did : goal.returns-then-spent-clause-did
-returns-then-spent-clause-did g c =
-    let s = c.args.script.now in
-    let next : IsCut s c.args.self.now (Cut c.in-Some.call) = λ t tr w. subst (λ o. IsTrace s t tr (end_of o)) c.in-Some.is (c.in_ok-call.ensures.next t tr w) in
-    record { call = c.in-Some.call; next = next; spent = omega (arith, c.if-spent.true, c.budget.ensures, c.used.ensures.used, c.next_call.ensures.used); stays = record { worker = c.next_call.ensures.worker; used = c.next_call.ensures.used } }
+returns-then-spent-clause-did g c s of =
+    let next : IsCut s c.args.program.now c.args.self.now (Cut c.in-Some.call) = λ t tr w. subst (λ o. IsTrace s t tr (end_of o)) c.in-Some.is (c.in_ok-call.ensures.next s t tr w) in
+    record { call = c.in-Some.call; next = next; spent = omega (arith, c.if-spent.true, c.budget.ensures, of.budget, c.used.ensures.used, c.next_call.ensures.used); stays = record { worker = c.next_call.ensures.worker s; used = c.next_call.ensures.used } }
 
 pub returns-then-spent-clause-ended : goal.returns-then-spent-clause-ended
-returns-then-spent-clause-ended g c =
-    let s = c.args.script.now in
-    let next : IsCut s c.args.self.now (Cut c.in-Some.call) = λ t tr w. subst (λ o. IsTrace s t tr (end_of o)) c.in-Some.is (c.in_ok-call.ensures.next t tr w) in
-    λ t tr w whole. absurd (not_both s t tr c.in-Some.call whole (next t tr w))
+returns-then-spent-clause-ended g c s t tr w whole =
+    absurd (not_both s t tr c.in-Some.call whole (subst (λ o. IsTrace s t tr (end_of o)) c.in-Some.is (c.in_ok-call.ensures.next s t tr w)))
 
 pub returns-then-spent-clause-goes_on : goal.returns-then-spent-clause-goes_on
 returns-then-spent-clause-goes_on g c = goes_on_itself _ _ _
@@ -46,34 +42,31 @@ returns-then-spent-clause-still g c = g.met.T.Teller.still_itself c.args.teller.
 
 pub returns-clause-did : goal.returns-clause-did
 returns-clause-did g c =
-    let s = c.args.script.now in
-    let next : IsCut s c.args.self.now (Cut c.in-Some.call) = λ t tr w. subst (λ o. IsTrace s t tr (end_of o)) c.in-Some.is (c.in_ok-call.ensures.next t tr w) in
-    let stays : Stays s c.args.self.now c.next_call.new.self = record { worker = c.next_call.ensures.worker; used = c.next_call.ensures.used } in
-    let left : uses c.args.self.now < s.budget = omega (arith, c.if-spent.false, c.budget.ensures, c.used.ensures.used, c.next_call.ensures.used) in
-    if_ok (Asked c.next_call.new.self c.ask.new.worker (g.T.Teller.view c.args.teller.now) (g.T.Teller.view c.ask.new.teller) c.in-Some.call) _ c.ask.result (asked_did s c.args.self.now c.next_call.new.self c.ask.new.worker (g.T.Teller.view c.args.teller.now) (g.T.Teller.view c.ask.new.teller) c.in-Some.call (record { next = next; left = left }) stays c.next_call.ensures.thread) c.ask.ensures.asked
+    let p = c.args.program.now in
+    let stays : (s : Tree) → Stays s p c.args.self.now c.next_call.new.self = λ s. record { worker = c.next_call.ensures.worker s; used = c.next_call.ensures.used } in
+    let next : (s : Tree) → IsCut s p c.args.self.now (Cut c.in-Some.call) = λ s t tr w. subst (λ o. IsTrace s t tr (end_of o)) c.in-Some.is (c.in_ok-call.ensures.next s t tr w) in
+    let left : (s : Tree) → IsProgramOf s p → uses c.args.self.now < s.budget = λ s of. omega (arith, c.if-spent.false, c.budget.ensures, of.budget, c.used.ensures.used, c.next_call.ensures.used) in
+    if_ok (Asked c.next_call.new.self c.ask.new.worker (g.T.Teller.view c.args.teller.now) (g.T.Teller.view c.ask.new.teller) c.in-Some.call) _ c.ask.result
+    (λ turn asked s of. asked_did s p c.args.self.now c.next_call.new.self c.ask.new.worker (g.T.Teller.view c.args.teller.now) (g.T.Teller.view c.ask.new.teller) c.in-Some.call (record { next = next s; left = left s of }) (stays s) c.next_call.ensures.thread turn asked)
+    c.ask.ensures.asked
 
 pub returns-clause-ended : goal.returns-clause-ended
 returns-clause-ended g c =
-    let s = c.args.script.now in
-    let next : IsCut s c.args.self.now (Cut c.in-Some.call) = λ t tr w. subst (λ o. IsTrace s t tr (end_of o)) c.in-Some.is (c.in_ok-call.ensures.next t tr w) in
-    if_any _ c.ask.result (λ turn t tr w whole. absurd (not_both s t tr c.in-Some.call whole (next t tr w)))
+    if_any _ c.ask.result (λ turn s t tr w whole. absurd (not_both s t tr c.in-Some.call whole (subst (λ o. IsTrace s t tr (end_of o)) c.in-Some.is (c.in_ok-call.ensures.next s t tr w))))
 
 pub returns-clause-spent : goal.returns-clause-spent
 returns-clause-spent g c =
-    let s = c.args.script.now in
-    let left : uses c.args.self.now < s.budget = omega (arith, c.if-spent.false, c.budget.ensures, c.used.ensures.used, c.next_call.ensures.used) in
-    if_any _ c.ask.result (λ turn t tr call w cut full. absurd (omega (arith, left, full)))
+    if_any _ c.ask.result (λ turn s t tr call w next full. absurd (omega (arith, full, c.if-spent.false, c.budget.ensures, w.program.budget, c.used.ensures.used, c.next_call.ensures.used)))
 
 pub returns-clause-untouched : goal.returns-clause-untouched
 returns-clause-untouched g c =
-    let s = c.args.script.now in
-    if_ok (Asked c.next_call.new.self c.ask.new.worker (g.T.Teller.view c.args.teller.now) (g.T.Teller.view c.ask.new.teller) c.in-Some.call) _ c.ask.result (λ turn h nobody. absurd (asks_somebody s c.args.self.now c.next_call.new.self c.ask.new.worker (g.T.Teller.view c.args.teller.now) (g.T.Teller.view c.ask.new.teller) c.in-Some.call turn h nobody)) c.ask.ensures.asked
+    if_ok (Asked c.next_call.new.self c.ask.new.worker (g.T.Teller.view c.args.teller.now) (g.T.Teller.view c.ask.new.teller) c.in-Some.call) _ c.ask.result (λ turn h nobody. absurd (asks_somebody c.next_call.new.self c.ask.new.worker (g.T.Teller.view c.args.teller.now) (g.T.Teller.view c.ask.new.teller) c.in-Some.call turn h nobody)) c.ask.ensures.asked
 
 pub returns-clause-no_memory : goal.returns-clause-no_memory
 returns-clause-no_memory g c =
-    let s = c.args.script.now in
-    let stays : Stays s c.args.self.now c.next_call.new.self = record { worker = c.next_call.ensures.worker; used = c.next_call.ensures.used } in
-    on_err (c.ask.new.worker ≡ c.next_call.new.self) _ c.ask.result (λ e. subst (λ w. Stays s c.args.self.now w) (sym e) stays) c.ask.ensures.no_memory
+    let p = c.args.program.now in
+    let stays : (s : Tree) → Stays s p c.args.self.now c.next_call.new.self = λ s. record { worker = c.next_call.ensures.worker s; used = c.next_call.ensures.used } in
+    on_err (c.ask.new.worker ≡ c.next_call.new.self) _ c.ask.result (λ e s. subst (λ w. Stays s p c.args.self.now w) (sym e) (stays s)) c.ask.ensures.no_memory
 
 pub returns-clause-no_entry : goal.returns-clause-no_entry
 returns-clause-no_entry g c =

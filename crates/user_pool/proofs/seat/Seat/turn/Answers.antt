@@ -13,14 +13,14 @@ unreachable-requires g c =
     let past = g.M.Machine.past c.args.machine.now in
     let t = c.args.actor in
     not_whole s past t c.requires.run c.requires.thread (not_ended s past t c.requires.can)
-    (subst (λ o. IsTrace s t (trace_of past t) (end_of o)) c.in_default.is (c.in_ok-call.ensures.next t (trace_of past t) c.requires.seat.worker))
+    (subst (λ o. IsTrace s t (trace_of past t) (end_of o)) c.in_default.is (c.in_ok-call.ensures.next s t (trace_of past t) c.requires.seat.worker))
 
 pub returns-clause-moved : goal.returns-clause-moved
 returns-clause-moved g c =
     let s = c.args.script.now in
     let past = g.M.Machine.past c.args.machine.now in
     let t = c.args.actor in
-    let next : ComesNext s past t c.in-Some.call = comes_next s past t c.in-Some.call c.requires.thread (subst (λ o. IsTrace s t (trace_of past t) (end_of o)) c.in-Some.is (c.in_ok-call.ensures.next t (trace_of past t) c.requires.seat.worker)) in
+    let next : ComesNext s past t c.in-Some.call = comes_next s past t c.in-Some.call c.requires.thread (subst (λ o. IsTrace s t (trace_of past t) (end_of o)) c.in-Some.is (c.in_ok-call.ensures.next s t (trace_of past t) c.requires.seat.worker)) in
     has_moved s past (g.M.Machine.past c.step.new.self) t c.in-Some.call (g.M.Machine.setup c.args.machine.now) c.requires.setup c.requires.chosen next c.requires.room c.in_ok-answer.ensures.entry
 
 pub returns-clause-seat : goal.returns-clause-seat
@@ -28,5 +28,5 @@ returns-clause-seat g c =
     let s = c.args.script.now in
     let past = g.M.Machine.past c.args.machine.now in
     let t = c.args.actor in
-    seat_own s past (g.M.Machine.past c.step.new.self) t c.in-Some.call (g.M.Machine.setup c.args.machine.now) c.in_ok-answer.answer _ c.args.self.now.ended c.requires.setup c.requires.room c.in_ok-answer.ensures.entry c.in_ok-answer.ensures.answer
-    (c.take.ensures.worker s t (trace_of past t) (c.next_call.ensures.worker t (trace_of past t) c.requires.seat.worker)) c.requires.seat.ended c.ended_by-self.ensures
+    seat_own s c.args.program.now past (g.M.Machine.past c.step.new.self) t c.in-Some.call (g.M.Machine.setup c.args.machine.now) c.in_ok-answer.answer _ c.args.self.now.ended c.requires.setup c.requires.room c.in_ok-answer.ensures.entry c.in_ok-answer.ensures.answer
+    (c.take.ensures.worker s c.args.program.now t (trace_of past t) (c.next_call.ensures.worker s t (trace_of past t) c.requires.seat.worker)) c.requires.seat.ended c.ended_by-self.ensures
