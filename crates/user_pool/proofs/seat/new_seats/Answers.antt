@@ -1,5 +1,4 @@
-use Rattle.std.proofs.Common.{ℕ, ◌+◌, ◌<◌, [], ◌∷◌, length, get_or, sym, ap, ◌∙◌, subst, length-append}
-use Rattle.user_pool.specs.declared.seat.Seat.{Seat}
+use Rattle.std.proofs.Common.{◌+◌, ◌<◌, [], ◌∷◌, length, get_or, sym, ap, ◌∙◌, subst, length-append}
 use Rattle.user_pool.specs.Seats.{IsSeatOf}
 use Rattle.user_pool.proofs.Seating.{each_pushed}
 use Rattle.user_pool.proofs.seat.new_seats.Goals as goal
