@@ -1,5 +1,5 @@
 -- What items do, one by one.
-use Rattle.std.proofs.Common.{◌≡◌, ℕ, zero, suc, ◌+◌, ◌-◌, ◌*◌, ◌<◌, ◌≤◌, min, ◌==◌, Bool, true, false, List, [], ◌∷◌, ◌++◌, length, drop, Some, None, refl, sym, ap, ◌∙◌, subst, arith, append_assoc, append-nil, eq-eqb, fold, inl, inr}
+use Rattle.std.proofs.Common.{◌≡◌, ℕ, zero, suc, ◌+◌, ◌-◌, ◌*◌, ◌<◌, ◌≤◌, min, ◌==◌, Bool, true, false, List, [], ◌∷◌, ◌++◌, length, drop, Some, None, refl, sym, ap, ◌∙◌, subst, arith, append_assoc, eq-eqb, fold, inl, inr}
 use Rattle.std.specs.Prelude.{◌⊎◌, slice_get, if◌then◌else◌, unwrap_or, max}
 use Rattle.user_model.specs.declared.call.Call.TheVariants.{Yield}
 use Rattle.script_tree.specs.declared.operand.Test.{Test}
@@ -9,7 +9,7 @@ use Rattle.script_tree.specs.declared.variables.Variables.{Variables}
 use Rattle.script_tree.specs.declared.frame.Run.{Run}
 use Rattle.script_tree.specs.Tree.{Tree, procedure_of}
 use Rattle.script_tree.specs.Values.{holds, inside_of}
-use Rattle.script_tree.specs.Pieces.{Piece, Lines, One, PassEnd, Making, Quiet, Running as RunningPiece, Leaving as LeavingPiece, Restore as RestorePiece, State, Going, Returning, Given, Step, Becomes}
+use Rattle.script_tree.specs.Pieces.{Piece, Lines, One, PassEnd, Making, Quiet, Running as RunningPiece, Leaving as LeavingPiece, Restore as RestorePiece, State, Going, Returning, Given, Becomes}
 use Rattle.script_tree.specs.Steps.{step, passes, statement}
 use Rattle.script_tree.specs.Weights.{weight, lines_weight, costs, steps_left}
 use Rattle.script_tree.proofs.Falls.{falls}
@@ -22,10 +22,10 @@ use Rattle.script_proc.specs.declared.item.Mode.{Mode}
 use Rattle.script_proc.specs.declared.item.Mode.TheVariants.{Going as GoingMode, Returning as ReturningMode, Given as GivenMode}
 use Rattle.script_proc.specs.declared.item.Few.{Few}
 use Rattle.script_proc.specs.declared.item.Few.TheVariants.{Single, Two}
-use Rattle.script_proc.specs.Programs.{Says, Stands, lines_at, IsProgramOf}
+use Rattle.script_proc.specs.Programs.{Says, Stands, lines_at}
 use Rattle.script_proc.specs.Items.{few_items, piece, Covers, AllCover, IsLoop, loops, above, state_of, Keeps, IsPlain, ArePlain, IsPlaceless, ArePlaceless}
 use Rattle.script_proc.specs.Works.{statements, no_tree, as_long, all_long, Moves}
-use Rattle.script_proc.proofs.StandLaws.{drop_here, drop_past, within, drop_behind, IsSimple, says, said_weight, nothing_stands, are_lines, keeps_on, keeps_itself, by_step, lines_pass, alone_goes, else_goes, end_goes, then_goes, otherwise_goes, IsWhile, is_while, while_comes}
+use Rattle.script_proc.proofs.StandLaws.{drop_here, drop_past, within, drop_behind, IsSimple, says, said_weight, nothing_stands, are_lines, keeps_on, by_step, lines_pass, alone_goes, else_goes, end_goes, then_goes, otherwise_goes, IsWhile, is_while, while_comes}
 
 -- items without a place stand for their pieces
 piece_covers : (p : Program) (item : Item) → IsPlaceless item → Covers p item (piece item ∷ [])
@@ -149,10 +149,12 @@ module _ (p : Program) (n : ℕ) where
   simple_moves at line few all v st h i f is e = subst (λ xs. Moves p n (At at) (Going v) xs st) (sym is) (record {
     keeps = λ s of qs left c.
         let r = alone_goes s n left v i (here at line qs h c) in
-        let rs = r.2.0 in
-        (above few ++ rs, (above few, rs, refl, r.2.1, plain_cover p few (are_placeless few f)),
-        subst (λ ps. Keeps s (qs ++ left) (Going v) ps st n) (sym (append_assoc (above few) rs left))
-        (keeps_on s n _ _ _ _ _ _ r.2.2 (by_step s n (One r.0) (rs ++ left) (Going v) (above few) st (sym (e r.0 n r.1)))));
+        let rs = r.2.0 in (
+          above few ++ rs,
+          (above few, rs, refl, r.2.1, plain_cover p few (are_placeless few f)),
+          subst (λ ps. Keeps s (qs ++ left) (Going v) ps st n) (sym (append_assoc (above few) rs left))
+              (keeps_on s n _ _ _ _ _ _ r.2.2 (by_step s n (One r.0) (rs ++ left) (Going v) (above few) st (sym (e r.0 n r.1)))),
+        );
     fewer = λ left.
         let line' = says line i in
         simple_falls (length p.lines.items) n line'.0 at few left v st (said_weight line line'.0 line'.1) (within p.lines.items at line h) f (e line'.0 n line'.1);
@@ -202,13 +204,16 @@ module _ (p : Program) (n : ℕ) where
   while_few at b next = if b then PassEndItem at n ∷ At (at + 1) ∷ [] else At next ∷ []
 
   looped : {line : Statement} {rs : List Piece} (s : Tree) (at : ℕ) (t : Test) (passed : ℕ) (left : List Piece) (v : Variables) (b : Bool) (most next : ℕ) → holds t v ≡ b → slice_get p.lines.items at ≡ Some (While t passed) → length p.lines.items ≤ most → next ≡ min (at + 1 + passed) most → IsWhile t passed (lines_at p (at + 1)) line rs → (qs : List Piece) × AllCover p (while_few at b next) qs × Keeps s (One line ∷ rs ++ left) (Going v) (qs ++ left) (Going v) n
-  looped s at t passed left v true most next y h short is (is_while {k = k} {a = a} {left = rs} f g) =
-      (Lines (items-the_row-Statement _ a) ∷ PassEnd (tree.While' t k a) n ∷ rs,
-      (Lines (items-the_row-Statement _ a) ∷ [], PassEnd (tree.While' t k a) n ∷ rs, refl, (tree.While' t k a, rs, refl, loops h f g), at_covers (at + 1) _ f),
-      by_step s n (One (tree.While' t k a)) (rs ++ left) (Going v) (Lines (items-the_row-Statement _ a) ∷ PassEnd (tree.While' t k a) n ∷ []) (Going v) (ap (λ z. if z then Becomes (Lines (items-the_row-Statement _ a) ∷ PassEnd (tree.While' t k a) n ∷ []) (Going v) else passes (Going v)) y))
-  looped s at t passed left v false most next y h short is (is_while {k = k} {a = a} {left = rs} f g) =
-      (rs, at_covers next rs (behind at passed most next rs short is g),
-      by_step s n (One (tree.While' t k a)) (rs ++ left) (Going v) [] (Going v) (ap (λ z. if z then Becomes (Lines (items-the_row-Statement _ a) ∷ PassEnd (tree.While' t k a) n ∷ []) (Going v) else passes (Going v)) y))
+  looped s at t passed left v true most next y h short is (is_while {k = k} {a = a} {left = rs} f g) = (
+    Lines (items-the_row-Statement _ a) ∷ PassEnd (tree.While' t k a) n ∷ rs,
+    (Lines (items-the_row-Statement _ a) ∷ [], PassEnd (tree.While' t k a) n ∷ rs, refl, (tree.While' t k a, rs, refl, loops h f g), at_covers (at + 1) _ f),
+    by_step s n (One (tree.While' t k a)) (rs ++ left) (Going v) (Lines (items-the_row-Statement _ a) ∷ PassEnd (tree.While' t k a) n ∷ []) (Going v) (ap (λ z. if z then Becomes (Lines (items-the_row-Statement _ a) ∷ PassEnd (tree.While' t k a) n ∷ []) (Going v) else passes (Going v)) y),
+  )
+  looped s at t passed left v false most next y h short is (is_while {k = k} {a = a} {left = rs} f g) = (
+    rs,
+    at_covers next rs (behind at passed most next rs short is g),
+    by_step s n (One (tree.While' t k a)) (rs ++ left) (Going v) [] (Going v) (ap (λ z. if z then Becomes (Lines (items-the_row-Statement _ a) ∷ PassEnd (tree.While' t k a) n ∷ []) (Going v) else passes (Going v)) y),
+  )
 
   while_fewer : (at : ℕ) (b : Bool) (most next passed : ℕ) (left : List Piece) (v : Variables) → at < length p.lines.items → length p.lines.items ≤ most → next ≡ min (at + 1 + passed) most → steps_left no_tree n (all_long (length p.lines.items) n (while_few at b next) ++ left) (Going v) < steps_left no_tree n (Lines (statements (length p.lines.items - at)) ∷ left) (Going v)
   while_fewer at true most next passed left v l short is = while_falls (length p.lines.items) n at left v l
@@ -254,10 +259,12 @@ module _ (p : Program) (n : ℕ) where
   -- the end of a pass with an entry in it
   pub pass_moves : (at began : ℕ) (v : Variables) → (n == began) ≡ false → Moves p n (PassEndItem at began) (Going v) (Once at ∷ []) (Going v)
   pass_moves at began v y = record {
-    keeps = λ s of qs left c.
-        (One c.0 ∷ c.1, ([], One c.0 ∷ c.1, refl, (c.0, c.1, refl, c.3), refl),
-        subst (λ ps. Keeps s (ps ++ left) (Going v) (One c.0 ∷ c.1 ++ left) (Going v) n) (sym c.2)
-        (by_step s n (PassEnd c.0 began) (c.1 ++ left) (Going v) (One c.0 ∷ []) (Going v) (ap (λ z. if z then Becomes (Making Yield ∷ Quiet ∷ One c.0 ∷ []) (Going v) else Becomes (One c.0 ∷ []) (Going v)) y)));
+    keeps = λ s of qs left c. (
+      One c.0 ∷ c.1,
+      ([], One c.0 ∷ c.1, refl, (c.0, c.1, refl, c.3), refl),
+      subst (λ ps. Keeps s (ps ++ left) (Going v) (One c.0 ∷ c.1 ++ left) (Going v) n) (sym c.2)
+          (by_step s n (PassEnd c.0 began) (c.1 ++ left) (Going v) (One c.0 ∷ []) (Going v) (ap (λ z. if z then Becomes (Making Yield ∷ Quiet ∷ One c.0 ∷ []) (Going v) else Becomes (One c.0 ∷ []) (Going v)) y)),
+    );
     fewer = λ left.
         let size = length p.lines.items in
         subst (λ b. steps_left no_tree n (Lines (statements (size - at)) ∷ left) (Going v) < steps_left no_tree n ((if b then PassEnd tree.Default began else Lines (statements (size - at + 1))) ∷ left) (Going v)) (sym y)
@@ -271,10 +278,12 @@ module _ (p : Program) (n : ℕ) where
   -- and without one
   pub yield_moves : (at began : ℕ) (v : Variables) → (n == began) ≡ true → Moves p n (PassEndItem at began) (Going v) (Once at ∷ QuietItem ∷ MakingItem Yield ∷ []) (Going v)
   yield_moves at began v y = record {
-    keeps = λ s of qs left c.
-        (Making Yield ∷ Quiet ∷ One c.0 ∷ c.1, (Making Yield ∷ Quiet ∷ [], One c.0 ∷ c.1, refl, (c.0, c.1, refl, c.3), plain_cover p (QuietItem ∷ MakingItem Yield ∷ []) (tt, (tt, tt))),
-        subst (λ ps. Keeps s (ps ++ left) (Going v) (Making Yield ∷ Quiet ∷ One c.0 ∷ c.1 ++ left) (Going v) n) (sym c.2)
-        (by_step s n (PassEnd c.0 began) (c.1 ++ left) (Going v) (Making Yield ∷ Quiet ∷ One c.0 ∷ []) (Going v) (ap (λ z. if z then Becomes (Making Yield ∷ Quiet ∷ One c.0 ∷ []) (Going v) else Becomes (One c.0 ∷ []) (Going v)) y)));
+    keeps = λ s of qs left c. (
+      Making Yield ∷ Quiet ∷ One c.0 ∷ c.1,
+      (Making Yield ∷ Quiet ∷ [], One c.0 ∷ c.1, refl, (c.0, c.1, refl, c.3), plain_cover p (QuietItem ∷ MakingItem Yield ∷ []) (tt, (tt, tt))),
+      subst (λ ps. Keeps s (ps ++ left) (Going v) (Making Yield ∷ Quiet ∷ One c.0 ∷ c.1 ++ left) (Going v) n) (sym c.2)
+          (by_step s n (PassEnd c.0 began) (c.1 ++ left) (Going v) (Making Yield ∷ Quiet ∷ One c.0 ∷ []) (Going v) (ap (λ z. if z then Becomes (Making Yield ∷ Quiet ∷ One c.0 ∷ []) (Going v) else Becomes (One c.0 ∷ []) (Going v)) y)),
+    );
     fewer = λ left. yield_falls at began left (n == began) y refl;
   }
 
@@ -282,11 +291,12 @@ module _ (p : Program) (n : ℕ) where
   pub running_moves : (run : Run) (at : ℕ) (v : Variables) → at ≡ unwrap_or (slice_get p.procedures.items run.procedure) 0 → Moves p n (Running run) (Going v) (Restore v.parameters ∷ Leaving run ∷ At at ∷ []) (Going (inside_of v run.parameters))
   running_moves run at v e = record {
     keeps = λ s of qs left c.
-        let body = Lines (procedure_of s run.procedure) in
-        (body ∷ LeavingPiece run ∷ RestorePiece v.parameters ∷ [],
-        (body ∷ LeavingPiece run ∷ [], RestorePiece v.parameters ∷ [], refl, refl, (body ∷ [], LeavingPiece run ∷ [], refl, refl, at_covers at (body ∷ []) (subst (λ k. Stands (lines_at p k) (body ∷ [])) (sym e) (of.procedures run.procedure)))),
-        subst (λ ps. Keeps s (ps ++ left) (Going v) (body ∷ LeavingPiece run ∷ RestorePiece v.parameters ∷ left) (Going (inside_of v run.parameters)) n) (sym c)
-        (by_step s n (RunningPiece run) left (Going v) (body ∷ LeavingPiece run ∷ RestorePiece v.parameters ∷ []) (Going (inside_of v run.parameters)) refl));
+        let body = Lines (procedure_of s run.procedure) in (
+          body ∷ LeavingPiece run ∷ RestorePiece v.parameters ∷ [],
+          (body ∷ LeavingPiece run ∷ [], RestorePiece v.parameters ∷ [], refl, refl, (body ∷ [], LeavingPiece run ∷ [], refl, refl, at_covers at (body ∷ []) (subst (λ k. Stands (lines_at p k) (body ∷ [])) (sym e) (of.procedures run.procedure)))),
+          subst (λ ps. Keeps s (ps ++ left) (Going v) (body ∷ LeavingPiece run ∷ RestorePiece v.parameters ∷ left) (Going (inside_of v run.parameters)) n) (sym c)
+              (by_step s n (RunningPiece run) left (Going v) (body ∷ LeavingPiece run ∷ RestorePiece v.parameters ∷ []) (Going (inside_of v run.parameters)) refl),
+        );
     fewer = λ left. let size = length p.lines.items in omega (arith, weighs (size - at), weighs (size + 2));
   }
 

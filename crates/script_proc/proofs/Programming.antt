@@ -1,11 +1,11 @@
 -- Statements put behind lines.
-use Rattle.std.proofs.Common.{◌≡◌, ℕ, zero, suc, ◌+◌, ◌-◌, ◌<◌, List, [], ◌∷◌, ◌++◌, length, drop, Some, None, refl, sym, ap, ◌∙◌, subst, arith, append_assoc, append-nil, length-append, drop_at, take, get_or}
+use Rattle.std.proofs.Common.{◌≡◌, ℕ, zero, suc, ◌+◌, ◌-◌, ◌<◌, List, [], ◌∷◌, ◌++◌, length, drop, refl, sym, ap, ◌∙◌, subst, arith, append_assoc, append-nil, length-append, drop_at, take, get_or}
 use Rattle.std.proofs.lemmas.List.{take_more}
-use Rattle.std.specs.Prelude.{slice_get, slice_set, slice_index_or, unwrap_or, ◌≤◌}
+use Rattle.std.specs.Prelude.{slice_get, slice_set, slice_index_or, unwrap_or}
 use Rattle.script_tree.specs.declared.operand.Test.{Test}
 use Rattle.script_tree.specs.declared.statement.Statement.{Statement, items-the_row-Statement}
 use Rattle.script_tree.specs.declared.statement.Statement.TheVariants as tree
-use Rattle.script_tree.specs.Tree.{Tree, ProcedureTree, body_of, procedure_of, statements_of}
+use Rattle.script_tree.specs.Tree.{Tree, ProcedureTree, statements_of}
 use Rattle.script_tree.specs.Pieces.{Piece, Lines}
 use Rattle.script_proc.specs.declared.program.Line.{Line}
 use Rattle.script_proc.specs.declared.program.Line.TheVariants.{If, Else, While, End}
@@ -56,8 +56,8 @@ codes_branches t k a j b one two first second e f h g = record {
       let leads : Stands (Else second ∷ (two ++ rest)) (Lines [] ∷ Lines more ∷ left) = over_else (subst (λ ls. Stands ls (Lines more ∷ left)) (sym (ap (λ i. drop i (two ++ rest)) f ∙ past two rest)) x) in
       let all : (one ++ Else second ∷ two) ++ rest ≡ one ++ (Else second ∷ (two ++ rest)) = append_assoc one (Else second ∷ two) rest in
       let behind : drop first ((one ++ Else second ∷ two) ++ rest) ≡ two ++ rest =
-          ap (λ ls. drop first ls) (all ∙ sym (append_assoc one (Else second ∷ []) (two ++ rest)))
-          ∙ drop_at (one ++ Else second ∷ []) (two ++ rest) first (length-append one (Else second ∷ []) ∙ sym e) in
+      ap (λ ls. drop first ls) (all ∙ sym (append_assoc one (Else second ∷ []) (two ++ rest)))
+      ∙ drop_at (one ++ Else second ∷ []) (two ++ rest) first (length-append one (Else second ∷ []) ∙ sym e) in
       branches
       (subst (λ ls. Stands ls (Lines (items-the_row-Statement _ a) ∷ Lines more ∷ left)) (sym all)
       (subst (λ xs. Stands (one ++ (Else second ∷ (two ++ rest))) (Lines xs ∷ Lines more ∷ left)) (append-nil (items-the_row-Statement _ a)) (h.by (Else second ∷ (two ++ rest)) [] (Lines more ∷ left) leads)))
@@ -161,17 +161,21 @@ block_length old a b code first f g =
 pub put_branch : (old a b c : List Line) (statement : Statement) (body : List Statement) (t : Test) (k : _) (row : _) (from passed : ℕ) → statement ≡ tree.If' t k row → items-the_row-Statement _ row ≡ body → from ≡ length old → a ≡ old ++ If t 0 ∷ [] → IsPut body a b → passed ≡ length b - from - 1 → c ≡ slice_set b from (If t passed) → IsPut (statement ∷ []) old c
 put_branch old a b c statement body t k row from passed is same e f h count g =
     let code = h.0 in
-    let long : passed ≡ length code = omega (arith, count, block_length old a b code (If t 0) f h.1, e) in
-    (If t passed ∷ code, block_set old a b c code (If t 0) (If t passed) from e f h.1 g,
-    subst (λ x. Codes (If t passed ∷ code) (x ∷ [])) (sym is) (codes_branch t k row code passed long (subst (λ xs. Codes code xs) (sym same) h.2)))
+    let long : passed ≡ length code = omega (arith, count, block_length old a b code (If t 0) f h.1, e) in (
+      If t passed ∷ code,
+      block_set old a b c code (If t 0) (If t passed) from e f h.1 g,
+      subst (λ x. Codes (If t passed ∷ code) (x ∷ [])) (sym is) (codes_branch t k row code passed long (subst (λ xs. Codes code xs) (sym same) h.2)),
+    )
 
 pub put_loop : (old a b c d : List Line) (statement : Statement) (body : List Statement) (t : Test) (k : _) (row : _) (from passed : ℕ) → statement ≡ tree.While' t k row → items-the_row-Statement _ row ≡ body → from ≡ length old → a ≡ old ++ While t 0 ∷ [] → IsPut body a b → c ≡ b ++ End ∷ [] → passed ≡ length c - from - 1 → d ≡ slice_set c from (While t passed) → IsPut (statement ∷ []) old d
 put_loop old a b c d statement body t k row from passed is same e f h last count g =
     let code = h.0 ++ End ∷ [] in
     let all : c ≡ a ++ code = last ∙ ap (λ ls. ls ++ End ∷ []) h.1 ∙ append_assoc a h.0 (End ∷ []) in
-    let long : passed ≡ length h.0 + 1 = omega (arith, count, block_length old a c code (While t 0) f all, e, length-append h.0 (End ∷ [])) in
-    (While t passed ∷ code, block_set old a c d code (While t 0) (While t passed) from e f all g,
-    subst (λ x. Codes (While t passed ∷ code) (x ∷ [])) (sym is) (codes_loop t k row h.0 passed long (subst (λ xs. Codes h.0 xs) (sym same) h.2)))
+    let long : passed ≡ length h.0 + 1 = omega (arith, count, block_length old a c code (While t 0) f all, e, length-append h.0 (End ∷ [])) in (
+      While t passed ∷ code,
+      block_set old a c d code (While t 0) (While t passed) from e f all g,
+      subst (λ x. Codes (While t passed ∷ code) (x ∷ [])) (sym is) (codes_loop t k row h.0 passed long (subst (λ xs. Codes h.0 xs) (sym same) h.2)),
+    )
 
 pub put_branches : (old a b c d e f : List Line) (statement : Statement) (first second : List Statement) (t : Test) (k : _) (row : _) (j : _) (other : _) (from middle passed skipped : ℕ) → statement ≡ tree.IfElse' t k row j other → items-the_row-Statement _ row ≡ first → items-the_row-Statement _ other ≡ second → from ≡ length old → a ≡ old ++ If t 0 ∷ [] → IsPut first a b → middle ≡ length b → c ≡ b ++ Else 0 ∷ [] → IsPut second c d → passed ≡ length d - middle - 1 → e ≡ slice_set d middle (Else passed) → skipped ≡ middle - from → f ≡ slice_set e from (If t skipped) → IsPut (statement ∷ []) old f
 put_branches old a b c d e f statement first second t k row j other from middle passed skipped is same one at begin h mid over g count set skip done =
@@ -179,10 +183,12 @@ put_branches old a b c d e f statement first second t k row j other from middle 
     let inner_set : e ≡ b ++ Else passed ∷ g.0 = block_set b c d e g.0 (Else 0) (Else passed) middle mid over g.1 set in
     let all : e ≡ a ++ code = inner_set ∙ ap (λ ls. ls ++ Else passed ∷ g.0) h.1 ∙ append_assoc a h.0 (Else passed ∷ g.0) in
     let long : passed ≡ length g.0 = omega (arith, count, mid, block_length b c d g.0 (Else 0) over g.1) in
-    let front : skipped ≡ length h.0 + 1 = omega (arith, skip, mid, at, block_length old a b h.0 (If t 0) begin h.1) in
-    (If t skipped ∷ code, block_set old a e f code (If t 0) (If t skipped) from at begin all done,
-    subst (λ x. Codes (If t skipped ∷ code) (x ∷ [])) (sym is)
-    (codes_branches t k row j other h.0 g.0 skipped passed front long (subst (λ xs. Codes h.0 xs) (sym same) h.2) (subst (λ xs. Codes g.0 xs) (sym one) g.2)))
+    let front : skipped ≡ length h.0 + 1 = omega (arith, skip, mid, at, block_length old a b h.0 (If t 0) begin h.1) in (
+      If t skipped ∷ code,
+      block_set old a e f code (If t 0) (If t skipped) from at begin all done,
+      subst (λ x. Codes (If t skipped ∷ code) (x ∷ [])) (sym is)
+          (codes_branches t k row j other h.0 g.0 skipped passed front long (subst (λ xs. Codes h.0 xs) (sym same) h.2) (subst (λ xs. Codes g.0 xs) (sym one) g.2)),
+    )
 
 pub put_more : (old mid new : List Line) (done : List Statement) (statement : Statement) (all : List Statement) → IsPut done old mid → IsPut (statement ∷ []) mid new → all ≡ done ++ statement ∷ [] → IsPut all old new
 put_more old mid new done statement all h g is =

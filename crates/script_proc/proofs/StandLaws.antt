@@ -1,5 +1,5 @@
 -- What the lines that come next say of the pieces that they stand for.
-use Rattle.std.proofs.Common.{◌≡◌, ℕ, zero, suc, ◌+◌, ◌<◌, ◌≤◌, min, Bool, true, false, List, [], ◌∷◌, ◌++◌, length, drop, Some, None, refl, sym, ap, ◌∙◌, subst, arith, add-one, drop-drop}
+use Rattle.std.proofs.Common.{◌≡◌, ℕ, zero, suc, ◌+◌, ◌<◌, ◌≤◌, min, Bool, true, false, List, [], ◌∷◌, ◌++◌, length, drop, Some, None, refl, sym, ap, ◌∙◌, arith, add-one, drop-drop}
 use Rattle.std.specs.Prelude.{slice_get, if◌then◌else◌}
 use Rattle.std.proofs.lemmas.List.{drop_all}
 use Rattle.script_tree.specs.declared.operand.Test.{Test}
@@ -10,7 +10,7 @@ use Rattle.script_tree.specs.Tree.{Tree}
 use Rattle.script_tree.specs.Values.{holds}
 use Rattle.script_tree.specs.Pieces.{Piece, Lines, One, State, Going, Step, Becomes}
 use Rattle.script_tree.specs.Steps.{step, passes, statement}
-use Rattle.script_tree.specs.Traces.{Makes, silent}
+use Rattle.script_tree.specs.Traces.{silent}
 use Rattle.script_tree.specs.Weights.{weight}
 use Rattle.script_proc.specs.declared.program.Line.{Line}
 use Rattle.script_proc.specs.declared.program.Line.TheVariants.{Let, Compute, If, Else, While, End, Return, Call, Sleep, Create, Destroy, Default}

@@ -1,21 +1,21 @@
 -- What a worker's items complete.
-use Rattle.std.proofs.Common.{◌≡◌, ◌<◌, ℕ, suc, List, [], ◌∷◌, ◌++◌, length, Option, Some, None, Result, Ok, Err, IfOk, refl, sym, ap, ◌∙◌, subst, append_assoc, append-nil, fold}
+use Rattle.std.proofs.Common.{◌≡◌, ◌<◌, ℕ, suc, List, [], ◌∷◌, ◌++◌, length, Option, Some, None, Result, Ok, Err, IfOk, refl, sym, ap, ◌∙◌, subst, append_assoc, append-nil}
 use Rattle.std.proofs.lemmas.List.Sums.{fold-append}
 use Rattle.user_model.specs.declared.call.Call.{Call}
 use Rattle.user_model.specs.declared.entry.Answer.{Answer}
 use Rattle.script_tree.specs.declared.variables.Variables.{Variables}
 use Rattle.script_tree.specs.Tree.{Tree}
-use Rattle.script_tree.specs.Pieces.{Piece, Lines, State, Trace, End, Whole, Cut, Asks}
+use Rattle.script_tree.specs.Pieces.{Piece, State, Trace, End, Whole, Cut, Asks}
 use Rattle.script_tree.specs.Steps.{step, follows, answered, variables_of}
 use Rattle.script_tree.specs.Traces.{Makes, IsTrace, over, entry, cut}
 use Rattle.script_tree.specs.Weights.{steps_left}
 use Rattle.script_proc.specs.declared.program.Program.{Program}
 use Rattle.script_proc.specs.declared.item.Item.{Item}
-use Rattle.script_proc.specs.declared.item.Item.TheVariants.{At, Once, PassEnd as PassEndItem, Making as MakingItem, Leaves as LeavesItem}
+use Rattle.script_proc.specs.declared.item.Item.TheVariants.{Making as MakingItem, Leaves as LeavesItem}
 use Rattle.script_proc.specs.declared.item.Mode.{Mode}
 use Rattle.script_proc.specs.declared.item.Mode.TheVariants.{Going as GoingMode, Returning as ReturningMode, Given as GivenMode}
 use Rattle.script_proc.specs.Programs.{IsProgramOf}
-use Rattle.script_proc.specs.Items.{piece, Covers, AllCover, above, state_of, asks, ArePlaceless, Keeps, Enters, KeepsAll, Asking, IsReady}
+use Rattle.script_proc.specs.Items.{piece, Covers, AllCover, above, state_of, asks, ArePlaceless, Keeps, KeepsAll, Asking, IsReady}
 use Rattle.script_proc.specs.Works.{no_tree, as_long, all_long, work, Moves}
 use Rattle.script_proc.specs.Workers.{end_of}
 use Rattle.script_proc.proofs.ItemLaws.{plain_cover, long_more}
@@ -49,9 +49,11 @@ module _ (p : Program) where
     pub last_keeps : (s : Tree) (items below new : List Item) (item : Item) (few : List Item) (st st' : State) → items ≡ below ++ item ∷ [] → new ≡ below ++ few → Moves p n item st few st' → IsProgramOf s p → KeepsAll s p n items st new st'
     last_keeps s items below new item few st st' e f m of ps h =
         let r = last_cover items below item ps e h in
-        let k = m.keeps s of r.0 r.1 r.3 in
-        (k.0 ++ r.1, subst (λ xs. AllCover p xs (k.0 ++ r.1)) (sym f) (join_cover below few k.0 r.1 r.4 k.1),
-        subst (λ xs. Keeps s xs st (k.0 ++ r.1) st' n) (sym r.2) k.2)
+        let k = m.keeps s of r.0 r.1 r.3 in (
+          k.0 ++ r.1,
+          subst (λ xs. AllCover p xs (k.0 ++ r.1)) (sym f) (join_cover below few k.0 r.1 r.4 k.1),
+          subst (λ xs. Keeps s xs st (k.0 ++ r.1) st' n) (sym r.2) k.2,
+        )
 
     all_of : (items below few : List Item) → items ≡ below ++ few → all_long (length p.lines.items) n items ≡ all_long (length p.lines.items) n few ++ all_long (length p.lines.items) n below
     all_of items below few e =
@@ -112,12 +114,14 @@ module _ (p : Program) where
     entered tr items new few ps v v' mode mode' n call a r f i g st c h =
         let l = last_cover items r.0 r.1 ps r.2 c in
         let first : ps ≡ piece r.1 ∷ l.1 = l.2 ∙ ap (λ xs. xs ++ l.1) (asks_covers r.1 mode call l.0 r.3 l.3) in
-        let states : state_of v' mode' ≡ answered call a (variables_of (state_of v mode)) = st ∙ ap (answered call a) (sym (state_variables v mode)) in
-        (above few ++ l.1, subst (λ xs. AllCover p xs (above few ++ l.1)) (sym f) (join_cover r.0 few (above few) l.1 l.4 (plain_cover p few i)),
-        λ more e m.
-            subst (λ x. IsTrace s t x e) (sym (append_assoc tr ((call, a) ∷ []) more))
-            (h ((call, a) ∷ more) e
-            (subst (λ xs. Makes s xs (state_of v mode) n ((call, a) ∷ more) e) (sym first)
-            (entry call a (asks_so s r.1 mode call v n r.3)
-            (subst (λ x. Makes s (follows call a ++ l.1) x (suc n) more e) states
-            (subst (λ xs. Makes s (xs ++ l.1) (state_of v' mode') (suc n) more e) g m))))))
+        let states : state_of v' mode' ≡ answered call a (variables_of (state_of v mode)) = st ∙ ap (answered call a) (sym (state_variables v mode)) in (
+          above few ++ l.1,
+          subst (λ xs. AllCover p xs (above few ++ l.1)) (sym f) (join_cover r.0 few (above few) l.1 l.4 (plain_cover p few i)),
+          λ more e m.
+              subst (λ x. IsTrace s t x e) (sym (append_assoc tr ((call, a) ∷ []) more))
+              (h ((call, a) ∷ more) e
+              (subst (λ xs. Makes s xs (state_of v mode) n ((call, a) ∷ more) e) (sym first)
+              (entry call a (asks_so s r.1 mode call v n r.3)
+              (subst (λ x. Makes s (follows call a ++ l.1) x (suc n) more e) states
+              (subst (λ xs. Makes s (xs ++ l.1) (state_of v' mode') (suc n) more e) g m))))),
+        )

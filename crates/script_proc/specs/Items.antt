@@ -1,5 +1,5 @@
 -- The pieces that a worker's items stand for.
-use Rattle.std.specs.Prelude.{◌≡◌, ◌<◌, ℕ, suc, ◌+◌, List, [], ◌∷◌, ◌++◌, Option, Some, None, drop, slice_get}
+use Rattle.std.specs.Prelude.{◌≡◌, ℕ, suc, ◌+◌, List, [], ◌∷◌, ◌++◌, Option, Some, None, drop, slice_get}
 use Rattle.std.specs.List.{fold}
 use Rattle.user_model.specs.declared.call.Call.{Call}
 use Rattle.user_model.specs.declared.call.Call.TheVariants.{Leave}
@@ -15,7 +15,6 @@ use Rattle.script_tree.specs.Steps.{parameters_from}
 use Rattle.script_tree.specs.Tree.{Tree}
 use Rattle.script_tree.specs.Pieces.{Piece, Lines, One, PassEnd, Making, Again, Giving, Settle, Quiet, Sleeping, Running, Leaving, Leaves, Left, Restore, Feed, State, Going, Returning, Given, Trace, End}
 use Rattle.script_tree.specs.Traces.{Makes}
-use Rattle.script_proc.specs.declared.program.Line.{Line}
 use Rattle.script_proc.specs.declared.program.Line.TheVariants.{While}
 use Rattle.script_proc.specs.declared.program.Program.{Program}
 use Rattle.script_proc.specs.Programs.{Stands, lines_at}

@@ -1,5 +1,5 @@
 -- How much is left to do before the next call, and what a step is.
-use Rattle.std.specs.Prelude.{◌≡◌, ◌<◌, ℕ, zero, suc, ◌+◌, ◌-◌, ◌==◌, if◌then◌else◌, List, [], ◌∷◌, ◌++◌, length}
+use Rattle.std.specs.Prelude.{◌<◌, ℕ, zero, suc, ◌+◌, ◌-◌, ◌==◌, if◌then◌else◌, List, [], ◌∷◌, ◌++◌, length}
 use Rattle.std.specs.List.{fold}
 use Rattle.script_tree.specs.declared.statement.Statement.{Statement}
 use Rattle.script_tree.specs.declared.statement.Statement.TheVariants.{Default}

@@ -1,5 +1,5 @@
 -- Seats at a past with one entry more.
-use Rattle.std.proofs.Common.{◌≡◌, ◌≢◌, ℕ, ◌+◌, ◌-◌, ◌<◌, ◌≤◌, Bool, true, false, not, cond, eqb, List, [], ◌∷◌, ◌++◌, length, get_or, set, Some, None, refl, ap, ◌∙◌, sym, subst, inl, inr, arith, length-set}
+use Rattle.std.proofs.Common.{◌≡◌, ◌≢◌, ℕ, zero, suc, ◌+◌, ◌-◌, ◌<◌, ◌≤◌, Bool, true, false, not, cond, eqb, List, [], ◌∷◌, ◌++◌, length, get_or, set, Some, None, refl, ap, ◌∙◌, sym, subst, inl, inr, arith, length-set}
 use Rattle.std.specs.Prelude.{◌&&◌, is_none}
 use Rattle.std.proofs.lemmas.Bool.Decides.{nat_tests, eqb_tells}
 use Rattle.std.proofs.lemmas.List.{get_or-set_same, get_or-set_other}
@@ -115,3 +115,10 @@ pub someone_left : (s : Tree) (past : Past) (seats : List Seat) (i : ℕ) (d : S
 someone_left s past seats i d stands before within goes =
     let here : has_ended past (i + 1) ≡ false = sym (stands.at i d within).ended ∙ goes in
     ap is_none (lowest_found (λ t. not (has_ended past t)) (length s.threads) (i + 1) (lowest_here (λ t. not (has_ended past t)) i before (ap not here)) (omega (arith, within, stands.count)))
+
+-- one more at the end
+pub each_pushed : (P : ℕ → Seat → Type 0) (seats : List Seat) (seat : Seat) → ((i : ℕ) (d : Seat) → i < length seats → P i (get_or seats i d)) → P (length seats) seat → (i : ℕ) (d : Seat) → i < length (seats ++ seat ∷ []) → P i (get_or (seats ++ seat ∷ []) i d)
+each_pushed P [] seat h x zero d lt = x
+each_pushed P [] seat h x (suc i) d lt = absurd (omega (arith, lt))
+each_pushed P (y ∷ ys) seat h x zero d lt = h zero d (omega arith)
+each_pushed P (y ∷ ys) seat h x (suc i) d lt = each_pushed (λ k. P (suc k)) ys seat (λ k e l. h (suc k) e (omega (arith, l))) x i d (omega (arith, lt))

@@ -73,11 +73,7 @@ fn ended_by(ended: bool, answer: Answer) -> bool
 }
 
 /// The threads of a script before the first entry, in order. `AllocError` comes only for want of memory.
-pub fn new_seats(
-    alloc: Global,
-    script: &Script,
-    program: &Program,
-) -> Result<Vec<Seat>, AllocError>
+pub fn new_seats(alloc: Global, script: &Script, program: &Program) -> Result<Vec<Seat>, AllocError>
     requires program { IsProgramOf script.now program.now }
     requires few { length script.now.threads ≤ 15 }
     ensures { IfOk result (λ seats. SeatsStand script.now program.now [] seats.items) }

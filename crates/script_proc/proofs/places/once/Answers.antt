@@ -1,10 +1,8 @@
-use Rattle.std.proofs.Common.{◌≡◌, ◌≤◌, ◌+◌, ◌^◌, ◌-◌, ℕ, min, length, Some, refl, sym, ap, ◌∙◌, rules}
+use Rattle.std.proofs.Common.{◌≤◌, ◌+◌, ◌^◌, ◌-◌, min, length, Some, refl, sym, ap, ◌∙◌, rules}
 use Rattle.std.specs.Prelude.{slice_get}
 use Rattle.std.proofs.lemmas.Option.{slice_get_read, slice_get_past}
-use Rattle.script_tree.specs.declared.operand.Test.{Test}
 use Rattle.script_tree.specs.Values.{holds}
 use Rattle.script_proc.specs.declared.item.Item.TheVariants.{Once}
-use Rattle.script_proc.specs.declared.program.Line.TheVariants.{While}
 use Rattle.script_proc.proofs.ItemLaws.{once_moves, while_is, no_loop_moves, same_line}
 use Rattle.script_proc.proofs.places.once.Goals as goal
 

@@ -1,4 +1,4 @@
-use Rattle.std.proofs.Common.{◌≡◌, [], ◌∷◌, ◌++◌, sym, ap, ◌∙◌}
+use Rattle.std.proofs.Common.{[], ◌∷◌, ◌++◌, sym, ap, ◌∙◌}
 use Rattle.script_proc.specs.Items.{state_of, few_items}
 use Rattle.script_proc.proofs.Lasts.{last_at}
 use Rattle.script_proc.proofs.WorkerLaws.{keeps_same, keeps_all_on, last_keeps, last_fewer}
