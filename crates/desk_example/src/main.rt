@@ -1,13 +1,12 @@
-//! A desk with two threads. First the lock alone, a desk of sixteen seats, and worked sequences of calls, whose answers are
-//! printed. Then the threads run beside each other: each yields, posts the numbers below 100 to the other, and adds up what
-//! it gets. What is printed doesn't depend on who moves when.
+//! A desk with two threads. First worked sequences of calls, whose answers are printed. Then the threads run beside each
+//! other: each yields, posts the numbers below 100 to the other, and adds up what it gets. What is printed doesn't
+//! depend on who moves when.
 #![tactic(auto)]
 
 ghost use Rattle.std.specs.Prelude.{◌≡◌, IfOk, IfSome};
 ghost use Rattle.turn_lock.specs.Seats.{new_seats};
 ghost use Rattle.user_desk.specs.Desks.{IsDeskSeat};
 
-mod crowd;
 mod locked;
 mod sequences;
 
@@ -46,11 +45,7 @@ fn three(desk: &Desk<User>, mut seats: Vec<Seat>) -> (Seat, Seat, Seat)
 }
 
 /// Makes `yield` so many times.
-pub(crate) fn yield_often<R: Wait>(
-    rt: &R,
-    desk: &Desk<User>,
-    mut seat: Seat,
-) -> Result<Seat, AllocError>
+fn yield_often<R: Wait>(rt: &R, desk: &Desk<User>, mut seat: Seat) -> Result<Seat, AllocError>
     requires { IsDeskSeat desk.now seat }
     ensures { IfOk result (λ s. IsDeskSeat desk.now s) }
 {
@@ -128,15 +123,14 @@ fn yields(history: &[Entry], thread: u8) -> usize {
 }
 
 fn main(rt: HostRuntime) -> anyhow::Result<()> {
-    let alone = locked::lock_alone(&rt, rt.alloc())?;
-    println!(&rt; "{} entries under the lock", alone.history().len())?;
-    crowd::sixteen(&rt, rt.alloc())?;
+    locked::lock_alone(&rt, rt.alloc())?;
     let machine = User::new(rt.alloc(), Setup::new(2, 8, 4))?;
     let Ok((desk, seats)) = Desk::new(rt.alloc(), machine, 2) else {
         anyhow::bail!("no memory for the desk");
     };
     let (clock, mut first, mut second) = three(&desk, seats);
-    sequences::both(&rt, &desk, &mut first, &mut second)?;
+    sequences::filters(&rt, &desk, &mut first)?;
+    sequences::sends(&rt, &desk, &mut first, &mut second)?;
     let (a, b) = join(
         &rt,
         || -> Result<(Seat, u64), AllocError>

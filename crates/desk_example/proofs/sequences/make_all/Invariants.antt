@@ -1,5 +1,5 @@
 use Rattle.user_desk.specs.Desks.{IsDeskSeat}
 use Rattle.desk_example.proofs.sequences.make_all.Given as goal
 
-abbrev pub invariant-loop-mover : goal.invariant-loop-mover
-invariant-loop-mover g l = IsDeskSeat l.desk l.first × IsDeskSeat l.desk l.second
+abbrev pub invariant-loop-call : goal.invariant-loop-call
+invariant-loop-call g l = IsDeskSeat l.desk l.seat
