@@ -32,7 +32,8 @@ pub struct Worker {
 impl Worker {
     ghost use Rattle.script_proc.specs.Workers.{IsWorkerOf, IsAt, thread_of, uses, end_of};
 
-    /// The program of a thread, from 1, at its beginning.
+    /// The worker of a thread, from 1, at the beginning of its body in that program. `AllocError` comes
+    /// only for want of memory.
     pub fn new(alloc: Global, program: &Program, thread: u8) -> Result<Worker, AllocError>
         ensures { IfOk result (λ w. (s : Tree) → IsProgramOf s program.now → IsWorkerOf s program.now thread [] w) }
     {
@@ -63,7 +64,8 @@ impl Worker {
     }
 
     /// Goes on to the next call, None exactly where the program has ended. It has made no entry, also
-    /// where memory is wanting, and may then be asked again.
+    /// where memory is wanting, and may then be asked again. It is asked with the program that it was made
+    /// with.
     pub fn next_call(&mut self, program: &Program) -> Result<Option<Call>, AllocError>
         ensures worker { (s : Tree) (t : ℕ) (tr : Trace) → IsWorkerOf s program.now t tr self.old → IsWorkerOf s program.now t tr self.new }
         ensures next { IfOk result (λ next. (s : Tree) (t : ℕ) (tr : Trace) → IsWorkerOf s program.now t tr self.old → IsTrace s t tr (end_of next)) }
