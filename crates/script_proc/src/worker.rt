@@ -12,7 +12,6 @@ use crate::item::{Item, Mode};
 use crate::places::step;
 use crate::program::Program;
 use crate::replies::{asked, follow};
-use crate::top::set_last;
 use script_tree::Variables;
 use std::alloc::{AllocError, Global};
 use user_model::{Answer, Call};
@@ -91,8 +90,13 @@ impl Worker {
         ensures thread { thread_of self.new ≡ thread_of self.old }
     {
         self.used += 1;
-        let few = follow(call, answer, &mut self.variables, &mut self.mode);
-        set_last(&mut self.items, &few);
+        follow(
+            &mut self.items,
+            &call,
+            &answer,
+            &mut self.variables,
+            &mut self.mode,
+        );
     }
 }
 
@@ -117,7 +121,6 @@ fn settle(
         if let Some(call) = asked(item, mode) {
             return Ok(Some(call));
         }
-        let few = step(program, item, variables, mode, used);
-        set_last(items, &few);
+        step(program, items, variables, mode, used);
     }
 }
