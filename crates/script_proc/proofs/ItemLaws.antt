@@ -1,6 +1,7 @@
 -- What items do, one by one.
 use Rattle.std.proofs.Common.{◌≡◌, ℕ, zero, suc, ◌+◌, ◌-◌, ◌*◌, ◌<◌, ◌≤◌, min, ◌==◌, Bool, true, false, List, [], ◌∷◌, ◌++◌, length, drop, Some, None, refl, sym, ap, ◌∙◌, subst, arith, append_assoc, eq-eqb, fold, inl, inr}
 use Rattle.std.specs.Prelude.{◌⊎◌, slice_get, if◌then◌else◌, unwrap_or, max}
+use Rattle.user_model.specs.declared.call.Call.{Call}
 use Rattle.user_model.specs.declared.call.Call.TheVariants.{Yield}
 use Rattle.script_tree.specs.declared.operand.Test.{Test}
 use Rattle.script_tree.specs.declared.statement.Statement.{Statement, items-the_row-Statement}
@@ -17,14 +18,12 @@ use Rattle.script_proc.specs.declared.program.Line.{Line}
 use Rattle.script_proc.specs.declared.program.Line.TheVariants.{If, Else, While, End}
 use Rattle.script_proc.specs.declared.program.Program.{Program}
 use Rattle.script_proc.specs.declared.item.Item.{Item}
-use Rattle.script_proc.specs.declared.item.Item.TheVariants.{At, Once, PassEnd as PassEndItem, Making as MakingItem, Quiet as QuietItem, Running, Leaving, Restore}
+use Rattle.script_proc.specs.declared.item.Item.TheVariants.{At, Once, PassEnd as PassEndItem, Making as MakingItem, Settle, Quiet as QuietItem, Running, Leaving, Restore}
 use Rattle.script_proc.specs.declared.item.Mode.{Mode}
 use Rattle.script_proc.specs.declared.item.Mode.TheVariants.{Going as GoingMode, Returning as ReturningMode, Given as GivenMode}
-use Rattle.script_proc.specs.declared.item.Few.{Few}
-use Rattle.script_proc.specs.declared.item.Few.TheVariants.{Single, Two}
 use Rattle.script_proc.specs.Programs.{Says, Stands, lines_at}
-use Rattle.script_proc.specs.Items.{few_items, piece, Covers, AllCover, IsLoop, loops, above, state_of, Keeps, IsPlain, ArePlain, IsPlaceless, ArePlaceless}
-use Rattle.script_proc.specs.Works.{statements, no_tree, as_long, all_long, Moves}
+use Rattle.script_proc.specs.Items.{piece, Covers, AllCover, IsLoop, loops, above, state_of, Keeps, IsPlain, ArePlain, IsSettling, IsPlaceless, ArePlaceless}
+use Rattle.script_proc.specs.Works.{statements, no_tree, as_long, all_long, Moves, Steps}
 use Rattle.script_proc.proofs.StandLaws.{drop_here, drop_past, within, drop_behind, IsSimple, says, said_weight, nothing_stands, are_lines, keeps_on, by_step, lines_pass, alone_goes, else_goes, end_goes, then_goes, otherwise_goes, IsWhile, is_while, while_comes}
 
 -- items without a place stand for their pieces
@@ -46,6 +45,15 @@ is_plain (Once at) a b c d = b at refl
 is_plain (PassEndItem at began) a b c d = c at began refl
 is_plain (Running run) a b c d = d run refl
 is_plain item a b c d = tt
+
+pub settling_plain : (item : Item) → IsSettling item → IsPlain item
+settling_plain (Settle call) h = tt
+settling_plain QuietItem h = tt
+settling_plain item h = absurd h
+
+pub is_settling : (item : Item) → (((call : Call) × (item ≡ Settle call)) ⊎ (item ≡ QuietItem)) → IsSettling item
+is_settling item (inl x) = subst IsSettling (sym x.1) tt
+is_settling item (inr x) = subst IsSettling (sym x) tt
 
 above_more : (few : List Item) (acc : List Piece) → fold (λ ps item. piece item ∷ ps) acc few ≡ above few ++ acc
 above_more [] acc = refl
@@ -369,14 +377,6 @@ module _ (p : Program) (n : ℕ) where
   pub in_going : (item : Item) (few : List Item) (st : State) (v : Variables) (mode : Mode) → mode ≡ GoingMode → Moves p n item st few (Going v) → Moves p n item st few (state_of v mode)
   in_going item few st v mode e m = subst (λ x. Moves p n item st few (state_of v x)) (sym e) m
 
-  few_is : (at next : ℕ) (b : Bool) → few_items (if b then Two (PassEndItem at n) (At (at + 1)) else Single (At next)) ≡ while_few at b next
-  few_is at next true = refl
-  few_is at next false = refl
-
-  -- the same as a few items
-  pub while_is : (at next : ℕ) (b : Bool) (few : Few) (item : Item) (v : Variables) → few ≡ (if b then Two (PassEndItem at n) (At (at + 1)) else Single (At next)) → Moves p n item (Going v) (while_few at b next) (Going v) → Moves p n item (Going v) (few_items few) (Going v)
-  while_is at next b few item v e m = subst (λ xs. Moves p n item (Going v) xs (Going v)) (sym (ap few_items e ∙ few_is at next b)) m
-
   pub placed_is : (item : Item) → (((x : ℕ) × (item ≡ At x)) ⊎ (((x : ℕ) × (item ≡ Once x)) ⊎ (((x : ℕ) × (y : ℕ) × (item ≡ PassEndItem x y)) ⊎ ((run : Run) × (item ≡ Running run))))) → IsPlaced item
   placed_is item (inl x) = subst IsPlaced (sym x.1) tt
   placed_is item (inr (inl x)) = subst IsPlaced (sym x.1) tt
@@ -386,3 +386,10 @@ module _ (p : Program) (n : ℕ) where
   pub hands_on : (mode : Mode) → (mode ≡ GoingMode → ⊥) → Hands mode
   hands_on GoingMode h = h refl
   hands_on mode h = tt
+
+  -- a step in the mode that hands nothing on
+  pub going_to : (items new : List Item) (st : State) (v : Variables) (mode : Mode) → mode ≡ GoingMode → Steps p n items st new (Going v) → Steps p n items st new (state_of v mode)
+  going_to items new st v mode e h = subst (λ x. Steps p n items st new (state_of v x)) (sym e) h
+
+  pub going_from : (items new : List Item) (st : State) (v : Variables) (mode : Mode) → mode ≡ GoingMode → Steps p n items (state_of v mode) new st → Steps p n items (Going v) new st
+  going_from items new st v mode e h = subst (λ x. Steps p n items (state_of v x) new st) e h

@@ -1,6 +1,6 @@
 -- The last of a list of items.
-use Rattle.std.proofs.Common.{◌≡◌, ℕ, suc, ◌-◌, ◌<◌, get_or, sym, List, [], ◌∷◌, ◌++◌, length, take, refl, ap, ◌∙◌, arith, append_assoc, length-append}
-use Rattle.std.specs.Prelude.{slice_set}
+use Rattle.std.proofs.Common.{◌≡◌, ℕ, suc, ◌-◌, ◌<◌, get_or, sym, subst, List, [], ◌∷◌, ◌++◌, length, take, Result, Ok, Err, IsOk, refl, ap, ◌∙◌, arith, append_assoc, length-append}
+use Rattle.std.specs.Prelude.{slice_set, is_ok, if◌then◌else◌}
 
 set_seam : {A : Type 0} (below : List A) (item : A) (rest : List A) (a : A) → slice_set (below ++ item ∷ rest) (length below) a ≡ below ++ a ∷ rest
 set_seam [] item rest a = refl
@@ -41,3 +41,19 @@ last_at (x ∷ y ∷ xs) d h =
     let r = last_at (y ∷ xs) d (omega arith) in
     let on : length (x ∷ y ∷ xs) - 1 ≡ suc (length (y ∷ xs) - 1) = omega arith in
     (x ∷ r.0, ap (λ zs. x ∷ zs) r.1 ∙ ap (λ k. x ∷ (r.0 ++ get_or (x ∷ y ∷ xs) k d ∷ [])) (sym on))
+
+-- what succeeds appends
+pub grown : {A X E : Type 0} (r : Result X E) (a b new : List A) → IsOk r → new ≡ (if is_ok r then a else b) → new ≡ a
+grown (Ok x) a b new h e = e
+grown (Err x) a b new h e = absurd cc
+
+-- a list has one last element
+same_last : {A : Type 0} (below under : List A) (item other : A) → below ++ item ∷ [] ≡ under ++ other ∷ [] → item ≡ other
+same_last [] [] item other e = cc
+same_last [] (y ∷ under) item other e = absurd (omega (arith, ap length e, length-append under (other ∷ [])))
+same_last (x ∷ below) [] item other e = absurd (omega (arith, ap length e, length-append below (item ∷ [])))
+same_last (x ∷ below) (y ∷ under) item other e = let f : below ++ item ∷ [] ≡ under ++ other ∷ [] = cc in same_last below under item other f
+
+-- what holds of it
+pub last_only : {A : Type 0} (P : A → Type 0) (xs below : List A) (item : A) → xs ≡ below ++ item ∷ [] → P item → (under : List A) (other : A) → xs ≡ under ++ other ∷ [] → P other
+last_only P xs below item e h under other f = subst P (same_last below under item other (sym e ∙ f)) h

@@ -1,8 +1,12 @@
 -- What the lines that come next say of the pieces that they stand for.
-use Rattle.std.proofs.Common.{◌≡◌, ℕ, zero, suc, ◌+◌, ◌<◌, ◌≤◌, min, Bool, true, false, List, [], ◌∷◌, ◌++◌, length, drop, Some, None, refl, sym, ap, ◌∙◌, arith, add-one, drop-drop}
-use Rattle.std.specs.Prelude.{slice_get, if◌then◌else◌}
+use Rattle.std.proofs.Common.{◌≡◌, ℕ, zero, suc, ◌+◌, ◌<◌, ◌≤◌, min, Bool, true, false, List, [], ◌∷◌, ◌++◌, length, drop, Some, None, refl, sym, ap, subst, ◌∙◌, inl, inr, arith, add-one, drop-drop}
+use Rattle.std.specs.Prelude.{◌⊎◌, slice_get, if◌then◌else◌}
 use Rattle.std.proofs.lemmas.List.{drop_all}
+use Rattle.script_tree.specs.declared.operand.Letter.{Letter}
+use Rattle.script_tree.specs.declared.operand.Operand.{Operand}
+use Rattle.script_tree.specs.declared.operand.Operator.{Operator}
 use Rattle.script_tree.specs.declared.operand.Test.{Test}
+use Rattle.script_tree.specs.declared.statement.CallStatement.{CallStatement}
 use Rattle.script_tree.specs.declared.statement.Statement.{Statement, items-the_row-Statement}
 use Rattle.script_tree.specs.declared.statement.Statement.TheVariants as tree
 use Rattle.script_tree.specs.declared.variables.Variables.{Variables}
@@ -14,7 +18,7 @@ use Rattle.script_tree.specs.Traces.{silent}
 use Rattle.script_tree.specs.Weights.{weight}
 use Rattle.script_proc.specs.declared.program.Line.{Line}
 use Rattle.script_proc.specs.declared.program.Line.TheVariants.{Let, Compute, If, Else, While, End, Return, Call, Sleep, Create, Destroy, Default}
-use Rattle.script_proc.specs.Programs.{Says, Stands, alone, branch, branches, loop, out, over_else, end}
+use Rattle.script_proc.specs.Programs.{Says, IsQuiet, IsCompound, Stands, alone, branch, branches, loop, out, over_else, end}
 use Rattle.script_proc.specs.Items.{Keeps}
 
 -- the list from a place on is the element there and the list behind it
@@ -61,6 +65,23 @@ is_simple (Else k) a b c d = b k refl
 is_simple (While t k) a b c d = c t k refl
 is_simple End a b c d = d refl
 is_simple line a b c d = tt
+
+-- a line that isn't one of the others begins a compound or a `sleep`
+pub is_compound : (line : Line) → IsSimple line → ((x : Letter) (e : Operand) → line ≡ Let x e → ⊥) → ((x : Letter) (e : Operand) (op : Operator) (f : Operand) → line ≡ Compute x e op f → ⊥) → ((e : Operand) → line ≡ Return e → ⊥) → ((c : CallStatement) → line ≡ Call c → ⊥) → IsCompound line
+is_compound (Let x e) h a b c d = a x e refl
+is_compound (Compute x e op f) h a b c d = b x e op f refl
+is_compound (Return e) h a b c d = c e refl
+is_compound (Call k) h a b c d = d k refl
+is_compound (Sleep e) h a b c d = tt
+is_compound (Create k) h a b c d = tt
+is_compound (Destroy e) h a b c d = tt
+is_compound Default h a b c d = tt
+is_compound line h a b c d = absurd h
+
+pub is_quiet : (line : Line) → (((x : Letter) × (e : Operand) × (line ≡ Let x e)) ⊎ (((x : Letter) × (e : Operand) × (op : Operator) × (f : Operand) × (line ≡ Compute x e op f)) ⊎ ((e : Operand) × (line ≡ Return e)))) → IsQuiet line × IsSimple line
+is_quiet line (inl x) = subst (λ l. IsQuiet l × IsSimple l) (sym x.2) (tt, tt)
+is_quiet line (inr (inl x)) = subst (λ l. IsQuiet l × IsSimple l) (sym x.4) (tt, tt)
+is_quiet line (inr (inr x)) = subst (λ l. IsQuiet l × IsSimple l) (sym x.1) (tt, tt)
 
 -- it says a statement
 pub says : (line : Line) → IsSimple line → (line' : Statement) × Says line line'

@@ -1,17 +1,18 @@
 -- The pieces that a worker's items stand for.
-use Rattle.std.specs.Prelude.{◌≡◌, ℕ, suc, ◌+◌, List, [], ◌∷◌, ◌++◌, Option, Some, None, drop, slice_get}
+use Rattle.std.specs.Prelude.{◌≡◌, ℕ, suc, ◌+◌, List, [], ◌∷◌, ◌++◌, Option, Some, None, Bool, true, false, not, if◌then◌else◌, drop, slice_get}
 use Rattle.std.specs.List.{fold}
 use Rattle.user_model.specs.declared.call.Call.{Call}
 use Rattle.user_model.specs.declared.call.Call.TheVariants.{Leave}
 use Rattle.user_model.specs.declared.entry.Answer.{Answer}
-use Rattle.user_model.specs.declared.entry.Answer.TheVariants.{Enter, Callback}
+use Rattle.user_model.specs.declared.entry.Answer.TheVariants.{Wait, Enter, Callback, Inside, Called, Begun}
+use Rattle.user_model.specs.Stacks.{waits}
 use Rattle.script_tree.specs.declared.operand.Test.{Test}
 use Rattle.script_tree.specs.declared.statement.Statement.{Statement, items-the_row-Statement}
 use Rattle.script_tree.specs.declared.statement.Statement.TheVariants as tree
 use Rattle.script_tree.specs.declared.variables.Variables.{Variables}
 use Rattle.script_tree.specs.declared.variables.Parameters.{Parameters}
 use Rattle.script_tree.specs.Values.{no_parameters}
-use Rattle.script_tree.specs.Steps.{parameters_from}
+use Rattle.script_tree.specs.Steps.{parameters_from, is_last}
 use Rattle.script_tree.specs.Tree.{Tree}
 use Rattle.script_tree.specs.Pieces.{Piece, Lines, One, PassEnd, Making, Again, Giving, Settle, Quiet, Sleeping, Running, Leaving, Leaves, Left, Restore, Feed, State, Going, Returning, Given, Trace, End}
 use Rattle.script_tree.specs.Traces.{Makes}
@@ -113,6 +114,28 @@ IsSilent (MakingItem call) GoingMode = ⊥
 IsSilent (MakingItem call) (ReturningMode x) = ⊥
 IsSilent (LeavesItem frame x) GoingMode = ⊥
 IsSilent item mode = Unit {0}
+
+-- an item that ends a statement
+abbrev pub IsSettling : Item → Type 0
+IsSettling (SettleItem call) = Unit {0}
+IsSettling QuietItem = Unit {0}
+IsSettling item = ⊥
+
+-- an item that ends no statement now
+abbrev pub SettlesNothing : Item → Mode → Type 0
+SettlesNothing (SettleItem call) (GivenMode a x) = ⊥
+SettlesNothing QuietItem (GivenMode a x) = ⊥
+SettlesNothing item mode = Unit {0}
+
+-- whether an answer is handed on at once: no procedure runs for it, and no call is made for it again
+abbrev pub hands_on : Call → Answer → Bool
+hands_on call Wait = false
+hands_on call (Enter s proc_no w number wparam lparam) = is_last call
+hands_on call (Callback s proc_no w number extra result) = is_last call
+hands_on call (Inside s proc_no) = is_last call
+hands_on call (Called proc_no) = is_last call
+hands_on call (Begun s) = if is_last call then true else not (waits call)
+hands_on call a = true
 
 -- the call that an item makes now
 abbrev pub asks : Item → Mode → Option Call

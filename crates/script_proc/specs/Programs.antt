@@ -28,6 +28,21 @@ Says (Destroy e) line = line ≡ tree.Destroy e
 Says Default line = line ≡ tree.Default
 Says border line = ⊥
 
+-- a line that makes no call and begins no compound
+abbrev pub IsQuiet : Line → Type 0
+IsQuiet (Let x e) = Unit {0}
+IsQuiet (Compute x e op f) = Unit {0}
+IsQuiet (Return e) = Unit {0}
+IsQuiet line = ⊥
+
+-- a line that begins a compound or a `sleep`
+abbrev pub IsCompound : Line → Type 0
+IsCompound (Sleep e) = Unit {0}
+IsCompound (Create c) = Unit {0}
+IsCompound (Destroy e) = Unit {0}
+IsCompound Default = Unit {0}
+IsCompound line = ⊥
+
 -- these lines, the next one first, stand for those statements that are left to do, block by block, the innermost first
 pub data Stands : List Line → List Piece → Type 0 where
   -- a statement without a body

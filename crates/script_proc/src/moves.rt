@@ -1,17 +1,19 @@
 //! What items do that make no call and have no place in the program.
 
-ghost use Rattle.std.specs.Prelude.{◌≡◌, ℕ, [], ◌∷◌, ◌++◌};
+ghost use Rattle.std.specs.Prelude.{◌≡◌, ◌≢◌, ℕ, [], ◌∷◌, ◌++◌};
 ghost use Rattle.script_tree.specs.Tree.{Tree};
 ghost use Rattle.script_tree.specs.declared.statement.Statement.{Statement};
 ghost use Rattle.script_tree.specs.Pieces.{Settle, Left, Leaving, Going, Becomes};
 ghost use Rattle.script_tree.specs.Compounds.{default_result};
 ghost use Rattle.script_tree.specs.Steps.{statement as statement_of, step, begins, returns_to, takes, goes_on, sleeps as sleeps_of, default_pieces, is_callback as is_callback_of};
-ghost use Rattle.script_proc.specs.Programs.{Says};
-ghost use Rattle.script_proc.specs.Items.{piece, above, few_items, state_of, IsAtMostFour, IsPlain, ArePlain, IsSilent};
+ghost use Rattle.script_tree.specs.declared.variables.Variables.{Variables};
+ghost use Rattle.script_proc.specs.Programs.{Says, IsQuiet, IsCompound};
+ghost use Rattle.script_proc.specs.declared.item.Item.{Item};
+ghost use Rattle.script_proc.specs.Items.{piece, above, few_items, state_of, IsAtMostFour, IsPlain, ArePlain, IsSilent, IsSettling, SettlesNothing};
 
 use crate::item::{Few, Item, Mode};
 use crate::program::Line;
-use script_tree::{Begin, Lead, Parameters, Place, Run, Variables};
+use script_tree::{Begin, CallStatement, Lead, Parameters, Place, Run, Variables};
 use user_model::{Answer, Call};
 use win_num::Frame;
 
@@ -67,29 +69,39 @@ fn begins_with(begin: Begin) -> Few
     Few::Three(settle, feed, Item::Making(begin.call))
 }
 
-/// What a statement without a body does, above the place behind it.
-pub fn statement(line: &Line, variables: &mut Variables, mode: &mut Mode) -> Few
+/// A statement that makes no call and begins no compound.
+pub fn quiet(line: &Line, variables: &mut Variables, mode: &mut Mode)
     requires { mode.old ≡ Mode.Going }
-    ensures small { IsAtMostFour result }
-    ensures plain { ArePlain (few_items result) }
-    ensures step { (line' : Statement) (n : ℕ) → Says line.now line' → Becomes (above (few_items result)) (state_of variables.new mode.new) ≡ statement_of line' variables.old n }
+    ensures { (line' : Statement) (n : ℕ) → IsQuiet line.now → Says line.now line' → Becomes [] (state_of variables.new mode.new) ≡ statement_of line' variables.old n }
 {
     match line {
         Line::Let(letter, operand) => {
             let value = operand.value(variables);
             variables.assign(*letter, value);
-            Few::Nothing
         }
         Line::Compute(letter, left, operator, right) => {
             let value = operator.compute(left.value(variables), right.value(variables));
             variables.assign(*letter, value);
-            Few::Nothing
         }
-        Line::Return(operand) => {
-            *mode = Mode::Returning(operand.value(variables));
-            Few::Nothing
-        }
-        Line::Call(call) => makes(call.call(variables)),
+        Line::Return(operand) => *mode = Mode::Returning(operand.value(variables)),
+        _ => {}
+    }
+}
+
+/// The call of a statement, which settles what it is answered.
+pub fn called(statement: &CallStatement, variables: &Variables) -> Call
+    ensures { (line' : Statement) (n : ℕ) → Says (Line.Call statement.now) line' → Becomes (above (Item.Settle result ∷ Item.Making result ∷ [])) (Going variables.now) ≡ statement_of line' variables.now n }
+{
+    statement.call(variables)
+}
+
+/// What a statement does that begins a compound or a `sleep`, above the place behind it.
+pub fn statement(line: &Line, variables: &Variables) -> Few
+    ensures small { IsAtMostFour result }
+    ensures plain { ArePlain (few_items result) }
+    ensures step { (line' : Statement) (n : ℕ) → IsCompound line.now → Says line.now line' → Becomes (above (few_items result)) (Going variables.now) ≡ statement_of line' variables.now n }
+{
+    match line {
         Line::Sleep(ms) => {
             let sleeping = Item::Sleeping(ms.value(variables));
             Few::Two(sleeping, Item::Making(Call::Clock))
@@ -118,14 +130,14 @@ fn leaves(run: Run, value: u64) -> Few
 }
 
 /// The step of an item that gets nothing.
-pub fn going(item: Item, variables: &mut Variables, mode: &mut Mode) -> Few
+fn going(item: &Item, variables: &mut Variables, mode: &mut Mode) -> Few
     requires going { mode.old ≡ Mode.Going }
-    requires plain { IsPlain item }
-    requires silent { IsSilent item Mode.Going }
+    requires plain { IsPlain item.now }
+    requires silent { IsSilent item.now Mode.Going }
     ensures plain { ArePlain (few_items result) }
-    ensures step { (s : Tree) (n : ℕ) → Becomes (above (few_items result)) (state_of variables.new mode.new) ≡ begins s (piece item) variables.old n }
+    ensures step { (s : Tree) (n : ℕ) → Becomes (above (few_items result)) (state_of variables.new mode.new) ≡ begins s (piece item.now) variables.old n }
 {
-    match item {
+    match *item {
         Item::Leaving(run) => {
             if is_callback(run.frame) {
                 return leaves(run, 0);
@@ -145,14 +157,14 @@ pub fn going(item: Item, variables: &mut Variables, mode: &mut Mode) -> Few
 }
 
 /// The step of an item that gets the value of a `return` or the result of a procedure.
-pub fn returning(item: Item, variables: &mut Variables, mode: &mut Mode, value: u64) -> Few
+fn returning(item: &Item, variables: &mut Variables, mode: &mut Mode, value: u64) -> Few
     requires returning { mode.old ≡ Mode.Returning value }
-    requires plain { IsPlain item }
-    requires silent { IsSilent item (Mode.Returning value) }
+    requires plain { IsPlain item.now }
+    requires silent { IsSilent item.now (Mode.Returning value) }
     ensures plain { ArePlain (few_items result) }
-    ensures step { Becomes (above (few_items result)) (state_of variables.new mode.new) ≡ returns_to (piece item) variables.old value }
+    ensures step { Becomes (above (few_items result)) (state_of variables.new mode.new) ≡ returns_to (piece item.now) variables.old value }
 {
-    match item {
+    match *item {
         Item::Again(call) => {
             *mode = Mode::Going;
             Few::Single(Item::Making(call))
@@ -205,28 +217,14 @@ fn compound(next: Lead, mode: &mut Mode) -> Few
 }
 
 /// The step of an item that gets the answer to a call and its result.
-pub fn given(
-    item: Item,
-    variables: &mut Variables,
-    mode: &mut Mode,
-    answer: Answer,
-    value: u64,
-) -> Few
+fn given(item: &Item, variables: &mut Variables, mode: &mut Mode, answer: Answer, value: u64) -> Few
     requires given { mode.old ≡ Mode.Given answer value }
-    requires plain { IsPlain item }
+    requires plain { IsPlain item.now }
+    requires unsettled { SettlesNothing item.now mode.old }
     ensures plain { ArePlain (few_items result) }
-    ensures step { Becomes (above (few_items result)) (state_of variables.new mode.new) ≡ takes (piece item) variables.old answer value }
+    ensures step { Becomes (above (few_items result)) (state_of variables.new mode.new) ≡ takes (piece item.now) variables.old answer value }
 {
-    match item {
-        Item::Settle(call) => {
-            variables.settle(&call, &answer, value);
-            *mode = Mode::Going;
-            Few::Nothing
-        }
-        Item::Quiet => {
-            *mode = Mode::Going;
-            Few::Nothing
-        }
+    match *item {
         Item::Sleeping(ms) => {
             variables.settle(&Call::Clock, &answer, value);
             *mode = Mode::Going;
@@ -244,12 +242,27 @@ pub fn given(
     }
 }
 
+/// An item that ends a statement: an answer sets what it says, and anything else goes on to the next.
+pub fn settled(item: &Item, variables: &mut Variables, mode: &mut Mode)
+    requires handed { mode.old ≢ Mode.Going }
+    ensures { (s : Tree) (n : ℕ) → IsSettling item.now → Becomes [] (state_of variables.new mode.new) ≡ step s (piece item.now) (state_of variables.old mode.old) n }
+{
+    let Mode::Given(answer, value) = mode else {
+        return;
+    };
+    if let Item::Settle(call) = item {
+        variables.settle(call, answer, *value);
+    }
+    *mode = Mode::Going;
+}
+
 /// The step of an item without a place in the program.
-pub fn plain(item: Item, variables: &mut Variables, mode: &mut Mode) -> Few
-    requires plain { IsPlain item }
-    requires silent { IsSilent item mode.old }
+pub fn plain(item: &Item, variables: &mut Variables, mode: &mut Mode) -> Few
+    requires plain { IsPlain item.now }
+    requires silent { IsSilent item.now mode.old }
+    requires unsettled { SettlesNothing item.now mode.old }
     ensures plain { ArePlain (few_items result) }
-    ensures step { (s : Tree) (n : ℕ) → Becomes (above (few_items result)) (state_of variables.new mode.new) ≡ step s (piece item) (state_of variables.old mode.old) n }
+    ensures step { (s : Tree) (n : ℕ) → Becomes (above (few_items result)) (state_of variables.new mode.new) ≡ step s (piece item.now) (state_of variables.old mode.old) n }
 {
     match *mode {
         Mode::Going => going(item, variables, mode),

@@ -1,16 +1,18 @@
 //! What items do, those that have a place in the program and the others.
 
-ghost use Rattle.std.specs.Prelude.{◌≡◌, ◌+◌, ◌-◌, ◌<◌, ◌∷◌, ◌^◌, ℕ, min, if◌then◌else◌};
+ghost use Rattle.std.specs.Prelude.{◌≡◌, ◌≢◌, ◌+◌, ◌-◌, ◌<◌, ◌≤◌, [], ◌∷◌, ◌++◌, ◌^◌, ℕ, List, min, if◌then◌else◌, vec_len, vec_capacity};
 ghost use Rattle.script_tree.specs.Values.{holds as holds_of};
 ghost use Rattle.script_tree.specs.Pieces.{Going};
 ghost use Rattle.script_tree.specs.declared.variables.Variables.{Variables};
 ghost use Rattle.script_proc.specs.declared.program.Program.{Program};
-ghost use Rattle.script_proc.specs.Items.{state_of, few_items, IsAtMostFour, IsSilent};
-ghost use Rattle.script_proc.specs.Works.{Moves};
+ghost use Rattle.script_proc.specs.declared.item.Item.{Item};
+ghost use Rattle.script_proc.specs.Items.{state_of, few_items, IsAtMostFour, IsPlain, IsSilent, SettlesNothing};
+ghost use Rattle.script_proc.specs.Works.{Last, Puts, Steps};
 
 use crate::item::{Few, Item, Mode};
-use crate::moves::{plain, statement};
+use crate::moves::{called, plain, quiet, settled, statement};
 use crate::program::{Line, Program};
+use crate::top::{drop_last, put_one, put_three, put_two, set_last};
 use script_tree::{Run, Test, Variables};
 use user_model::Call;
 
@@ -38,117 +40,227 @@ fn on_top_of(below: Item, few: Few) -> Few
 }
 
 /// The `while` at a place: a pass comes next, or what stands behind it.
-fn while_at(at: usize, test: &Test, passed: usize, variables: &Variables, used: u32) -> Few
-    requires { at < 2 ^ 64 - 1 }
-    ensures { result ≡ (if holds_of test.now variables.now then Few.Two (Item.PassEnd at used) (Item.At (at + 1)) else Few.Single (Item.At (min (at + 1 + passed) (2 ^ 64 - 1)))) }
+fn while_at(
+    items: &mut Vec<Item>,
+    at: usize,
+    test: &Test,
+    passed: usize,
+    variables: &Variables,
+    used: u32,
+)
+    requires room { vec_len items.old + 4 ≤ vec_capacity items.old }
+    requires some { items.old.items ≢ [] }
+    requires short { at < 2 ^ 64 - 1 }
+    ensures { (below : List Item) (item : Item) → items.old.items ≡ below ++ item ∷ [] → items.new.items ≡ below ++ (if holds_of test.now variables.now then Item.PassEnd at used ∷ Item.At (at + 1) ∷ [] else Item.At (min (at + 1 + passed) (2 ^ 64 - 1)) ∷ []) }
 {
     if test.holds(variables) {
-        Few::Two(Item::PassEnd(at, used), Item::At(at + 1))
+        put_two(items, Item::PassEnd(at, used), Item::At(at + 1));
     } else {
-        Few::Single(Item::At(behind(at, passed)))
+        put_one(items, Item::At(behind(at, passed)));
     }
+}
+
+/// A statement that begins a compound or a `sleep`, over the place behind it.
+fn begins(items: &mut Vec<Item>, at: usize, line: &Line, variables: &Variables)
+    requires room { vec_len items.old + 4 ≤ vec_capacity items.old }
+    requires some { items.old.items ≢ [] }
+    requires short { at < 2 ^ 64 - 1 }
+    ensures { (below : List Item) (item : Item) → items.old.items ≡ below ++ item ∷ [] → Puts line.now at variables.now below items.new.items }
+{
+    let few = on_top_of(Item::At(at + 1), statement(line, variables));
+    set_last(items, &few);
+}
+
+/// A statement that makes one call, over the place behind it.
+fn calls(items: &mut Vec<Item>, at: usize, call: Call)
+    requires room { vec_len items.old + 4 ≤ vec_capacity items.old }
+    requires some { items.old.items ≢ [] }
+    requires short { at < 2 ^ 64 - 1 }
+    ensures { (below : List Item) (item : Item) → items.old.items ≡ below ++ item ∷ [] → items.new.items ≡ below ++ Item.At (at + 1) ∷ Item.Settle call ∷ Item.Making call ∷ [] }
+{
+    put_three(
+        items,
+        Item::At(at + 1),
+        Item::Settle(call),
+        Item::Making(call),
+    );
 }
 
 /// The line at a place of the program.
 fn line_at(
     program: &Program,
+    items: &mut Vec<Item>,
     at: usize,
     variables: &mut Variables,
     mode: &mut Mode,
     used: u32,
-) -> Few
-    requires { mode.old ≡ Mode.Going }
-    ensures { Moves program.now used (Item.At at) (Going variables.old) (few_items result) (state_of variables.new mode.new) }
+)
+    requires going { mode.old ≡ Mode.Going }
+    requires room { vec_len items.old + 4 ≤ vec_capacity items.old }
+    requires some { items.old.items ≢ [] }
+    ensures { (below : List Item) → items.old.items ≡ below ++ Item.At at ∷ [] → Steps program.now used items.old.items (Going variables.old) items.new.items (state_of variables.new mode.new) }
 {
     let Some(line) = program.lines().get(at) else {
-        return Few::Nothing;
+        drop_last(items);
+        return;
     };
     match line {
         Line::If(test, passed) => {
             if test.holds(variables) {
-                Few::Single(Item::At(at + 1))
+                put_one(items, Item::At(at + 1));
             } else {
-                Few::Single(Item::At(behind(at, *passed)))
+                put_one(items, Item::At(behind(at, *passed)));
             }
         }
-        Line::Else(passed) => Few::Single(Item::At(behind(at, *passed))),
-        Line::While(test, passed) => while_at(at, test, *passed, variables, used),
-        Line::End => Few::Nothing,
-        _ => on_top_of(Item::At(at + 1), statement(line, variables, mode)),
+        Line::Else(passed) => put_one(items, Item::At(behind(at, *passed))),
+        Line::While(test, passed) => while_at(items, at, test, *passed, variables, used),
+        Line::End => drop_last(items),
+        Line::Call(statement) => calls(items, at, called(statement, variables)),
+        Line::Let(_, _) | Line::Compute(_, _, _, _) | Line::Return(_) => {
+            quiet(line, variables, mode);
+            put_one(items, Item::At(at + 1));
+        }
+        _ => begins(items, at, line, variables),
     }
 }
 
 /// The `while` at a place once more.
-fn once(program: &Program, at: usize, variables: &Variables, used: u32) -> Few
-    ensures { Moves program.now used (Item.Once at) (Going variables.now) (few_items result) (Going variables.now) }
+fn once(program: &Program, items: &mut Vec<Item>, at: usize, variables: &Variables, used: u32)
+    requires room { vec_len items.old + 4 ≤ vec_capacity items.old }
+    requires some { items.old.items ≢ [] }
+    ensures { (below : List Item) → items.old.items ≡ below ++ Item.Once at ∷ [] → Steps program.now used items.old.items (Going variables.now) items.new.items (Going variables.now) }
 {
     let Some(line) = program.lines().get(at) else {
-        return Few::Nothing;
+        drop_last(items);
+        return;
     };
     match line {
-        Line::While(test, passed) => while_at(at, test, *passed, variables, used),
-        _ => Few::Nothing,
+        Line::While(test, passed) => while_at(items, at, test, *passed, variables, used),
+        _ => drop_last(items),
     }
 }
 
 /// The end of a pass: without an entry in it comes a `yield`, and then the test again.
-fn pass_end(at: usize, began: u32, used: u32) -> Few
-    ensures { (p : Program) (v : Variables) → Moves p used (Item.PassEnd at began) (Going v) (few_items result) (Going v) }
+fn pass_end(items: &mut Vec<Item>, at: usize, began: u32, used: u32)
+    requires room { vec_len items.old + 4 ≤ vec_capacity items.old }
+    requires some { items.old.items ≢ [] }
+    ensures { (below : List Item) (p : Program) (v : Variables) → items.old.items ≡ below ++ Item.PassEnd at began ∷ [] → Steps p used items.old.items (Going v) items.new.items (Going v) }
 {
     if used == began {
-        Few::Three(Item::Once(at), Item::Quiet, Item::Making(Call::Yield))
+        put_three(
+            items,
+            Item::Once(at),
+            Item::Quiet,
+            Item::Making(Call::Yield),
+        );
     } else {
-        Few::Single(Item::Once(at))
+        put_one(items, Item::Once(at));
     }
 }
 
 /// A procedure begins to run.
-fn running(program: &Program, run: Run, variables: &mut Variables) -> Few
-    ensures { (n : ℕ) → Moves program.now n (Item.Running run) (Going variables.old) (few_items result) (Going variables.new) }
+fn running(program: &Program, items: &mut Vec<Item>, run: Run, variables: &mut Variables)
+    requires room { vec_len items.old + 4 ≤ vec_capacity items.old }
+    requires some { items.old.items ≢ [] }
+    ensures { (below : List Item) (n : ℕ) → items.old.items ≡ below ++ Item.Running run ∷ [] → Steps program.now n items.old.items (Going variables.old) items.new.items (Going variables.new) }
 {
     let restore = Item::Restore(variables.parameters);
     variables.parameters = run.parameters;
     let body = Item::At(program.procedure(run.procedure));
-    Few::Three(restore, Item::Leaving(run), body)
+    put_three(items, restore, Item::Leaving(run), body);
 }
 
-/// The step of an item that gets nothing.
+/// The step of the last item, which has no place in the program and settles nothing.
+fn placeless(items: &mut Vec<Item>, variables: &mut Variables, mode: &mut Mode)
+    requires room { vec_len items.old + 4 ≤ vec_capacity items.old }
+    requires some { items.old.items ≢ [] }
+    requires plain { Last items.old.items IsPlain }
+    requires silent { Last items.old.items (λ item. IsSilent item mode.old) }
+    requires unsettled { Last items.old.items (λ item. SettlesNothing item mode.old) }
+    ensures { (p : Program) (n : ℕ) → Steps p n items.old.items (state_of variables.old mode.old) items.new.items (state_of variables.new mode.new) }
+{
+    let Some(item) = items.last() else {
+        return;
+    };
+    let few = plain(item, variables, mode);
+    set_last(items, &few);
+}
+
+/// The step of the last item where it gets nothing.
 fn going(
     program: &Program,
-    item: &Item,
+    items: &mut Vec<Item>,
     variables: &mut Variables,
     mode: &mut Mode,
     used: u32,
-) -> Few
+)
     requires going { mode.old ≡ Mode.Going }
-    requires silent { IsSilent item.now mode.old }
-    ensures { Moves program.now used item.now (Going variables.old) (few_items result) (state_of variables.new mode.new) }
+    requires room { vec_len items.old + 4 ≤ vec_capacity items.old }
+    requires some { items.old.items ≢ [] }
+    requires silent { Last items.old.items (λ item. IsSilent item mode.old) }
+    ensures { Steps program.now used items.old.items (Going variables.old) items.new.items (state_of variables.new mode.new) }
 {
-    match *item {
-        Item::At(at) => line_at(program, at, variables, mode, used),
-        Item::Once(at) => once(program, at, variables, used),
-        Item::PassEnd(at, began) => pass_end(at, began, used),
-        Item::Running(run) => running(program, run, variables),
-        _ => plain(*item, variables, mode),
+    let Some(item) = items.last() else {
+        return;
+    };
+    match item {
+        Item::At(at) => {
+            let at = *at;
+            line_at(program, items, at, variables, mode, used);
+        }
+        Item::Once(at) => {
+            let at = *at;
+            once(program, items, at, variables, used);
+        }
+        Item::PassEnd(at, began) => {
+            let at = *at;
+            let began = *began;
+            pass_end(items, at, began, used);
+        }
+        Item::Running(run) => {
+            let run = *run;
+            running(program, items, run, variables);
+        }
+        _ => placeless(items, variables, mode),
     }
 }
 
-/// The step of an item that makes no call now: it becomes a few others.
+/// The step of the last item where it is handed something: one that has a place hands it on.
+fn handed(items: &mut Vec<Item>, variables: &mut Variables, mode: &mut Mode)
+    requires handed { mode.old ≢ Mode.Going }
+    requires room { vec_len items.old + 4 ≤ vec_capacity items.old }
+    requires some { items.old.items ≢ [] }
+    requires silent { Last items.old.items (λ item. IsSilent item mode.old) }
+    ensures { (p : Program) (n : ℕ) → Steps p n items.old.items (state_of variables.old mode.old) items.new.items (state_of variables.new mode.new) }
+{
+    let Some(item) = items.last() else {
+        return;
+    };
+    match item {
+        Item::Settle(_) | Item::Quiet => {
+            settled(item, variables, mode);
+            drop_last(items);
+        }
+        Item::At(_) | Item::Once(_) | Item::PassEnd(_, _) | Item::Running(_) => drop_last(items),
+        _ => placeless(items, variables, mode),
+    }
+}
+
+/// The step of the last item, which makes no call now: a few others come in its place.
 pub fn step(
     program: &Program,
-    item: &Item,
+    items: &mut Vec<Item>,
     variables: &mut Variables,
     mode: &mut Mode,
     used: u32,
-) -> Few
-    requires { IsSilent item.now mode.old }
-    ensures { Moves program.now used item.now (state_of variables.old mode.old) (few_items result) (state_of variables.new mode.new) }
+)
+    requires room { vec_len items.old + 4 ≤ vec_capacity items.old }
+    requires some { items.old.items ≢ [] }
+    requires silent { Last items.old.items (λ item. IsSilent item mode.old) }
+    ensures { Steps program.now used items.old.items (state_of variables.old mode.old) items.new.items (state_of variables.new mode.new) }
 {
     match mode {
-        Mode::Going => going(program, item, variables, mode, used),
-        _ => match *item {
-            Item::At(_) | Item::Once(_) | Item::PassEnd(_, _) | Item::Running(_) => Few::Nothing,
-            _ => plain(*item, variables, mode),
-        },
+        Mode::Going => going(program, items, variables, mode, used),
+        _ => handed(items, variables, mode),
     }
 }

@@ -1,11 +1,13 @@
 //! What follows a call and its answer.
 
-ghost use Rattle.std.specs.Prelude.{◌≡◌, IfNone, IfSome, Some};
-ghost use Rattle.script_tree.specs.Steps.{follows, answered, following as following_of, after_answer, given as given_of, is_last as is_last_of, parameters_of, parameters_from};
+ghost use Rattle.std.specs.Prelude.{◌≡◌, ◌≢◌, ◌+◌, ◌≤◌, [], ◌∷◌, ◌++◌, List, false, IfNone, IfSome, Some, vec_len, vec_capacity};
+ghost use Rattle.script_tree.specs.Steps.{follows, answered, given as given_of, is_last as is_last_of, parameters_of, parameters_from};
 ghost use Rattle.user_model.specs.Stacks.{leaves as leaves_of, waits as waits_of};
-ghost use Rattle.script_proc.specs.Items.{told as told_by, above, few_items, state_of, asks, IsSilent, ArePlaceless};
+ghost use Rattle.script_proc.specs.declared.item.Item.{Item};
+ghost use Rattle.script_proc.specs.Items.{told as told_by, above, few_items, state_of, asks, hands_on as hands_on_of, IsSilent, ArePlaceless};
 
 use crate::item::{Few, Item, Mode};
+use crate::top::{drop_last, set_last};
 use script_tree::{Parameters, Run, Variables, result_of};
 use user_model::{Answer, Call};
 use win_num::Frame;
@@ -105,14 +107,28 @@ fn told(answer: &Answer) -> Parameters
     }
 }
 
-/// The answer is handed on.
-fn gives(answer: Answer, variables: &mut Variables, mode: &mut Mode) -> Few
-    ensures items { result ≡ Few.Nothing }
-    ensures state { state_of variables.new mode.new ≡ given_of variables.old answer }
+/// The answer is handed on: nothing comes in the place of the last item.
+fn gives(items: &mut Vec<Item>, answer: &Answer, variables: &mut Variables, mode: &mut Mode)
+    requires { items.old.items ≢ [] }
+    ensures items { (below : List Item) (item : Item) → items.old.items ≡ below ++ item ∷ [] → items.new.items ≡ below }
+    ensures state { state_of variables.new mode.new ≡ given_of variables.old answer.now }
 {
-    variables.receive(&answer);
-    *mode = Mode::Given(answer, result_of(&answer));
-    Few::Nothing
+    variables.receive(answer);
+    *mode = Mode::Given(*answer, result_of(answer));
+    drop_last(items);
+}
+
+/// Whether the answer is handed on at once: no procedure runs for it, and no call is made for it again.
+fn hands_on(call: &Call, answer: &Answer) -> bool
+    ensures { result ≡ hands_on_of call.now answer.now }
+{
+    match answer {
+        Answer::Wait => false,
+        Answer::Enter { .. } | Answer::Callback { .. } => is_last(call),
+        Answer::Inside(_, _) | Answer::Called(_) => is_last(call),
+        Answer::Begun(_) => { if is_last(call) { true } else { !waits(call) } }
+        _ => true,
+    }
 }
 
 /// A procedure runs, and then this is left.
@@ -127,14 +143,13 @@ fn runs(procedure: u32, parameters: Parameters, frame: Frame, then: Item) -> Few
     Few::Two(then, Item::Running(run))
 }
 
-/// What follows an answer other than `wait` to a call that isn't the last of its thread.
-fn following(call: Call, answer: Answer, variables: &mut Variables, mode: &mut Mode) -> Few
-    requires { mode.old ≡ Mode.Going }
+/// What follows an answer that isn't handed on: after `wait` the same call.
+fn following(call: Call, answer: Answer) -> Few
     ensures placeless { ArePlaceless (few_items result) }
-    ensures pieces { above (few_items result) ≡ following_of call answer }
-    ensures state { state_of variables.new mode.new ≡ after_answer call answer variables.old }
+    ensures pieces { hands_on_of call answer ≡ false → above (few_items result) ≡ follows call answer }
 {
     match answer {
+        Answer::Wait => Few::Single(Item::Making(call)),
         Answer::Enter { send, proc_no, .. } => {
             let message = told(&answer);
             runs(proc_no, message, Frame::Entered(send), Item::Again(call))
@@ -157,32 +172,38 @@ fn following(call: Call, answer: Answer, variables: &mut Variables, mode: &mut M
             let giving = Item::Giving(answer);
             runs(proc_no, parameters(&call), Frame::Called, giving)
         }
-        Answer::Begun(send) => {
-            if waits(&call) {
-                Few::Single(Item::Making(Call::Await(u64::from(send.0))))
-            } else {
-                gives(answer, variables, mode)
-            }
-        }
-        _ => gives(answer, variables, mode),
+        Answer::Begun(send) => Few::Single(Item::Making(Call::Await(u64::from(send.0)))),
+        _ => Few::Nothing,
     }
 }
 
-/// What follows a call and its answer: after `wait` the same call, after the last call nothing.
-pub fn follow(call: Call, answer: Answer, variables: &mut Variables, mode: &mut Mode) -> Few
-    ensures placeless { ArePlaceless (few_items result) }
-    ensures pieces { above (few_items result) ≡ follows call answer }
-    ensures state { state_of variables.new mode.new ≡ answered call answer variables.old }
+/// The items of what follows, in the place of the last.
+fn goes_on(items: &mut Vec<Item>, call: &Call, answer: &Answer)
+    requires room { vec_len items.old + 4 ≤ vec_capacity items.old }
+    requires some { items.old.items ≢ [] }
+    ensures { (below : List Item) (item : Item) → items.old.items ≡ below ++ item ∷ [] → hands_on_of call.now answer.now ≡ false → (few : List Item) × (items.new.items ≡ below ++ few) × ArePlaceless few × (above few ≡ follows call.now answer.now) }
 {
-    *mode = Mode::Going;
-    match answer {
-        Answer::Wait => Few::Single(Item::Making(call)),
-        _ => {
-            if is_last(&call) {
-                gives(answer, variables, mode)
-            } else {
-                following(call, answer, variables, mode)
-            }
-        }
+    let few = following(*call, *answer);
+    set_last(items, &few);
+}
+
+/// What follows a call and its answer, in the place of the item that made the call.
+pub fn follow(
+    items: &mut Vec<Item>,
+    call: &Call,
+    answer: &Answer,
+    variables: &mut Variables,
+    mode: &mut Mode,
+)
+    requires room { vec_len items.old + 4 ≤ vec_capacity items.old }
+    requires some { items.old.items ≢ [] }
+    ensures items { (below : List Item) (item : Item) → items.old.items ≡ below ++ item ∷ [] → (few : List Item) × (items.new.items ≡ below ++ few) × ArePlaceless few × (above few ≡ follows call.now answer.now) }
+    ensures state { state_of variables.new mode.new ≡ answered call.now answer.now variables.old }
+{
+    if hands_on(call, answer) {
+        gives(items, answer, variables, mode);
+    } else {
+        *mode = Mode::Going;
+        goes_on(items, call, answer);
     }
 }

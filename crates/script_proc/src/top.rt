@@ -7,6 +7,44 @@ ghost use Rattle.script_proc.specs.Items.{few_items};
 use crate::item::{Few, Item};
 use std::alloc::AllocError;
 
+/// Takes the last item away.
+pub fn drop_last(items: &mut Vec<Item>)
+    requires { items.old.items ≢ [] }
+    ensures { (below : List Item) (item : Item) → items.old.items ≡ below ++ item ∷ [] → items.new.items ≡ below }
+{
+    items.pop();
+}
+
+/// Puts an item in the place of the last.
+pub fn put_one(items: &mut Vec<Item>, first: Item)
+    requires { items.old.items ≢ [] }
+    ensures room { (vec_len items.new ≡ vec_len items.old) × (vec_capacity items.new ≡ vec_capacity items.old) }
+    ensures items { (below : List Item) (item : Item) → items.old.items ≡ below ++ item ∷ [] → items.new.items ≡ below ++ first ∷ [] }
+{
+    let last = items.len() - 1;
+    items[last] = first;
+}
+
+/// Puts two items in the place of the last, the second on top, where there is room.
+pub fn put_two(items: &mut Vec<Item>, first: Item, second: Item)
+    requires room { vec_len items.old + 4 ≤ vec_capacity items.old }
+    requires some { items.old.items ≢ [] }
+    ensures { (below : List Item) (item : Item) → items.old.items ≡ below ++ item ∷ [] → items.new.items ≡ below ++ first ∷ second ∷ [] }
+{
+    put_one(items, first);
+    let _ = items.extend_from_slice(&[second]);
+}
+
+/// Puts three items in the place of the last, the third on top, where there is room.
+pub fn put_three(items: &mut Vec<Item>, first: Item, second: Item, third: Item)
+    requires room { vec_len items.old + 4 ≤ vec_capacity items.old }
+    requires some { items.old.items ≢ [] }
+    ensures { (below : List Item) (item : Item) → items.old.items ≡ below ++ item ∷ [] → items.new.items ≡ below ++ first ∷ second ∷ third ∷ [] }
+{
+    put_one(items, first);
+    let _ = items.extend_from_slice(&[second, third]);
+}
+
 /// Puts a few items in the place of the last.
 fn replace_last(items: &mut Vec<Item>, few: &Few) -> Result<(), AllocError>
     requires { items.old.items ≢ [] }

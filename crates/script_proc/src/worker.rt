@@ -12,7 +12,6 @@ use crate::item::{Item, Mode};
 use crate::places::step;
 use crate::program::Program;
 use crate::replies::{asked, follow};
-use crate::top::set_last;
 use script_tree::Variables;
 use std::alloc::{AllocError, Global};
 use user_model::{Answer, Call};
@@ -32,7 +31,8 @@ pub struct Worker {
 impl Worker {
     ghost use Rattle.script_proc.specs.Workers.{IsWorkerOf, IsAt, thread_of, uses, end_of};
 
-    /// The program of a thread, from 1, at its beginning.
+    /// The worker of a thread, from 1, at the beginning of its body in that program. `AllocError` comes
+    /// only for want of memory.
     pub fn new(alloc: Global, program: &Program, thread: u8) -> Result<Worker, AllocError>
         ensures { IfOk result (λ w. (s : Tree) → IsProgramOf s program.now → IsWorkerOf s program.now thread [] w) }
     {
@@ -63,7 +63,8 @@ impl Worker {
     }
 
     /// Goes on to the next call, None exactly where the program has ended. It has made no entry, also
-    /// where memory is wanting, and may then be asked again.
+    /// where memory is wanting, and may then be asked again. It is asked with the program that it was made
+    /// with.
     pub fn next_call(&mut self, program: &Program) -> Result<Option<Call>, AllocError>
         ensures worker { (s : Tree) (t : ℕ) (tr : Trace) → IsWorkerOf s program.now t tr self.old → IsWorkerOf s program.now t tr self.new }
         ensures next { IfOk result (λ next. (s : Tree) (t : ℕ) (tr : Trace) → IsWorkerOf s program.now t tr self.old → IsTrace s t tr (end_of next)) }
@@ -89,8 +90,13 @@ impl Worker {
         ensures thread { thread_of self.new ≡ thread_of self.old }
     {
         self.used += 1;
-        let few = follow(call, answer, &mut self.variables, &mut self.mode);
-        set_last(&mut self.items, &few);
+        follow(
+            &mut self.items,
+            &call,
+            &answer,
+            &mut self.variables,
+            &mut self.mode,
+        );
     }
 }
 
@@ -115,7 +121,6 @@ fn settle(
         if let Some(call) = asked(item, mode) {
             return Ok(Some(call));
         }
-        let few = step(program, item, variables, mode, used);
-        set_last(items, &few);
+        step(program, items, variables, mode, used);
     }
 }

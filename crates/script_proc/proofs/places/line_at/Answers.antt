@@ -1,59 +1,177 @@
-use Rattle.std.proofs.Common.{◌≤◌, ◌+◌, ◌^◌, ◌-◌, min, [], length, Some, refl, sym, ap, ◌∙◌, rules, arith}
-use Rattle.std.specs.Prelude.{slice_get}
+use Rattle.std.proofs.Common.{◌≤◌, ◌+◌, ◌^◌, ◌-◌, min, [], ◌∷◌, length, Some, refl, sym, ap, ◌∙◌, arith, append-nil}
+use Rattle.std.specs.Prelude.{slice_get, if◌then◌else◌}
 use Rattle.std.proofs.lemmas.Option.{slice_get_read, slice_get_past}
 use Rattle.script_tree.specs.Pieces.{Going}
 use Rattle.script_tree.specs.Values.{holds}
-use Rattle.script_proc.specs.declared.item.Item.TheVariants.{At}
-use Rattle.script_proc.specs.Items.{few_items, state_of}
-use Rattle.script_proc.proofs.StandLaws.{IsSimple, is_simple}
-use Rattle.script_proc.proofs.ItemLaws.{past_moves, then_moves, otherwise_moves, else_moves, while_moves, end_moves, simple_moves, in_going, while_is}
+use Rattle.script_proc.specs.declared.item.Item.TheVariants.{At, PassEnd, Settle, Making}
+use Rattle.script_proc.specs.declared.program.Line.TheVariants.{Call}
+use Rattle.script_proc.specs.Items.{state_of}
+use Rattle.script_proc.proofs.StandLaws.{IsSimple, is_simple, is_compound, is_quiet}
+use Rattle.script_proc.proofs.ItemLaws.{past_moves, then_moves, otherwise_moves, else_moves, while_moves, end_moves, simple_moves, in_going}
 use Rattle.script_proc.proofs.places.line_at.Goals as goal
 
 pub returns-in_default : goal.returns-in_default
-returns-in_default c =
-    let found = ap (λ xs. slice_get xs c.args.at) (sym c.lines.ensures) ∙ slice_get_past _ _ c.in_default.ensures.lookup.3 in
-    in_going c.args.program.now c.args.used (At c.args.at) [] (Going c.args.variables.now) c.args.variables.now c.args.mode.now c.requires (past_moves c.args.program.now c.args.used c.args.at c.args.variables.now found)
-
-pub returns-then-holds : goal.returns-then-holds
-returns-then-holds c =
-    let a = c.in-Some.ensures.lookup in
-    let found = ap (λ xs. slice_get xs c.args.at) (sym c.lines.ensures) ∙ slice_get_read c.lines.result.now _ c.args.at c.in-Some.line.now refl a.3.0 a.1 ∙ ap Some c.in-If.is in
-    in_going c.args.program.now c.args.used (At c.args.at) _ (Going c.args.variables.now) c.args.variables.now c.args.mode.now c.requires (then_moves c.args.program.now c.args.used c.args.at c.in-If.test c.in-If.passed c.args.variables.now found (sym c.holds.ensures ∙ c.if-holds.true))
-
-pub returns-else-holds : goal.returns-else-holds
-returns-else-holds c =
-    let a = c.in-Some.ensures.lookup in
-    let found = ap (λ xs. slice_get xs c.args.at) (sym c.lines.ensures) ∙ slice_get_read c.lines.result.now _ c.args.at c.in-Some.line.now refl a.3.0 a.1 ∙ ap Some c.in-If.is in
-    let short : length c.args.program.now.lines.items ≤ 2 ^ 64 - 1 = omega (arith, c.args.program.now.lines.ok) in
-    in_going c.args.program.now c.args.used (At c.args.at) _ (Going c.args.variables.now) c.args.variables.now c.args.mode.now c.requires (otherwise_moves c.args.program.now c.args.used c.args.at c.in-If.test c.in-If.passed (2 ^ 64 - 1) c.behind.result c.args.variables.now found (sym c.holds.ensures ∙ c.if-holds.false) short c.behind.ensures)
-
-pub returns-in-Else : goal.returns-in-Else
-returns-in-Else c =
-    let a = c.in-Some.ensures.lookup in
-    let found = ap (λ xs. slice_get xs c.args.at) (sym c.lines.ensures) ∙ slice_get_read c.lines.result.now _ c.args.at c.in-Some.line.now refl a.3.0 a.1 ∙ ap Some c.in-Else.is in
-    let short : length c.args.program.now.lines.items ≤ 2 ^ 64 - 1 = search rules in
-    in_going c.args.program.now c.args.used (At c.args.at) _ (Going c.args.variables.now) c.args.variables.now c.args.mode.now c.requires (else_moves c.args.program.now c.args.used c.args.at c.in-Else.passed (2 ^ 64 - 1) c.behind-in-Else.result c.args.variables.now found short c.behind-in-Else.ensures)
-
-pub returns-in-While : goal.returns-in-While
-returns-in-While c =
-    let a = c.in-Some.ensures.lookup in
-    let found = ap (λ xs. slice_get xs c.args.at) (sym c.lines.ensures) ∙ slice_get_read c.lines.result.now _ c.args.at c.in-Some.line.now refl a.3.0 a.1 ∙ ap Some c.in-While.is in
-    let short : length c.args.program.now.lines.items ≤ 2 ^ 64 - 1 = search rules in
+returns-in_default c below e =
     let p = c.args.program.now in
     let n = c.args.used in
     let v = c.args.variables.now in
-    let next = min (c.args.at + 1 + c.in-While.passed) (2 ^ 64 - 1) in
-    in_going p n (At c.args.at) _ (Going v) v c.args.mode.now c.requires (while_is p n c.args.at next (holds c.in-While.test v) c.while_at.result (At c.args.at) v c.while_at.ensures (while_moves p n c.args.at c.in-While.test c.in-While.passed (2 ^ 64 - 1) next v found short refl))
+    let at = c.args.at in
+    let found = ap (λ xs. slice_get xs c.args.at) (sym c.lines.ensures) ∙ slice_get_past _ _ c.in_default.ensures.lookup.3 in
+    record {
+      below = below;
+      item = At at;
+      few = [];
+      last = e;
+      put = c.drop_last.ensures below (At at) e ∙ sym (append-nil below);
+      moves = in_going p n (At at) [] (Going v) v c.args.mode.now c.requires.going (past_moves p n at v found);
+    }
+
+pub returns-then-holds : goal.returns-then-holds
+returns-then-holds c below e =
+    let p = c.args.program.now in
+    let n = c.args.used in
+    let v = c.args.variables.now in
+    let at = c.args.at in
+    let a = c.in-Some.ensures.lookup in
+    let found = ap (λ xs. slice_get xs c.args.at) (sym c.lines.ensures) ∙ slice_get_read c.lines.result.now _ c.args.at c.in-Some.line.now refl a.3.0 a.1 ∙ ap Some c.in-If.is in
+    record {
+      below = below;
+      item = At at;
+      few = At (at + 1) ∷ [];
+      last = e;
+      put = c.put_one.ensures.items below (At at) e;
+      moves = in_going p n (At at) (At (at + 1) ∷ []) (Going v) v c.args.mode.now c.requires.going (then_moves p n at c.in-If.test c.in-If.passed v found (sym c.holds.ensures ∙ c.if-holds.true));
+    }
+
+pub returns-else-holds : goal.returns-else-holds
+returns-else-holds c below e =
+    let p = c.args.program.now in
+    let n = c.args.used in
+    let v = c.args.variables.now in
+    let at = c.args.at in
+    let a = c.in-Some.ensures.lookup in
+    let found = ap (λ xs. slice_get xs c.args.at) (sym c.lines.ensures) ∙ slice_get_read c.lines.result.now _ c.args.at c.in-Some.line.now refl a.3.0 a.1 ∙ ap Some c.in-If.is in
+    let short : length c.args.program.now.lines.items ≤ 2 ^ 64 - 1 = omega (arith, c.args.program.now.lines.ok) in
+    record {
+      below = below;
+      item = At at;
+      few = At c.behind.result ∷ [];
+      last = e;
+      put = c.put_one-else-holds.ensures.items below (At at) e;
+      moves = in_going p n (At at) (At c.behind.result ∷ []) (Going v) v c.args.mode.now c.requires.going (otherwise_moves p n at c.in-If.test c.in-If.passed (2 ^ 64 - 1) c.behind.result v found (sym c.holds.ensures ∙ c.if-holds.false) short c.behind.ensures);
+    }
+
+pub returns-in-Else : goal.returns-in-Else
+returns-in-Else c below e =
+    let p = c.args.program.now in
+    let n = c.args.used in
+    let v = c.args.variables.now in
+    let at = c.args.at in
+    let a = c.in-Some.ensures.lookup in
+    let found = ap (λ xs. slice_get xs c.args.at) (sym c.lines.ensures) ∙ slice_get_read c.lines.result.now _ c.args.at c.in-Some.line.now refl a.3.0 a.1 ∙ ap Some c.in-Else.is in
+    let short : length c.args.program.now.lines.items ≤ 2 ^ 64 - 1 = omega (arith, c.args.program.now.lines.ok) in
+    record {
+      below = below;
+      item = At at;
+      few = At c.behind-in-Else.result ∷ [];
+      last = e;
+      put = c.put_one-in-Else.ensures.items below (At at) e;
+      moves = in_going p n (At at) (At c.behind-in-Else.result ∷ []) (Going v) v c.args.mode.now c.requires.going (else_moves p n at c.in-Else.passed (2 ^ 64 - 1) c.behind-in-Else.result v found short c.behind-in-Else.ensures);
+    }
+
+pub returns-in-While : goal.returns-in-While
+returns-in-While c below e =
+    let p = c.args.program.now in
+    let n = c.args.used in
+    let v = c.args.variables.now in
+    let at = c.args.at in
+    let a = c.in-Some.ensures.lookup in
+    let found = ap (λ xs. slice_get xs c.args.at) (sym c.lines.ensures) ∙ slice_get_read c.lines.result.now _ c.args.at c.in-Some.line.now refl a.3.0 a.1 ∙ ap Some c.in-While.is in
+    let short : length c.args.program.now.lines.items ≤ 2 ^ 64 - 1 = omega (arith, c.args.program.now.lines.ok) in
+    let next = min (at + 1 + c.in-While.passed) (2 ^ 64 - 1) in
+    let few = if holds c.in-While.test v then PassEnd at n ∷ At (at + 1) ∷ [] else At next ∷ [] in
+    record {
+      below = below;
+      item = At at;
+      few = few;
+      last = e;
+      put = c.while_at.ensures below (At at) e;
+      moves = in_going p n (At at) few (Going v) v c.args.mode.now c.requires.going (while_moves p n at c.in-While.test c.in-While.passed (2 ^ 64 - 1) next v found short refl);
+    }
 
 pub returns-in-End : goal.returns-in-End
-returns-in-End c =
+returns-in-End c below e =
+    let p = c.args.program.now in
+    let n = c.args.used in
+    let v = c.args.variables.now in
+    let at = c.args.at in
     let a = c.in-Some.ensures.lookup in
     let found = ap (λ xs. slice_get xs c.args.at) (sym c.lines.ensures) ∙ slice_get_read c.lines.result.now _ c.args.at c.in-Some.line.now refl a.3.0 a.1 ∙ ap Some c.in-End.is in
-    in_going c.args.program.now c.args.used (At c.args.at) [] (Going c.args.variables.now) c.args.variables.now c.args.mode.now c.requires (end_moves c.args.program.now c.args.used c.args.at c.args.variables.now found)
+    record {
+      below = below;
+      item = At at;
+      few = [];
+      last = e;
+      put = c.drop_last-in-End.ensures below (At at) e ∙ sym (append-nil below);
+      moves = in_going p n (At at) [] (Going v) v c.args.mode.now c.requires.going (end_moves p n at v found);
+    }
 
-pub returns-in_default-line : goal.returns-in_default-line
-returns-in_default-line c =
+pub returns-in-Call : goal.returns-in-Call
+returns-in-Call c below e =
+    let p = c.args.program.now in
+    let n = c.args.used in
+    let v = c.args.variables.now in
+    let at = c.args.at in
+    let a = c.in-Some.ensures.lookup in
+    let found = ap (λ xs. slice_get xs c.args.at) (sym c.lines.ensures) ∙ slice_get_read c.lines.result.now _ c.args.at c.in-Some.line.now refl a.3.0 a.1 ∙ ap Some c.in-Call.is in
+    let call = c.called.result in
+    let few = Settle call ∷ Making call ∷ [] in
+    record {
+      below = below;
+      item = At at;
+      few = At (at + 1) ∷ few;
+      last = e;
+      put = c.calls.ensures below (At at) e;
+      moves = in_going p n (At at) (At (at + 1) ∷ few) (Going v) v c.args.mode.now c.requires.going (simple_moves p n at (Call c.in-Call.statement) few (At (at + 1) ∷ few) v (Going v) found tt (tt, (tt, tt)) refl c.called.ensures);
+    }
+
+pub returns-in-Let : goal.returns-in-Let
+returns-in-Let c below e =
+    let p = c.args.program.now in
+    let n = c.args.used in
+    let v = c.args.variables.now in
+    let at = c.args.at in
     let a = c.in-Some.ensures.lookup in
     let found = ap (λ xs. slice_get xs c.args.at) (sym c.lines.ensures) ∙ slice_get_read c.lines.result.now _ c.args.at c.in-Some.line.now refl a.3.0 a.1 in
-    let simple : IsSimple c.in-Some.line.now = is_simple c.in-Some.line.now c.in_default-line.not-If c.in_default-line.not-Else c.in_default-line.not-While c.in_default-line.not-End in
-    simple_moves c.args.program.now c.args.used c.args.at c.in-Some.line.now (few_items c.statement.result) (few_items c.on_top_of.result) c.args.variables.now (state_of c.statement.new.variables c.statement.new.mode) found simple c.statement.ensures.plain c.on_top_of.ensures c.statement.ensures.step
+    let line = c.in-Some.line.now in
+    let kind = is_quiet line c.in-Let.is in
+    record {
+      below = below;
+      item = At at;
+      few = At (at + 1) ∷ [];
+      last = e;
+      put = c.put_one-in-Let.ensures.items below (At at) e;
+      moves = simple_moves p n at line [] (At (at + 1) ∷ []) v (state_of c.quiet.new.variables c.quiet.new.mode) found kind.1 tt refl (λ line' k. c.quiet.ensures line' k kind.0);
+    }
+
+pub returns-in_default-line : goal.returns-in_default-line
+returns-in_default-line c below e =
+    let p = c.args.program.now in
+    let n = c.args.used in
+    let v = c.args.variables.now in
+    let at = c.args.at in
+    let a = c.in-Some.ensures.lookup in
+    let found = ap (λ xs. slice_get xs c.args.at) (sym c.lines.ensures) ∙ slice_get_read c.lines.result.now _ c.args.at c.in-Some.line.now refl a.3.0 a.1 in
+    let line = c.in-Some.line.now in
+    let kind = c.in_default-line in
+    let simple : IsSimple line = is_simple line kind.not-If kind.not-Else kind.not-While kind.not-End in
+    let compound = is_compound line simple kind.not-Let kind.not-Compute kind.not-Return kind.not-Call in
+    let puts = c.begins.ensures below (At at) e in
+    record {
+      below = below;
+      item = At at;
+      few = At (at + 1) ∷ puts.0;
+      last = e;
+      put = puts.1;
+      moves = in_going p n (At at) (At (at + 1) ∷ puts.0) (Going v) v c.args.mode.now c.requires.going (simple_moves p n at line puts.0 (At (at + 1) ∷ puts.0) v (Going v) found simple puts.2 refl (λ line' k. puts.3 line' k compound));
+    }

@@ -1,5 +1,15 @@
+use Rattle.std.proofs.Common.{[], ◌∷◌}
+use Rattle.script_proc.specs.declared.item.Item.TheVariants.{At, Restore, Leaving, Running}
 use Rattle.script_proc.proofs.ItemLaws.{running_moves}
 use Rattle.script_proc.proofs.places.running.Goals as goal
 
 pub returns : goal.returns
-returns c n = running_moves c.args.program.now n c.args.run c.procedure.result c.args.variables.now c.procedure.ensures
+returns c below n e =
+    record {
+      below = below;
+      item = Running c.args.run;
+      few = Restore c.args.variables.now.parameters ∷ Leaving c.args.run ∷ At c.procedure.result ∷ [];
+      last = e;
+      put = c.put_three.ensures below (Running c.args.run) e;
+      moves = running_moves c.args.program.now n c.args.run c.procedure.result c.args.variables.now c.procedure.ensures;
+    }

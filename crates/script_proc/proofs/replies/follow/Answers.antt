@@ -1,12 +1,7 @@
-use Rattle.std.proofs.Common.{sym, ◌∙◌}
-use Rattle.script_proc.proofs.Following.{follows_so}
+use Rattle.std.proofs.Common.{[], sym, ◌∙◌, append-nil}
+use Rattle.script_proc.proofs.Following.{nothing_follows}
 use Rattle.script_proc.proofs.replies.follow.Goals as goal
 
-pub returns-else-is_last : goal.returns-else-is_last
-returns-else-is_last c =
-    let so = follows_so c.args.call c.args.answer c.args.variables.now c.in_default.not-Wait (sym c.is_last.ensures ∙ c.if-is_last.false) in
-    record {
-      placeless = c.following.ensures.placeless;
-      pieces = c.following.ensures.pieces ∙ sym so.0;
-      state = c.following.ensures.state ∙ sym so.1;
-    }
+pub returns-then-hands_on-clause-items : goal.returns-then-hands_on-clause-items
+returns-then-hands_on-clause-items c below item e =
+    ([], c.gives.ensures.items below item e ∙ sym (append-nil below), tt, nothing_follows c.args.call.now c.args.answer.now (sym c.hands_on.ensures ∙ c.if-hands_on.true))

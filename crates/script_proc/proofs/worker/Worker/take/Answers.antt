@@ -1,5 +1,5 @@
 use Rattle.std.proofs.Common.{[], ◌∷◌, ◌++◌, sym, subst, add-one, arith, length-append}
-use Rattle.script_proc.specs.Items.{state_of, few_items}
+use Rattle.script_proc.specs.Items.{state_of}
 use Rattle.script_proc.proofs.WorkerLaws.{Completes, entered}
 use Rattle.script_proc.proofs.worker.Worker.take.Goals as goal
 
@@ -8,11 +8,12 @@ returns-clause-worker c s p t past h =
     let w = c.args.self.now in
     let call = c.args.call in
     let a = c.args.answer in
-    let v = c.follow-few.new.variables in
-    let mode = c.follow-few.new.mode in
+    let v = c.follow.new.variables in
+    let mode = c.follow.new.mode in
     let r = c.requires.at.ready in
-    let new = c.set_last.new.items.items in
-    let e = entered p s t past w.items.items new (few_items c.follow-few.result) h.left w.variables v w.mode mode w.used call a r (c.set_last.ensures r.0 r.1 r.2) c.follow-few.ensures.placeless c.follow-few.ensures.pieces c.follow-few.ensures.state h.stands h.by in
+    let new = c.follow.new.items.items in
+    let f = c.follow.ensures.items r.0 r.1 r.2 in
+    let e = entered p s t past w.items.items new f.0 h.left w.variables v w.mode mode w.used call a r f.1 f.2 f.3 c.follow.ensures.state h.stands h.by in
     record {
       program = h.program;
       left = e.0;
