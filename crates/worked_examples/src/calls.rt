@@ -188,12 +188,12 @@ pub fn a_full_queue_refuses(alloc: Global) -> Result<bool, AllocError> {
     ];
     let mut user = User::new(alloc, Setup::new(1, 8, 4))?;
     let post = Call::PostThread(1, 1025, 0, 0);
+    let mut good = true;
     for number in 1..=10000u32 {
-        if user.step(Thread(1), post)? != Answer::Posted(number) {
-            return Ok(false);
-        }
+        let answer = user.step(Thread(1), post)?;
+        good = good && answer == Answer::Posted(number);
     }
-    Ok(replay(&mut user, &ENTRIES)? == ENTRIES.len())
+    Ok(good && replay(&mut user, &ENTRIES)? == ENTRIES.len())
 }
 
 /// Who has no call to make: the clock while a thread runs, a thread that waits.
@@ -436,14 +436,26 @@ pub fn the_end_of_a_thread_takes_its_windows(alloc: Global) -> Result<bool, Allo
 /// A machine has room for 1,024 windows, and numbers are never used again.
 pub fn a_thousand_windows(alloc: Global) -> Result<bool, AllocError> {
     let mut user = with_windows(alloc, 1)?;
+    let made = fill_up(&mut user)?;
+    let destroyed = empty_again(&mut user)?;
+    let next = user.step(Thread(1), make!(0, 0))?;
+    Ok(made && destroyed && next == window!(1040))
+}
+
+/// Makes the windows up to the last that there is room for, and one more, which is refused.
+fn fill_up(user: &mut User) -> Result<bool, AllocError> {
+    let mut good = true;
     for number in 17..1040u32 {
-        if user.step(Thread(1), make!(0, 0))? != window!(number) {
-            return Ok(false);
-        }
+        let answer = user.step(Thread(1), make!(0, 0))?;
+        good = good && answer == window!(number);
     }
-    if user.step(Thread(1), make!(0, 0))? != Answer::Refused(Code::Full) {
-        return Ok(false);
-    }
+    let refused = user.step(Thread(1), make!(0, 0))?;
+    Ok(good && refused == Answer::Refused(Code::Full))
+}
+
+/// Destroys all of them, each step by step.
+fn empty_again(user: &mut User) -> Result<bool, AllocError> {
+    let mut good = true;
     for number in 16..1040u32 {
         let w = u64::from(number);
         let entries = [
@@ -452,9 +464,7 @@ pub fn a_thousand_windows(alloc: Global) -> Result<bool, AllocError> {
             (1, Call::Unmake(w), last!(number)),
             (1, Call::Drop(w), Answer::Okay),
         ];
-        if replay(&mut user, &entries)? != entries.len() {
-            return Ok(false);
-        }
+        good = good && replay(user, &entries)? == entries.len();
     }
-    Ok(user.step(Thread(1), make!(0, 0))? == window!(1040))
+    Ok(good)
 }

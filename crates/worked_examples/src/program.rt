@@ -107,13 +107,34 @@ pub fn runs(alloc: Global) -> Result<bool, AllocError> {
         (LOOPS, LOOPS_LOG, Status::Spent, 5),
         (b"user 1\n", b"refused 0 later\n", Status::Script, 3),
     ];
+    let mut good = true;
     for (script, log, status, number) in cases {
         let (told, sink) = call(alloc, &["run"], script, 7, Vec::new(alloc), 10000)?;
-        if sink.bytes() != log || told != status || told.number() != number {
-            return Ok(false);
-        }
+        good = good && sink.bytes() == log && told == status && told.number() == number;
     }
-    Ok(true)
+    Ok(good)
+}
+
+/// The program that a text spells.
+fn program_of(alloc: Global, text: &[u8]) -> Result<Program, AllocError> {
+    match read(alloc, text) {
+        Ok(script) => Program::new(alloc, &script),
+        Err(_) => Err(AllocError),
+    }
+}
+
+/// Whether the first thread of a script has these turns at a machine of its own.
+fn moves_so(alloc: Global, text: &[u8], turns: [Turn; 3]) -> Result<bool, AllocError> {
+    let program = program_of(alloc, text)?;
+    let machine = User::new(alloc, Setup::new(2, 8, 4))?;
+    let mut teller = Alone { machine };
+    let mut worker = Worker::new(alloc, &program, 1)?;
+    let mut good = true;
+    for turn in turns {
+        let had = worker.turn(&program, &mut teller)?;
+        good = good && had == turn;
+    }
+    Ok(good)
 }
 
 /// Turns of one thread: it goes, is idle, has used its budget, has ended.
@@ -123,34 +144,21 @@ pub fn turns_of_a_thread(alloc: Global) -> Result<bool, AllocError> {
         (WAITS, [Turn::Went, Turn::Idle, Turn::Idle]),
         (ONE_PASS, [Turn::Went, Turn::Spent, Turn::Spent]),
     ];
+    let mut good = true;
     for (text, turns) in cases {
-        let machine = User::new(alloc, Setup::new(2, 8, 4))?;
-        let mut teller = Alone { machine };
-        let Ok(script) = read(alloc, text) else {
-            return Ok(false);
-        };
-        let program = Program::new(alloc, &script)?;
-        let mut worker = Worker::new(alloc, &program, 1)?;
-        for turn in turns {
-            if worker.turn(&program, &mut teller)? != turn {
-                return Ok(false);
-            }
-        }
+        good = good && moves_so(alloc, text, turns)?;
     }
-    Ok(true)
+    Ok(good)
 }
 
 /// A turn that wants memory makes no entry, and is made again.
 pub fn a_turn_without_memory_is_tried_again(alloc: Global) -> Result<bool, AllocError> {
+    let program = program_of(alloc, ONE_END)?;
     let machine = User::new(alloc, Setup::new(1, 8, 4))?;
     let mut teller = Refusing {
         teller: Alone { machine },
         refuses: true,
     };
-    let Ok(script) = read(alloc, ONE_END) else {
-        return Ok(false);
-    };
-    let program = Program::new(alloc, &script)?;
     let mut worker = Worker::new(alloc, &program, 1)?;
     let refused = worker.turn(&program, &mut teller).is_err();
     let before = teller.teller.machine.history().len();
@@ -176,13 +184,12 @@ pub fn other_words(alloc: Global) -> Result<bool, AllocError> {
         &["make", "1", "1"],
         &["1", "make"],
     ];
+    let mut good = true;
     for words in cases {
         let (status, sink) = call(alloc, words, ONE_END, 7, Vec::new(alloc), 10000)?;
-        if !sink.bytes().is_empty() || status != Status::Words || status.number() != 2 {
-            return Ok(false);
-        }
+        good = good && sink.bytes().is_empty() && status == Status::Words && status.number() == 2;
     }
-    Ok(true)
+    Ok(good)
 }
 
 /// What is written of runs that are made.
@@ -198,29 +205,30 @@ pub fn made_scripts(alloc: Global) -> Result<bool, AllocError> {
             Status::Done,
         ),
     ];
+    let mut good = true;
     for (number, room, written, status) in cases {
         // The source fails at its first call, and isn't called.
         let mut fail = Vec::new(alloc);
         fail.push(0)?;
         let (told, sink) = call(alloc, &["make", number], ONE_END, 10, fail, room)?;
-        if sink.bytes() != written || told != status {
-            return Ok(false);
-        }
+        good = good && sink.bytes() == written && told == status;
     }
-    Ok(true)
+    Ok(good)
 }
 
 /// A source that fails at its first, second or third call.
 pub fn failing_reads(alloc: Global) -> Result<bool, AllocError> {
+    let mut good = true;
     for at in 0..3u64 {
         let mut fail = Vec::new(alloc);
         fail.push(at)?;
         let (status, sink) = call(alloc, &["run"], ONE_END, 10, fail, 10000)?;
-        if !sink.bytes().is_empty() || status != Status::ReadFault || status.number() != 7 {
-            return Ok(false);
-        }
+        good = good
+            && sink.bytes().is_empty()
+            && status == Status::ReadFault
+            && status.number() == 7;
     }
-    Ok(true)
+    Ok(good)
 }
 
 /// A sink that fails once it is full.
@@ -232,11 +240,13 @@ pub fn failing_writes(alloc: Global) -> Result<bool, AllocError> {
         (b"user 1\n", 0, b""),
         (b"user 1\n", 9, b"refused 0"),
     ];
+    let mut good = true;
     for (script, room, written) in cases {
         let (status, sink) = call(alloc, &["run"], script, 10, Vec::new(alloc), room)?;
-        if sink.bytes() != written || status != Status::WriteFault || status.number() != 8 {
-            return Ok(false);
-        }
+        good = good
+            && sink.bytes() == written
+            && status == Status::WriteFault
+            && status.number() == 8;
     }
-    Ok(true)
+    Ok(good)
 }

@@ -310,13 +310,12 @@ pub fn a_stack_holds_64_frames(alloc: Global) -> Result<bool, AllocError> {
         (1, Call::Leave(9), left!(0)),
     ];
     let mut user = with_windows(alloc, 2)?;
+    let mut good = true;
     for number in 1..=64u32 {
         let answer = user.step(Thread(1), send!(16, 1024, 0))?;
-        if answer != Answer::Inside(SendId(number), 0) {
-            return Ok(false);
-        }
+        good = good && answer == Answer::Inside(SendId(number), 0);
     }
-    Ok(replay(&mut user, &ENTRIES)? == ENTRIES.len())
+    Ok(good && replay(&mut user, &ENTRIES)? == ENTRIES.len())
 }
 
 /// A callback send to an own window runs at once.
@@ -390,10 +389,10 @@ pub fn a_thousand_sends_are_unfinished(alloc: Global) -> Result<bool, AllocError
         ),
     ];
     let mut user = with_windows(alloc, 2)?;
+    let mut good = true;
     for number in 1..=1024u32 {
-        if user.step(Thread(1), Call::SendNotify(17, 1024, 0, 0))? != begun!(number) {
-            return Ok(false);
-        }
+        let answer = user.step(Thread(1), Call::SendNotify(17, 1024, 0, 0))?;
+        good = good && answer == begun!(number);
     }
-    Ok(replay(&mut user, &ENTRIES)? == ENTRIES.len())
+    Ok(good && replay(&mut user, &ENTRIES)? == ENTRIES.len())
 }

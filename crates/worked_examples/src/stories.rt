@@ -56,12 +56,11 @@ fn are_told(alloc: Global, threads: u8, steps: &[Step], sends: &[Told]) -> Resul
 {
     let user = played(alloc, threads, steps)?;
     let first = u32::from(threads) + 1;
+    let mut good = sum_law(&user).is_none();
     for told in sends {
-        if !is_told(&user, first, told) {
-            return Ok(false);
-        }
+        good = good && is_told(&user, first, told);
     }
-    Ok(sum_law(&user).is_none())
+    Ok(good)
 }
 
 /// Stories of sends that procedures answered: a send back, three frames deep, results by their places.

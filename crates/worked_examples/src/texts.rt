@@ -18,12 +18,11 @@ fn is_read(alloc: Global, text: &[u8]) -> Result<bool, AllocError> {
 
 /// Whether each text is read where it is to be.
 fn are_read(alloc: Global, cases: &[(&[u8], bool)]) -> Result<bool, AllocError> {
+    let mut good = true;
     for (text, want) in cases {
-        if is_read(alloc, text)? != *want {
-            return Ok(false);
-        }
+        good = good && is_read(alloc, text)? == *want;
     }
-    Ok(true)
+    Ok(good)
 }
 
 /// A text of one thread with these lines.
@@ -180,13 +179,12 @@ pub fn lines_of_a_thread(alloc: Global) -> Result<bool, AllocError> {
         (b"if a = b\n", false),
         (b"end\n", false),
     ];
+    let mut good = true;
     for (lines, want) in cases {
         let text = one_thread(alloc, lines)?;
-        if is_read(alloc, &text)? != want {
-            return Ok(false);
-        }
+        good = good && is_read(alloc, &text)? == want;
     }
-    Ok(true)
+    Ok(good)
 }
 
 /// Procedures, and the calls that name them.
@@ -215,14 +213,13 @@ pub fn procedures_of_texts(alloc: Global) -> Result<bool, AllocError> {
             false,
         ),
     ];
+    let mut good = true;
     for (lines, want) in cases {
         let mut text = Vec::from_slice(alloc, b"user 1\nscreen 8 4\nbudget 9\norder\n")?;
         text.extend_from_slice(lines)?;
-        if is_read(alloc, &text)? != want {
-            return Ok(false);
-        }
+        good = good && is_read(alloc, &text)? == want;
     }
-    Ok(true)
+    Ok(good)
 }
 
 /// The longest text, and one of one byte more.
@@ -231,6 +228,7 @@ pub fn longest_texts(alloc: Global) -> Result<bool, AllocError> {
         (b"post_quit 1\n", SCRIPT_LIMIT, true),
         (b"post_quit 11\n", SCRIPT_LIMIT + 1, false),
     ];
+    let mut good = true;
     for (last, len, want) in cases {
         let mut text = Vec::from_slice(
             alloc,
@@ -241,29 +239,27 @@ pub fn longest_texts(alloc: Global) -> Result<bool, AllocError> {
         }
         text.extend_from_slice(last)?;
         text.extend_from_slice(b"yield\nend\n")?;
-        if text.len() != len || is_read(alloc, &text)? != want {
-            return Ok(false);
-        }
+        good = good && text.len() == len && is_read(alloc, &text)? == want;
     }
-    Ok(true)
+    Ok(good)
 }
 
 /// A text has 1 to 15 threads.
 pub fn threads_of_texts(alloc: Global) -> Result<bool, AllocError> {
+    let mut good = true;
     for (threads, want) in [(0, false), (15, true), (16, false)] {
         let mut text = Vec::from_slice(alloc, b"user 1\nscreen 8 4\nbudget 1\norder\n")?;
         for _ in 0..threads {
             text.extend_from_slice(b"thread\nend\n")?;
         }
-        if is_read(alloc, &text)? != want {
-            return Ok(false);
-        }
+        good = good && is_read(alloc, &text)? == want;
     }
-    Ok(true)
+    Ok(good)
 }
 
 /// At most 32 blocks are open.
 pub fn blocks_of_texts(alloc: Global) -> Result<bool, AllocError> {
+    let mut good = true;
     for (blocks, want) in [(32, true), (33, false)] {
         let mut lines = Vec::new(alloc);
         for _ in 0..blocks {
@@ -273,9 +269,7 @@ pub fn blocks_of_texts(alloc: Global) -> Result<bool, AllocError> {
             lines.extend_from_slice(b"end\n")?;
         }
         let text = one_thread(alloc, &lines)?;
-        if is_read(alloc, &text)? != want {
-            return Ok(false);
-        }
+        good = good && is_read(alloc, &text)? == want;
     }
-    Ok(true)
+    Ok(good)
 }
