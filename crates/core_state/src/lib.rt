@@ -14,3 +14,6 @@ mod state;
 pub use send_state::SendRow;
 pub use state::CoreState;
 pub use user_model::SendStory;
+
+#[cfg(test)]
+mod tests;

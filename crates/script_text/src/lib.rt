@@ -65,3 +65,6 @@ pub use script_tree::{
     Statement, Test, Variable,
 };
 pub use writer::write;
+
+#[cfg(test)]
+mod tests;

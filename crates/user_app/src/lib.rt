@@ -15,3 +15,8 @@ pub use status::Status;
 pub mod io {
     pub use user_io::{MemSink, MemSource, Put, Sink, Source, StdSink, StdSource, Took};
 }
+
+#[cfg(test)]
+mod refusing;
+#[cfg(test)]
+mod tests;

@@ -15,6 +15,7 @@ pub(crate) struct News {
 }
 
 impl News {
+    /// Nothing was told yet, and nobody asks.
     pub(crate) fn new() -> News {
         News {
             times: AtomicU64::new(0),

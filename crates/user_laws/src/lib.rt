@@ -27,3 +27,6 @@ pub use words::{
     each_of_is_added, ever_is_done, first_of_is_said_first, last_of_is_said_last,
     standing_is_added_for_good,
 };
+
+#[cfg(test)]
+mod tests;
