@@ -1,7 +1,8 @@
--- Style, extended style and place of a window at a past with one entry more.
-use Rattle.std.proofs.Common.{◌≡◌, ℕ, Bool, true, false, cond, eqb, [], ◌∷◌, Option, Some, None, refl, ap, ◌∙◌}
-use Rattle.std.specs.Prelude.{ℤ, unwrap_or}
-use Rattle.win_num.specs.PixelSets.{Box, box}
+-- How a window looks at a past with one entry more.
+use Rattle.std.proofs.Common.{◌≡◌, ℕ, Bool, true, false, cond, eqb, [], ◌∷◌, refl, ap, ◌∙◌, sym}
+use Rattle.std.specs.Prelude.{ℤ}
+use Rattle.std.proofs.lemmas.Bool.{true≢false}
+use Rattle.win_num.specs.PixelSets.{box}
 use Rattle.win_num.specs.declared.message.Hwnd.{Hwnd}
 use Rattle.win_num.specs.declared.message.Thread.{Thread}
 use Rattle.user_model.specs.declared.call.Call.{Call}
@@ -9,95 +10,50 @@ use Rattle.user_model.specs.declared.call.Call.TheVariants as calls
 use Rattle.user_model.specs.declared.entry.Answer.{Answer}
 use Rattle.user_model.specs.declared.entry.Answer.TheVariants as answers
 use Rattle.user_model.specs.declared.entry.Entry.{Entry}
-use Rattle.user_model.specs.Past.{Past, is_refused, unless_refused, last_of}
-use Rattle.user_model.specs.Windows.{if_made, number_of_window, numbers_made, style_set, style_of, ex_set, ex_of, place_set, place_of}
+use Rattle.user_model.specs.Past.{Past, is_refused}
+use Rattle.user_model.specs.Deeds.{deed}
+use Rattle.user_model.specs.Looks.{Look, look, look_of, made_look, set_look, placed, shown_look, relooked}
 use Rattle.user_model.specs.Machines.{entry_of}
-use Rattle.user_model.proofs.ClockLaws.{last_of-next, unwrap_or-or_else}
+use Rattle.user_model.proofs.PastLaws.{either_way, first_way, other_way}
 
--- ---- what was set last
+-- a refused entry leaves how a window looks
+pub look-refused : (e : Entry) (past : Past) (w : ℕ) → is_refused e ≡ true → look (e ∷ past) w ≡ look past w
+look-refused e past w h = first_way (is_refused e) (look past w) (relooked w e.answer (deed e.call) (look past w)) h
 
-next_said : {A : Type 0} (says : Entry → Past → Option A) (e : Entry) (past : Past) (d : A) → unwrap_or (last_of says (e ∷ past)) d ≡ unwrap_or (unless_refused e (says e past)) (unwrap_or (last_of says past) d)
-next_said says e past d = ap (λ o. unwrap_or o d) (last_of-next says e past) ∙ unwrap_or-or_else (unless_refused e (says e past)) (last_of says past) d
+-- any other makes of it what its call does
+pub look-next : (e : Entry) (past : Past) (w : ℕ) → is_refused e ≡ false → look (e ∷ past) w ≡ relooked w e.answer (deed e.call) (look past w)
+look-next e past w h = other_way (is_refused e) (look past w) (relooked w e.answer (deed e.call) (look past w)) h
 
-nothing_said : {A : Type 0} (b : Bool) (old : A) → unwrap_or (elim b as (λ _. Option A) [ true ↦ None | false ↦ None ]) old ≡ old
-nothing_said true old = refl
-nothing_said false old = refl
+-- whether an answered call may change how a window looks
+abbrev pub changes_look : Call → Answer → Bool
+changes_look (calls.NewWindow name title parent style ex l t r b) (answers.Window w) = true
+changes_look (calls.Place w after l t r b flags) (answers.Value v) = true
+changes_look (calls.Show w on) (answers.Value v) = true
+changes_look _ _ = false
 
--- an entry that says nothing leaves what was set
-said_none : {A : Type 0} (says : Entry → Past → Option A) (e : Entry) (past : Past) (d : A) → says e past ≡ None → unwrap_or (last_of says (e ∷ past)) d ≡ unwrap_or (last_of says past) d
-said_none says e past d h = next_said says e past d ∙ ap (λ o. unwrap_or (unless_refused e o) (unwrap_or (last_of says past) d)) h ∙ nothing_said (is_refused e) (unwrap_or (last_of says past) d)
+made_none : (w : ℕ) (call : Call) (a : Answer) (new old : Look) → changes_look call a ≡ false → ((v : Hwnd) → changes_look call (answers.Window v) ≡ true) → made_look w a new old ≡ old
+made_none w call (answers.Window v) new old h k = absurd (true≢false (sym (k v) ∙ h))
+made_none w call _ new old h k = refl
 
--- so does a refused entry
-said_refused : {A : Type 0} (says : Entry → Past → Option A) (e : Entry) (past : Past) (d : A) → is_refused e ≡ true → unwrap_or (last_of says (e ∷ past)) d ≡ unwrap_or (last_of says past) d
-said_refused {A = A} says e past d h = next_said says e past d ∙ ap (λ b. unwrap_or (elim b as (λ _. Option A) [ true ↦ None | false ↦ says e past ]) (unwrap_or (last_of says past) d)) h
+set_none : (v w : ℕ) (call : Call) (a : Answer) (new old : Look) → changes_look call a ≡ false → ((n : ℕ) → changes_look call (answers.Value n) ≡ true) → set_look v w a new old ≡ old
+set_none v w call (answers.Value n) new old h k = absurd (true≢false (sym (k n) ∙ h))
+set_none v w call _ new old h k = refl
 
--- what an entry says is set
-said_some : {A : Type 0} (says : Entry → Past → Option A) (e : Entry) (past : Past) (d new : A) → is_refused e ≡ false → says e past ≡ Some new → unwrap_or (last_of says (e ∷ past)) d ≡ new
-said_some {A = A} says e past d new fine h =
-    next_said says e past d
-    ∙ ap (λ b. unwrap_or (elim b as (λ _. Option A) [ true ↦ None | false ↦ says e past ]) (unwrap_or (last_of says past) d)) fine
-    ∙ ap (λ o. unwrap_or o (unwrap_or (last_of says past) d)) h
+-- a call that doesn't change how windows look
+pub keeps_look : (w : ℕ) (call : Call) (a : Answer) (old : Look) → changes_look call a ≡ false → relooked w a (deed call) old ≡ old
+keeps_look w (calls.NewWindow name title parent style ex l t r b) a old h = made_none w (calls.NewWindow name title parent style ex l t r b) a (look_of style ex (box l t r b)) old h (λ v. refl)
+keeps_look w (calls.Place v after l t r b flags) a old h = set_none v w (calls.Place v after l t r b flags) a (placed flags after (box l t r b) old) old h (λ n. refl)
+keeps_look w (calls.Show v on) a old h = set_none v w (calls.Show v on) a (shown_look (eqb on 1) old) old h (λ n. refl)
+keeps_look w _ a old h = refl
 
--- ---- what an entry sets
+-- an entry of such a call leaves how a window looks
+pub look-same : (e : Entry) (past : Past) (w : ℕ) → changes_look e.call e.answer ≡ false → look (e ∷ past) w ≡ look past w
+look-same e past w h = either_way (is_refused e) (look past w) (relooked w e.answer (deed e.call) (look past w)) (keeps_look w e.call e.answer (look past w) h)
 
--- it sets nothing of w
-pub record SetsNone (w : ℕ) (a : Answer) (call : Call) : Type 0 where
-  pub style : style_set w a call ≡ None
-  pub ex : ex_set w a call ≡ None
-  pub place : place_set w a call ≡ None
+-- the entry of a new window leaves how another one looks
+pub look-other : (past : Past) (who : Thread) (name title parent style ex : ℕ) (l t r b : ℤ) (v : Hwnd) (w : ℕ) → eqb v.0 w ≡ false → look (entry_of who (calls.NewWindow name title parent style ex l t r b) (answers.Window v) ∷ past) w ≡ look past w
+look-other past who name title parent style ex l t r b v w other = ap (λ c. cond c (look_of style ex (box l t r b)) (look past w)) other
 
-made_none : {A : Type 0} (w : ℕ) (a : Answer) (x : A) → number_of_window a ≡ [] → if_made w a x ≡ None
-made_none w (answers.Window v) x h = absurd cc
-made_none w _ x h = refl
-
--- an entry that gives no window a number sets nothing
-pub sets_none : (w : ℕ) (a : Answer) (call : Call) → numbers_made a call ≡ [] → SetsNone w a call
-sets_none w a (calls.NewWindow name title parent style ex l t r b) h = record { style = made_none w a style h; ex = made_none w a ex h; place = made_none w a (box l t r b) h }
-sets_none w a _ h = record { style = refl; ex = refl; place = refl }
-
--- a new window's entry sets nothing of another
-pub sets_other : (w : ℕ) (v : Hwnd) (name title parent style ex : ℕ) (l t r b : ℤ) → eqb v.0 w ≡ false → SetsNone w (answers.Window v) (calls.NewWindow name title parent style ex l t r b)
-sets_other w v name title parent style ex l t r b h = record {
-  style = ap (λ c. cond c (Some style) None) h;
-  ex = ap (λ c. cond c (Some ex) None) h;
-  place = ap (λ c. cond c (Some (box l t r b)) None) h;
-}
-
--- ---- the laws
-
--- what is set of w is the same at both pasts
-pub record LooksStay (early late : Past) (w : ℕ) : Type 0 where
-  pub style : style_of late w ≡ style_of early w
-  pub ex : ex_of late w ≡ ex_of early w
-  pub place : place_of late w ≡ place_of early w
-
--- an entry that sets nothing of w leaves what was set
-pub looks-same : (e : Entry) (past : Past) (w : ℕ) → SetsNone w e.answer e.call → LooksStay past (e ∷ past) w
-looks-same e past w none = record {
-  style = said_none (λ (e : Entry) (before : Past). style_set w e.answer e.call) e past _ none.style;
-  ex = said_none (λ (e : Entry) (before : Past). ex_set w e.answer e.call) e past _ none.ex;
-  place = said_none (λ (e : Entry) (before : Past). place_set w e.answer e.call) e past _ none.place;
-}
-
--- so does a refused entry
-pub looks-refused : (e : Entry) (past : Past) (w : ℕ) → is_refused e ≡ true → LooksStay past (e ∷ past) w
-looks-refused e past w refused = record {
-  style = said_refused (λ (e : Entry) (before : Past). style_set w e.answer e.call) e past _ refused;
-  ex = said_refused (λ (e : Entry) (before : Past). ex_set w e.answer e.call) e past _ refused;
-  place = said_refused (λ (e : Entry) (before : Past). place_set w e.answer e.call) e past _ refused;
-}
-
--- a new window has what its call says
-pub record LooksAre (past : Past) (w s x : ℕ) (b : Box) : Type 0 where
-  pub style : style_of past w ≡ s
-  pub ex : ex_of past w ≡ x
-  pub place : place_of past w ≡ b
-
-pub looks-new : (past : Past) (who : Thread) (name title parent style ex : ℕ) (l t r b : ℤ) (v : Hwnd) (w : ℕ) → eqb v.0 w ≡ true → LooksAre (entry_of who (calls.NewWindow name title parent style ex l t r b) (answers.Window v) ∷ past) w style ex (box l t r b)
-looks-new past who name title parent style ex l t r b v w own =
-    let made = entry_of who (calls.NewWindow name title parent style ex l t r b) (answers.Window v) in
-    record {
-      style = said_some (λ (e : Entry) (before : Past). style_set w e.answer e.call) made past _ style refl (ap (λ c. cond c (Some style) None) own);
-      ex = said_some (λ (e : Entry) (before : Past). ex_set w e.answer e.call) made past _ ex refl (ap (λ c. cond c (Some ex) None) own);
-      place = said_some (λ (e : Entry) (before : Past). place_set w e.answer e.call) made past _ (box l t r b) refl (ap (λ c. cond c (Some (box l t r b)) None) own);
-    }
+-- a new window looks as its call says
+pub look-new : (past : Past) (who : Thread) (name title parent style ex : ℕ) (l t r b : ℤ) (v : Hwnd) (w : ℕ) → eqb v.0 w ≡ true → look (entry_of who (calls.NewWindow name title parent style ex l t r b) (answers.Window v) ∷ past) w ≡ look_of style ex (box l t r b)
+look-new past who name title parent style ex l t r b v w own = ap (λ c. cond c (look_of style ex (box l t r b)) (look past w)) own

@@ -6,7 +6,7 @@ use Rattle.win_num.specs.declared.send.Kind.{Kind}
 use Rattle.win_num.specs.declared.send.Kind.TheVariants.{Wait, Timeout as WithTimeout, Notify, Callback as WithCallback}
 use Rattle.win_num.specs.declared.names.TheConstants.{PM_REMOVE}
 use Rattle.user_model.specs.declared.call.Call.{Call}
-use Rattle.user_model.specs.declared.call.Call.TheVariants.{Post, PostThread, Peek, Get, PostQuit, Dispatch, Send, SendTimeout, SendNotify, SendCallback, Await, Leave, Reply, InSend, Message, Register, Unregister, NewWindow, Doom, Unmake, Drop, NextTop, IsWindow, Parent, EndThread, Clock, SleepUntil, Yield, Tick, Advance}
+use Rattle.user_model.specs.declared.call.Call.TheVariants.{Post, PostThread, Peek, Get, PostQuit, Dispatch, Send, SendTimeout, SendNotify, SendCallback, Await, Leave, Reply, InSend, Message, Register, Unregister, NewWindow, Doom, Unmake, Drop, Place, Show, NextTop, IsWindow, Parent, EndThread, Clock, SleepUntil, Yield, Tick, Advance}
 
 -- a message that a call posts: to the thread of a window, or for window 0 to the caller; or to a thread, without a window
 pub data Posting : Type 0 where
@@ -27,7 +27,8 @@ parts w m p q kind = record { hwnd = w; message = m; wparam = p; lparam = q; kin
 
 -- what a call does: it retrieves what a filter lets pass, and may remove it; posts a message, or quit with its code; sends;
 -- waits for a send's answer; leaves a procedure, or replies, with a result; waits for a time; makes a window of a class, with a
--- title, parent or owner, style, extended style and edges; or what definitions of its own say
+-- title, parent or owner, style, extended style and edges; puts a window among its siblings and at a place, as flags say; shows
+-- or hides a window; or what definitions of its own say
 pub data Deed : Type 0 where
   retrieving : (pass : Filter) (removes : Bool) → Deed
   posting : Posting → Deed
@@ -38,6 +39,8 @@ pub data Deed : Type 0 where
   replying : (result : ℕ) → Deed
   sleeping : (time : ℕ) → Deed
   making : (class title parent style ex : ℕ) (l t r b : ℤ) → Deed
+  placing : (w : ℕ) (after l t r b : ℤ) (flags : ℕ) → Deed
+  showing : (w on : ℕ) → Deed
   doing_else : Deed
 
 -- a get removes what it retrieves, and so does a peek with bit 0 of its flags
@@ -56,6 +59,8 @@ deed (Leave v) = leaving v
 deed (Reply v) = replying v
 deed (SleepUntil time) = sleeping time
 deed (NewWindow class title parent style ex l t r b) = making class title parent style ex l t r b
+deed (Place w after l t r b flags) = placing w after l t r b flags
+deed (Show w on) = showing w on
 deed (Dispatch w number wparam lparam) = doing_else
 deed InSend = doing_else
 deed (Message name) = doing_else

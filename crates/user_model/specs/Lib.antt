@@ -5,6 +5,7 @@ pub mod Destruction
 pub mod Filters
 pub mod Idle
 pub mod Legal
+pub mod Looks
 pub mod Machines
 pub mod Next
 pub mod Past

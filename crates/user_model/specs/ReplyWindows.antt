@@ -1,12 +1,14 @@
 -- The answers of the calls on classes and windows.
-use Rattle.std.specs.Prelude.{if◌then◌else◌, ℕ, suc, ◌==◌, ◌+◌, nat_lt, nat_le, Bool, true, false, not, ◌&&◌, ◌||◌, ℤ, length, Option, Some, None, is_none, is_some, unwrap_or, option_map}
+use Rattle.std.specs.Prelude.{if◌then◌else◌, ℕ, zero, suc, ◌==◌, ◌+◌, nat_lt, nat_le, Bool, true, false, not, ◌&&◌, ◌||◌, ℤ, pos, negsuc, ◌-ℤ◌, length, Option, Some, None, is_none, is_some, unwrap_or, option_map}
 use Rattle.win_num.specs.declared.message.Hwnd.{Hwnd}
 use Rattle.win_num.specs.declared.code.Code.TheVariants.{Full}
-use Rattle.win_num.specs.declared.names.TheConstants.{WS_CHILD, WS_DISABLED, WS_EX_TOPMOST, WS_POPUP}
+use Rattle.win_num.specs.declared.names.TheConstants.{SWP_HIDEWINDOW, SWP_NOACTIVATE, SWP_NOMOVE, SWP_NOSIZE, SWP_NOZORDER, SWP_SHOWWINDOW, WS_CHILD, WS_DISABLED, WS_EX_TOPMOST, WS_POPUP, WS_VISIBLE}
+use Rattle.win_num.specs.PixelSets.{Box, box, same_int}
 use Rattle.user_model.specs.declared.entry.Answer.{Answer}
 use Rattle.user_model.specs.declared.entry.Answer.TheVariants.{Okay, Gone, Value, Window as WindowTold, Tell, Last}
 use Rattle.user_model.specs.Past.{Past}
 use Rattle.user_model.specs.Windows.{Window, has_flag, live, window, is_live, thread_of, windows_made, up, next_top}
+use Rattle.user_model.specs.Looks.{Look, look, placed, is_shown}
 use Rattle.user_model.specs.Destruction.{Step, told, ended, is_marked, was_given, next_step}
 use Rattle.user_model.specs.Classes.{class, classes, registered_count, is_used, message_names, message_number}
 use Rattle.user_model.specs.Refusals.{refuse, if_live, if_own, is_no_rect, has_beyond, invalid_parameter, invalid_window_handle, access_denied, child_without_parent, cannot_find_class, class_already_exists, class_does_not_exist, class_has_windows}
@@ -77,6 +79,51 @@ unmake_reply past who w = elim (window past w) [ None ↦ Gone | Some x ↦ unma
 -- a window is dropped with its kin
 abbrev pub drop_reply : Past → ℕ → ℕ → Answer
 drop_reply past who w = refuse (is_live past w && not (was_given past (ended w))) invalid_parameter (if_own past who w Okay)
+
+-- the flags of a placing
+abbrev pub known_placings : ℕ
+known_placings = SWP_NOSIZE + SWP_NOMOVE + SWP_NOZORDER + SWP_NOACTIVATE + SWP_SHOWWINDOW + SWP_HIDEWINDOW
+
+-- an unknown flag, or one that shows with one that hides
+abbrev pub is_no_placing : ℕ → Bool
+is_no_placing flags = has_beyond flags known_placings || has_flag flags SWP_SHOWWINDOW && has_flag flags SWP_HIDEWINDOW
+
+-- whether v is a live sibling of x, and another one
+abbrev pub is_sibling : Past → Window → ℕ → Bool
+is_sibling past x v = elim (window past v) [ None ↦ false | Some y ↦ (y.parent == x.parent) && not (v == x.number) ]
+
+-- whether it is a place for x: the top or the bottom, below a sibling; for a top-level window also minus one and minus two
+abbrev pub is_order : Past → Window → ℤ → Bool
+is_order past x (pos zero) = true
+is_order past x (pos (suc zero)) = true
+is_order past x (pos (suc (suc n))) = is_sibling past x (suc (suc n))
+is_order past x (negsuc zero) = x.parent == 0
+is_order past x (negsuc (suc zero)) = x.parent == 0
+is_order past x (negsuc (suc (suc n))) = false
+
+-- whether both hold or neither
+abbrev pub are_alike : Bool → Bool → Bool
+are_alike true b = b
+are_alike false b = not b
+
+-- 1 where the corner has moved, 2 where the size has changed, 4 where the window was shown or hidden
+abbrev pub changes_told : Look → Look → ℕ
+changes_told old new = (if same_int old.place.left new.place.left && same_int old.place.top new.place.top then 0 else 1)
+    + ((if same_int (old.place.right -ℤ old.place.left) (new.place.right -ℤ new.place.left) && same_int (old.place.bottom -ℤ old.place.top) (new.place.bottom -ℤ new.place.top) then 0 else 2)
+    + (if are_alike (has_flag old.style WS_VISIBLE) (has_flag new.style WS_VISIBLE) then 0 else 4))
+
+-- a live window is put at a place
+abbrev pub place_if_ordered : Past → Window → ℤ → Box → ℕ → Answer
+place_if_ordered past x after b flags = refuse (not (has_flag flags SWP_NOZORDER) && not (is_order past x after)) invalid_parameter (Value (changes_told (look past x.number) (placed flags after b (look past x.number))))
+
+-- a window is put at a place
+abbrev pub place_reply : Past → ℕ → ℤ → ℤ → ℤ → ℤ → ℤ → ℕ → Answer
+place_reply past w after l t r b flags = refuse (is_no_rect l t r b || is_no_placing flags) invalid_parameter (
+    elim (window past w) [ None ↦ refuse true invalid_window_handle Okay | Some x ↦ place_if_ordered past x after (box l t r b) flags ])
+
+-- a window is shown or hidden: 1 where it was shown, else 0
+abbrev pub show_reply : Past → ℕ → ℕ → Answer
+show_reply past w on = refuse (nat_lt 1 on) invalid_parameter (if_live past w (Value (if is_shown past w then 1 else 0)))
 
 -- a window or none as an answer
 abbrev pub window_told : ℕ → Answer

@@ -1,13 +1,12 @@
 -- Windows: which are live, with their fields, and who stands above whom.
 use Rattle.std.specs.Prelude.{if◌then◌else◌, ℕ, zero, suc, ◌+◌, ◌==◌, nat_lt, Bool, true, false, not, ◌&&◌, ◌||◌, pos, List, [], ◌∷◌, ◌++◌, filter, find, Option, Some, None, unwrap_or, option_map, bit_and, is_some}
-use Rattle.win_num.specs.PixelSets.{Box, box}
 use Rattle.win_num.specs.declared.names.TheConstants.{WS_CHILD}
 use Rattle.user_model.specs.declared.call.Call.{Call}
 use Rattle.user_model.specs.declared.call.Call.TheVariants.{Drop}
 use Rattle.user_model.specs.declared.entry.Entry.{Entry}
 use Rattle.user_model.specs.declared.entry.Answer.{Answer}
 use Rattle.user_model.specs.declared.entry.Answer.TheVariants.{Window as WindowMade}
-use Rattle.user_model.specs.Past.{Past, is_refused, each_of, last_of}
+use Rattle.user_model.specs.Past.{Past, is_refused, each_of}
 use Rattle.user_model.specs.Deeds.{Deed, making, deed}
 use Rattle.user_model.specs.Places.{ends_thread}
 
@@ -123,50 +122,6 @@ numbers_made a call = numbers_as a (deed call)
 -- the numbers of all windows that were ever made, in order
 abbrev pub windows_made : Past → List ℕ
 windows_made past = each_of (λ e before. numbers_made e.answer e.call) past
-
--- what is set, where the answer is that w was made
-abbrev pub if_made : {A : Type 0} → ℕ → Answer → A → Option A
-if_made w (WindowMade v) a = if v.0 == w then Some a else None
-if_made w _ a = None
-
--- the style that is set for w: a new window's
-abbrev pub style_as : ℕ → Answer → Deed → Option ℕ
-style_as w a (making class title parent style ex l t r b) = if_made w a style
-style_as w a _ = None
-
--- the style that an entry sets for w
-abbrev pub style_set : ℕ → Answer → Call → Option ℕ
-style_set w a call = style_as w a (deed call)
-
--- the style of w that was set last, or 0
-abbrev pub style_of : Past → ℕ → ℕ
-style_of past w = unwrap_or (last_of (λ e before. style_set w e.answer e.call) past) 0
-
--- the extended style that is set for w: a new window's
-abbrev pub ex_as : ℕ → Answer → Deed → Option ℕ
-ex_as w a (making class title parent style ex l t r b) = if_made w a ex
-ex_as w a _ = None
-
--- the extended style that an entry sets for w
-abbrev pub ex_set : ℕ → Answer → Call → Option ℕ
-ex_set w a call = ex_as w a (deed call)
-
--- the extended style of w that was set last, or 0
-abbrev pub ex_of : Past → ℕ → ℕ
-ex_of past w = unwrap_or (last_of (λ e before. ex_set w e.answer e.call) past) 0
-
--- the place that is set for w: a new window's
-abbrev pub place_as : ℕ → Answer → Deed → Option Box
-place_as w a (making class title parent style ex l t r b) = if_made w a (box l t r b)
-place_as w a _ = None
-
--- the place that an entry sets for w
-abbrev pub place_set : ℕ → Answer → Call → Option Box
-place_set w a call = place_as w a (deed call)
-
--- the place of w that was set last, from its parent's or the screen's left top corner, or nothing there
-abbrev pub place_of : Past → ℕ → Box
-place_of past w = unwrap_or (last_of (λ e before. place_set w e.answer e.call) past) (box (pos 0) (pos 0) (pos 0) (pos 0))
 
 -- the top-level live window of least number above w
 abbrev pub next_top : Past → ℕ → Option Window
