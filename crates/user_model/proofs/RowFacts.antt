@@ -1,7 +1,6 @@
 -- The one walk over all calls: what the answer of a row says of its call.
 use Rattle.std.proofs.Common.{◌≡◌, ℕ, Bool, true, false, not, cond, eqb, List, [], ◌∷◌, length, Option, Some, None, refl, ap, ◌∙◌, sym, subst, inl, inr}
-use Rattle.std.specs.Prelude.{◌&&◌, ◌||◌, ◌⊎◌, ℤ, unwrap_or, option_map, nat_lt, nat_le}
-use Rattle.win_num.specs.PixelSets.{Box, box}
+use Rattle.std.specs.Prelude.{◌&&◌, ◌||◌, ◌⊎◌, unwrap_or, option_map, nat_lt, nat_le}
 use Rattle.std.proofs.lemmas.Bool.{false≢true}
 use Rattle.win_num.specs.declared.message.Filter.{Filter}
 use Rattle.win_num.specs.declared.send.SendId.{SendId}
@@ -32,7 +31,7 @@ use Rattle.user_model.specs.Ready.{ReadyMsg, to_enter, to_call_back, ready_head}
 use Rattle.user_model.specs.Next.{next, next_ready, next_posted, next_quit, run_for, got_posted, got_quit, is_empty}
 use Rattle.user_model.specs.Refusals.{refuse, is_no_message, invalid_parameter, invalid_window_handle, access_denied, stack_overflow, not_enough_quota, invalid_thread_id}
 use Rattle.user_model.specs.ReplyDelivery.{next_post_number, is_no_post_window}
-use Rattle.user_model.specs.ReplyWindows.{step_answer, unmake_step, place_if_ordered}
+use Rattle.user_model.specs.ReplyWindows.{step_answer, unmake_step}
 use Rattle.user_model.specs.ReplyClock.{woken}
 use Rattle.user_model.specs.ReplySends.{send_made, send_if_room, waiting_send, other_send, next_send_number, deadline, has_come, served, blocks, left_inside, leave_from, reply_in, in_send_at}
 use Rattle.user_model.specs.Replies.{row}
@@ -69,10 +68,6 @@ plain_in_send past _ = record { so = refl }
 plain_parent : (o : Option Window) → IsPlain (elim o as (λ _. Answer) [ None ↦ refuse true invalid_window_handle answers.Okay | Some x ↦ answers.Window (record { 0 = cond (eqb x.parent 0) x.owner x.parent }) ])
 plain_parent None = record { so = refl }
 plain_parent (Some x) = record { so = refl }
-
-plain_place : (past : Past) (after : ℤ) (b : Box) (flags : ℕ) (o : Option Window) → IsPlain (elim o as (λ _. Answer) [ None ↦ refuse true invalid_window_handle answers.Okay | Some x ↦ place_if_ordered past x after b flags ])
-plain_place past after b flags None = record { so = refl }
-plain_place past after b flags (Some x) = search (plain_behind, plain)
 
 properly : (b : Bool) → not b ≡ true → b ≡ false
 properly true h = absurd (false≢true h)
@@ -282,7 +277,7 @@ row_said setup past who (NewWindow class title parent style ex l t r b) = plainl
 row_said setup past who (Doom w) = plainly setup past who (Doom w) (row setup past who (Doom w)) (search (plain_behind, plain))
 row_said setup past who (Unmake w) = unmade setup past who w (window past w)
 row_said setup past who (Drop w) = plainly setup past who (Drop w) (row setup past who (Drop w)) (search (plain_behind, plain))
-row_said setup past who (Place w after l t r b flags) = plainly setup past who (Place w after l t r b flags) (row setup past who (Place w after l t r b flags)) (plain_behind _ invalid_parameter _ refl (plain_place past after (box l t r b) flags (window past w)))
+row_said setup past who (Place w after l t r b flags) = plainly setup past who (Place w after l t r b flags) (row setup past who (Place w after l t r b flags)) (search (plain_behind, plain))
 row_said setup past who (Show w on) = plainly setup past who (Show w on) (row setup past who (Show w on)) (search (plain_behind, plain))
 row_said setup past who (NextTop w) = record { says = tt }
 row_said setup past who (IsWindow w) = record { says = tt }

@@ -4,7 +4,7 @@ use Rattle.std.specs.Prelude.{◌&&◌, ◌||◌, ℤ, is_none, is_some}
 use Rattle.std.proofs.Math.Dec.{leb, ltb}
 use Rattle.std.proofs.lemmas.Bool.{or_parts, true≢false}
 use Rattle.win_num.specs.declared.code.Code.TheVariants.{Full}
-use Rattle.win_num.specs.declared.names.TheConstants.{WS_CHILD}
+use Rattle.win_num.specs.declared.names.TheConstants.{SWP_NOZORDER, WS_CHILD}
 use Rattle.win_num.specs.declared.message.Hwnd.{Hwnd}
 use Rattle.user_model.specs.declared.call.Call.TheVariants as calls
 use Rattle.user_model.specs.declared.entry.Answer.{Answer}
@@ -16,7 +16,7 @@ use Rattle.user_model.specs.Windows.{Window, has_flag, live, window, is_live, th
 use Rattle.user_model.specs.Destruction.{ended, is_marked, was_given, next_step}
 use Rattle.user_model.specs.Classes.{class, classes, registered_count, is_used, message_names, message_number}
 use Rattle.user_model.specs.Refusals.{refuse, if_live, is_no_rect, invalid_parameter, invalid_window_handle, access_denied, child_without_parent, cannot_find_class, class_already_exists, class_does_not_exist, class_has_windows}
-use Rattle.user_model.specs.ReplyWindows.{is_no_style, is_no_parent, next_window, number_or_next, step_answer, window_if_room, unmake_step}
+use Rattle.user_model.specs.ReplyWindows.{is_no_style, is_no_parent, is_no_placing, is_order, next_window, number_or_next, step_answer, window_if_room, unmake_step}
 use Rattle.user_model.specs.Idle.{reply}
 use Rattle.user_model.proofs.ReplyLaws.{not_refused, not_false, by_call}
 
@@ -165,3 +165,24 @@ message_value setup past who name a e right =
     let by = by_call setup past who (calls.Message name) a e refl right in
     let room = not_refused (is_none (message_number past name) && leb 16384 (length (message_names past))) Full (answers.Value (number_or_next past name)) a right by.is_row in
     sym room.1
+
+-- a live window was put at a place: its edges are good
+pub record IsPlaced (past : Past) (w : ℕ) (l t r b : ℤ) : Type 0 where
+  pub good_edges : is_no_rect l t r b ≡ false
+  pub lives : is_live past w ≡ true
+
+pub place_told : (setup : Setup) (past : Past) (who w : ℕ) (after l t r b : ℤ) (flags n : ℕ) → reply setup past who (calls.Place w after l t r b flags) ≡ answers.Value n → IsPlaced past w l t r b
+place_told setup past who w after l t r b flags n e =
+    let by = by_call setup past who (calls.Place w after l t r b flags) (answers.Value n) e refl refl in
+    let numbers = not_refused (is_no_rect l t r b || is_no_placing flags) invalid_parameter _ (answers.Value n) refl by.is_row in
+    let order = not_refused (not (has_flag flags SWP_NOZORDER) && (is_live past w && not (is_order past w after))) invalid_parameter _ (answers.Value n) refl numbers.1 in
+    let live = not_refused (not (is_live past w)) invalid_window_handle _ (answers.Value n) refl order.1 in
+    record { good_edges = (or_parts (is_no_rect l t r b) (is_no_placing flags) numbers.0).0; lives = not_false (is_live past w) live.0 }
+
+-- a live window was shown or hidden
+pub show_told : (setup : Setup) (past : Past) (who w on n : ℕ) → reply setup past who (calls.Show w on) ≡ answers.Value n → is_live past w ≡ true
+show_told setup past who w on n e =
+    let by = by_call setup past who (calls.Show w on) (answers.Value n) e refl refl in
+    let number = not_refused (ltb 1 on) invalid_parameter _ (answers.Value n) refl by.is_row in
+    let live = not_refused (not (is_live past w)) invalid_window_handle _ (answers.Value n) refl number.1 in
+    not_false (is_live past w) live.0

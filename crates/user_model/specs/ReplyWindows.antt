@@ -7,7 +7,7 @@ use Rattle.win_num.specs.PixelSets.{Box, box, same_int}
 use Rattle.user_model.specs.declared.entry.Answer.{Answer}
 use Rattle.user_model.specs.declared.entry.Answer.TheVariants.{Okay, Gone, Value, Window as WindowTold, Tell, Last}
 use Rattle.user_model.specs.Past.{Past}
-use Rattle.user_model.specs.Windows.{Window, has_flag, live, window, is_live, thread_of, windows_made, up, next_top}
+use Rattle.user_model.specs.Windows.{Window, has_flag, live, window, is_live, thread_of, parent_in, windows_made, up, next_top}
 use Rattle.user_model.specs.Looks.{Look, look, placed, is_shown}
 use Rattle.user_model.specs.Destruction.{Step, told, ended, is_marked, was_given, next_step}
 use Rattle.user_model.specs.Classes.{class, classes, registered_count, is_used, message_names, message_number}
@@ -88,38 +88,46 @@ known_placings = SWP_NOSIZE + SWP_NOMOVE + SWP_NOZORDER + SWP_NOACTIVATE + SWP_S
 abbrev pub is_no_placing : ℕ → Bool
 is_no_placing flags = has_beyond flags known_placings || has_flag flags SWP_SHOWWINDOW && has_flag flags SWP_HIDEWINDOW
 
--- whether v is a live sibling of x, and another one
-abbrev pub is_sibling : Past → Window → ℕ → Bool
-is_sibling past x v = elim (window past v) [ None ↦ false | Some y ↦ (y.parent == x.parent) && not (v == x.number) ]
+-- whether v is a live window with the parent of w, and isn't w
+abbrev pub is_sibling : Past → ℕ → ℕ → Bool
+is_sibling past w v = is_live past v && ((parent_in (live past) v == parent_in (live past) w) && not (v == w))
 
--- whether it is a place for x: the top or the bottom, below a sibling; for a top-level window also minus one and minus two
-abbrev pub is_order : Past → Window → ℤ → Bool
-is_order past x (pos zero) = true
-is_order past x (pos (suc zero)) = true
-is_order past x (pos (suc (suc n))) = is_sibling past x (suc (suc n))
-is_order past x (negsuc zero) = x.parent == 0
-is_order past x (negsuc (suc zero)) = x.parent == 0
-is_order past x (negsuc (suc (suc n))) = false
+-- whether w can come there among its siblings: at the top or the bottom, or below one; a top-level window also with its topmost flag
+-- set or cleared
+abbrev pub is_order : Past → ℕ → ℤ → Bool
+is_order past w (pos zero) = true
+is_order past w (pos (suc zero)) = true
+is_order past w (pos (suc (suc n))) = is_sibling past w (suc (suc n))
+is_order past w (negsuc zero) = parent_in (live past) w == 0
+is_order past w (negsuc (suc zero)) = parent_in (live past) w == 0
+is_order past w (negsuc (suc (suc n))) = false
 
--- whether both hold or neither
-abbrev pub are_alike : Bool → Bool → Bool
-are_alike true b = b
-are_alike false b = not b
+-- whether the corner is another
+abbrev pub has_moved : Box → Box → Bool
+has_moved old new = not (same_int old.left new.left && same_int old.top new.top)
+
+-- whether the width or the height is another
+abbrev pub is_resized : Box → Box → Bool
+is_resized old new = not (same_int (old.right -ℤ old.left) (new.right -ℤ new.left) && same_int (old.bottom -ℤ old.top) (new.bottom -ℤ new.top))
+
+-- whether one holds and the other doesn't
+abbrev pub differ : Bool → Bool → Bool
+differ true b = not b
+differ false b = b
+
+-- a bit that is set where the test holds
+abbrev pub bit_if : Bool → ℕ → ℕ
+bit_if b n = if b then n else 0
 
 -- 1 where the corner has moved, 2 where the size has changed, 4 where the window was shown or hidden
 abbrev pub changes_told : Look → Look → ℕ
-changes_told old new = (if same_int old.place.left new.place.left && same_int old.place.top new.place.top then 0 else 1)
-    + ((if same_int (old.place.right -ℤ old.place.left) (new.place.right -ℤ new.place.left) && same_int (old.place.bottom -ℤ old.place.top) (new.place.bottom -ℤ new.place.top) then 0 else 2)
-    + (if are_alike (has_flag old.style WS_VISIBLE) (has_flag new.style WS_VISIBLE) then 0 else 4))
-
--- a live window is put at a place
-abbrev pub place_if_ordered : Past → Window → ℤ → Box → ℕ → Answer
-place_if_ordered past x after b flags = refuse (not (has_flag flags SWP_NOZORDER) && not (is_order past x after)) invalid_parameter (Value (changes_told (look past x.number) (placed flags after b (look past x.number))))
+changes_told old new = bit_if (has_moved old.place new.place) 1 + (bit_if (is_resized old.place new.place) 2 + bit_if (differ (has_flag old.style WS_VISIBLE) (has_flag new.style WS_VISIBLE)) 4)
 
 -- a window is put at a place
 abbrev pub place_reply : Past → ℕ → ℤ → ℤ → ℤ → ℤ → ℤ → ℕ → Answer
 place_reply past w after l t r b flags = refuse (is_no_rect l t r b || is_no_placing flags) invalid_parameter (
-    elim (window past w) [ None ↦ refuse true invalid_window_handle Okay | Some x ↦ place_if_ordered past x after (box l t r b) flags ])
+    refuse (not (has_flag flags SWP_NOZORDER) && (is_live past w && not (is_order past w after))) invalid_parameter (
+    if_live past w (Value (changes_told (look past w) (placed flags after (box l t r b) (look past w))))))
 
 -- a window is shown or hidden: 1 where it was shown, else 0
 abbrev pub show_reply : Past → ℕ → ℕ → Answer

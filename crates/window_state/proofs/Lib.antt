@@ -3,6 +3,7 @@ pub mod ClassLaws
 pub mod ClassSteps
 pub mod Destructions
 pub mod Lookups
+pub mod LookSteps
 pub mod NewWindows
 pub mod Outcomes
 pub mod Procs

@@ -10,7 +10,7 @@ use Rattle.std.specs.Int.{bit_at}
 use Rattle.std.proofs.lemmas.Nat.Bits.{and_pow, bit_at-lt}
 use Rattle.std.proofs.lemmas.List.{length-append, map-append}
 use Rattle.win_num.specs.Rects.{box_in}
-use Rattle.win_num.specs.PixelSets.{box}
+use Rattle.win_num.specs.PixelSets.{Box, box}
 use Rattle.win_num.specs.declared.names.TheConstants.{WS_CHILD}
 use Rattle.win_num.specs.declared.message.Hwnd.{Hwnd}
 use Rattle.win_num.specs.declared.message.Thread.{Thread}
@@ -37,8 +37,10 @@ use Rattle.user_model.proofs.WindowReplies.{IsNewWindow, new_window_told, doom_t
 use Rattle.user_model.proofs.LiveWindows.{new_window, live-new, sound}
 use Rattle.user_model.proofs.WindowFacts.{new_unmarked, new_ungiven, made_few}
 use Rattle.user_model.proofs.Forests.{IsBetween, all_between, all_both}
-use Rattle.user_model.proofs.WindowLooks.{looks-new, looks-same, sets_other}
-use Rattle.window_state.specs.Trees.{as_made, HasLooks, HasMarks, IsTreeAt}
+use Rattle.user_model.specs.Looks.{look_of}
+use Rattle.user_model.specs.Refusals.{is_no_rect}
+use Rattle.user_model.proofs.WindowLooks.{look-new, look-other}
+use Rattle.window_state.specs.Trees.{as_made, HasLook, HasMarks, IsTreeAt}
 use Rattle.window_state.proofs.TreeLaws.{looks_same}
 use Rattle.window_state.specs.Effects.{IsRowOf}
 use Rattle.window_state.proofs.TreeFacts.{is_live_at, is_marked_at, is_ended_at, top_of_at, length_at}
@@ -78,13 +80,19 @@ numbers_low setup past t lawful at =
     all_weaker (λ x. IsBetween 15 (15 + length (windows_made past)) (as_made x)) (λ x. x.number.0 ≤ t.last) (λ x b. let last = at.last in omega (arith, b.within, last)) t.live kept
 
 -- what was set of the other windows stays where a window is made
-old_looks : (past : Past) (t : Windows) (who : Thread) (name title parent style ex : ℕ) (l top r b : ℤ) (w : Hwnd) → AllByRecursion (λ x. x.number.0 ≤ t.last) t.live → suc t.last ≡ w.0 → AllByRecursion (HasLooks past) t.live → AllByRecursion (HasLooks (entry_of who (calls.NewWindow name title parent style ex l top r b) (answers.Window w) ∷ past)) t.live
+old_looks : (past : Past) (t : Windows) (who : Thread) (name title parent style ex : ℕ) (l top r b : ℤ) (w : Hwnd) → AllByRecursion (λ x. x.number.0 ≤ t.last) t.live → suc t.last ≡ w.0 → AllByRecursion (HasLook past) t.live → AllByRecursion (HasLook (entry_of who (calls.NewWindow name title parent style ex l top r b) (answers.Window w) ∷ past)) t.live
 old_looks past t who name title parent style ex l top r b w low number looks =
     let e = entry_of who (calls.NewWindow name title parent style ex l top r b) (answers.Window w) in
-    all_weaker (λ x. (x.number.0 ≤ t.last) × HasLooks past x) (HasLooks (e ∷ past)) (λ x both.
+    all_weaker (λ x. (x.number.0 ≤ t.last) × HasLook past x) (HasLook (e ∷ past)) (λ x both.
     let other : eqb w.0 x.number.0 ≡ false = (let h = both.0 in grind (arith, nat_tests, h, number)) in
-    looks_same past (e ∷ past) x (looks-same e past x.number.0 (sets_other x.number.0 w name title parent style ex l top r b other)) both.1)
-    t.live (all_both (λ x. x.number.0 ≤ t.last) (HasLooks past) t.live low looks)
+    looks_same past (e ∷ past) x (look-other past who name title parent style ex l top r b w x.number.0 other) both.1)
+    t.live (all_both (λ x. x.number.0 ≤ t.last) (HasLook past) t.live low looks)
+
+same_look : (s s' x x' : ℕ) (b b' : Box) → s ≡ s' → x ≡ x' → b ≡ b' → look_of s x b ≡ look_of s' x' b'
+same_look s s' x x' b b' es ex eb = cc
+
+window_rect : (row : WindowRow) (l top r b : ℤ) → box_in row.place ≡ box l top r b → is_no_rect l top r b ≡ false → is_no_rect row.place.l row.place.t row.place.r row.place.b ≡ false
+window_rect row l top r b place good = ap (λ (x : Box). is_no_rect x.left x.top x.right x.bottom) place ∙ good
 
 -- a window is made
 pub tree_new : (setup : Setup) (past : Past) (t : Windows) (who : Thread) (name title parent style ex : ℕ) (l top r b : ℤ) (w : Hwnd) (row : WindowRow) → IsLawful setup past → IsTreeAt past t → reply setup past who.0 (calls.NewWindow name title parent style ex l top r b) ≡ answers.Window w → IsRowOf who.0 name title parent style ex row → box_in row.place ≡ box l top r b → IsTreeAt (entry_of who (calls.NewWindow name title parent style ex l top r b) (answers.Window w) ∷ past) (with_window t row)
@@ -94,7 +102,7 @@ tree_new setup past t who name title parent style ex l top r b w row lawful at r
     let over : 15 + length (windows_made past) < suc t.last = (let h = at.last in omega (arith, h)) in
     let z = made (next_number t) (settled t.live row) in
     let number : suc t.last ≡ w.0 = (let n = at.last in let i = ap (λ (v : Hwnd). v.0) new.is_next in omega (arith, n, i)) in
-    let looks = looks-new past who name title parent style ex l top r b w (suc t.last) (eq-eqb w.0 (suc t.last) (sym number)) in
+    let looks = look-new past who name title parent style ex l top r b w (suc t.last) (eq-eqb w.0 (suc t.last) (sym number)) in
     record {
       last = (let h = at.last in omega (arith, h, ap (λ (ns : List ℕ). length ns) (windows_made-next e past refl), length-append (windows_made past) (w.0 ∷ [])));
       windows =
@@ -115,9 +123,9 @@ tree_new setup past t who name title parent style ex l top r b w row lawful at r
             },
             tt,
           );
-      looks = all_append (HasLooks (e ∷ past)) t.live (z ∷ [])
+      looks = all_append (HasLook (e ∷ past)) t.live (z ∷ [])
           (old_looks past t who name title parent style ex l top r b w (numbers_low setup past t lawful at) number at.looks)
-          (record { style = is.style_bits ∙ sym looks.style; ex = is.ex_bits ∙ sym looks.ex; place = place ∙ sym looks.place }, tt);
+          (record { looks = same_look row.style style row.ex ex (box_in row.place) (box l top r b) is.style_bits is.ex_bits place ∙ sym looks; fits = window_rect row l top r b place new.good_edges }, tt);
     }
 
 -- a live window that isn't marked, or 0, may be a parent

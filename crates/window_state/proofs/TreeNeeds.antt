@@ -29,10 +29,10 @@ use Rattle.window_state.specs.Needs.{FitsMaking, FitsUnmaking}
 use Rattle.window_state.proofs.TreeFacts.{is_live_at}
 use Rattle.window_state.proofs.NewWindows.{new_not_refused}
 
-at_most : (a b : ℤ) → int_lt b a ≡ false → a ≤ℤ b
+pub at_most : (a b : ℤ) → int_lt b a ≡ false → a ≤ℤ b
 at_most a b h = grind (arith, ints)
 
-not_over : (a b : ℤ) → a ≤ℤ b → int_lt b a ≡ false
+pub not_over : (a b : ℤ) → a ≤ℤ b → int_lt b a ≡ false
 not_over a b h = grind (arith, ints)
 
 none_of : (a b c d e f : Bool) → a ≡ false → b ≡ false → c ≡ false → d ≡ false → e ≡ false → f ≡ false → (a || b || c || d || e || f) ≡ false
@@ -44,7 +44,7 @@ none_of false false false false true f ha hb hc hd he hf = absurd (true≢false 
 none_of false false false false false f ha hb hc hd he hf = hf
 
 -- an edge within 4,096 pixels
-inside : (z : ℤ) → is_outside z ≡ false → (negsuc 4095 ≤ℤ z) × (z ≤ℤ pos 4096)
+pub inside : (z : ℤ) → is_outside z ≡ false → (negsuc 4095 ≤ℤ z) × (z ≤ℤ pos 4096)
 inside z h = let both = or_parts (int_lt z (negsuc 4095)) (int_lt (pos 4096) z) h in (at_most (negsuc 4095) z both.0, at_most z (pos 4096) both.1)
 
 not_far : (z : ℤ) → negsuc 8388607 ≤ℤ z → z ≤ℤ pos 8388608 → is_far z ≡ false

@@ -1,18 +1,22 @@
 -- What one entry does to the tables.
-use Rattle.std.specs.Prelude.{if◌then◌else◌, ◌≡◌, ℕ}
+use Rattle.std.specs.Prelude.{if◌then◌else◌, ◌≡◌, ◌==◌, ℕ, map, Option, Some}
+use Rattle.win_num.specs.declared.shapes.Rect.{Rect}
 use Rattle.win_num.specs.Rects.{box_in}
 use Rattle.win_num.specs.PixelSets.{box}
 use Rattle.win_num.specs.declared.names.TheConstants.{WS_CHILD}
 use Rattle.win_class.specs.ClassTable.{ClassTable, with_class, with_message, without_class}
 use Rattle.win_tree.specs.declared.row.WindowRow.{WindowRow}
-use Rattle.win_tree.specs.Windows.{Windows}
+use Rattle.win_tree.specs.declared.window.Window.{Window as KeptWindow}
+use Rattle.win_tree.specs.Windows.{Windows, window_of, set_if}
 use Rattle.win_tree.specs.Kin.{with_window, doomed, dropped, without_thread}
 use Rattle.win_tree.specs.Destruction.{unmade, given}
 use Rattle.user_model.specs.declared.call.Call.{Call}
-use Rattle.user_model.specs.declared.call.Call.TheVariants.{Register, Message, Unregister, NewWindow, Doom, Unmake, Drop}
+use Rattle.user_model.specs.declared.call.Call.TheVariants.{Register, Message, Unregister, NewWindow, Doom, Unmake, Drop, Place, Show}
 use Rattle.user_model.specs.declared.entry.Answer.{Answer}
 use Rattle.user_model.specs.declared.entry.Answer.TheVariants.{Okay, Ended, Value, Window, Tell, Last}
 use Rattle.user_model.specs.Windows.{has_flag}
+use Rattle.user_model.specs.Looks.{Look, placed, shown_look}
+use Rattle.window_state.specs.Trees.{look_in}
 
 -- ---- classes and names of messages
 
@@ -77,3 +81,22 @@ affected_tree who (Tell v) call t = unmade_tree call t
 affected_tree who (Last v) call t = unmade_tree call t
 affected_tree who Ended call t = record t { live = without_thread t.live who }
 affected_tree who _ call t = t
+
+-- the window of this number has another look, which f makes of the one that it had
+pub record IsRelooked (w : ℕ) (f : Look → Look) (old new : Windows) : Type 0 where
+  pub was : KeptWindow
+  pub found : window_of old.live w ≡ Some was
+  pub place : Rect
+  pub is_place : box_in place ≡ (f (look_in was.row)).place
+  pub is_new : new ≡ record old { live = map (set_if w (f (look_in was.row)).style (f (look_in was.row)).ex place) old.live }
+
+-- after a call that was answered by a value
+abbrev pub IsLookedAt : Call → Windows → Windows → Type 0
+IsLookedAt (Place w after l t r b flags) old new = IsRelooked w (placed flags after (box l t r b)) old new
+IsLookedAt (Show w on) old new = IsRelooked w (shown_look (on == 1)) old new
+IsLookedAt _ old new = new ≡ old
+
+-- after an answer: a value may come with another look, and the others are as said above
+abbrev pub IsAffected : ℕ → Answer → Call → Windows → Windows → Type 0
+IsAffected who (Value v) call old new = IsLookedAt call old new
+IsAffected who a call old new = new ≡ affected_tree who a call old

@@ -1,5 +1,6 @@
 pub mod ClassTables
 pub mod Effects
 pub mod Needs
+pub mod Placings
 pub mod Steps
 pub mod Trees

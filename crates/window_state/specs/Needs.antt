@@ -1,14 +1,16 @@
 -- What the change of a call needs of the tables of classes and of windows.
-use Rattle.std.specs.Prelude.{◌≡◌, ℕ, ◌<◌, ◌≤◌, ◌==◌, ◌||◌, true, false, None, Result, Ok, Err, IsTrue}
+use Rattle.std.specs.Prelude.{◌≡◌, ℕ, ◌<◌, ◌≤◌, ◌==◌, ◌||◌, true, false, List, Some, None, Result, Ok, Err, IsTrue}
 use Rattle.win_num.specs.PixelSets.{is_bad_rect}
 use Rattle.win_num.specs.declared.code.Fault.{Fault}
 use Rattle.win_num.specs.declared.code.Fault.TheVariants.{Refused, Memory}
 use Rattle.win_class.specs.ClassTable.{ClassTable, register_refusal, message_refusal}
 use Rattle.win_tree.specs.declared.row.WindowRow.{WindowRow}
-use Rattle.win_tree.specs.Windows.{Windows, is_live}
+use Rattle.win_tree.specs.declared.window.Window.{Window}
+use Rattle.win_tree.specs.Windows.{Windows, is_live, window_of}
 use Rattle.win_tree.specs.Kin.{refusal}
 use Rattle.user_model.specs.declared.call.Call.{Call}
-use Rattle.user_model.specs.declared.call.Call.TheVariants.{Register, Message, NewWindow, Unmake}
+use Rattle.user_model.specs.declared.call.Call.TheVariants.{Register, Message, NewWindow, Unmake, Place, Show}
+use Rattle.user_model.specs.Refusals.{is_no_rect}
 use Rattle.window_state.specs.Effects.{IsRowOf}
 
 -- no refusal
@@ -34,3 +36,13 @@ FitsMaking who _ tree = Unit {0}
 abbrev pub FitsUnmaking : Windows → Call → Type 0
 FitsUnmaking tree (Unmake w) = is_live tree.live w ≡ true
 FitsUnmaking tree _ = Unit {0}
+
+-- the place of the window is a rectangle of a window
+abbrev pub Fitting : List Window → ℕ → Type 0
+Fitting ws w = (x : Window) → window_of ws w ≡ Some x → is_no_rect x.row.place.l x.row.place.t x.row.place.r x.row.place.b ≡ false
+
+-- the window that is put at a place or shown is live, and its place is a rectangle of a window
+abbrev pub FitsLooking : Windows → Call → Type 0
+FitsLooking tree (Place w after l t r b flags) = (is_live tree.live w ≡ true) × (is_no_rect l t r b ≡ false) × Fitting tree.live w
+FitsLooking tree (Show w on) = is_live tree.live w ≡ true
+FitsLooking tree _ = Unit {0}

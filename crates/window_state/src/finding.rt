@@ -2,6 +2,7 @@
 
 ghost use Rattle.std.specs.Prelude.{◌≡◌, ◌==◌, ◌||◌, IsTrue};
 ghost use Rattle.win_tree.specs.Windows.{is_live};
+ghost use Rattle.win_tree.specs.Kin.{parent_of};
 ghost use Rattle.window_state.specs.Steps.{told_of, up_of};
 ghost use Rattle.window_state.specs.Trees.{thread_in};
 
@@ -27,6 +28,16 @@ pub fn thread_of(tree: &Tree, w: Hwnd) -> u8
     match tree.row(w) {
         Some(row) => row.thread.0,
         None => 0,
+    }
+}
+
+/// The parent of a live window, or 0.
+pub fn parent_of(tree: &Tree, w: Hwnd) -> Hwnd
+    ensures { result ≡ parent_of tree.now.live w.0 }
+{
+    match tree.row(w) {
+        Some(row) => row.parent,
+        None => Hwnd(0),
     }
 }
 

@@ -6,9 +6,11 @@
 #![tactic(auto)]
 
 mod finding;
+mod looks;
 mod tables;
 
-pub use finding::{step_told, thread_of, up, window_or_none};
+pub use finding::{parent_of, step_told, thread_of, up, window_or_none};
+pub use looks::{Edges, Placing, is_shown, placing_changes, relook};
 pub use tables::{doom, drop_window, make, name, unmake, unregister};
 
 #[cfg(test)]

@@ -70,7 +70,7 @@ pub fn make(tree: &mut Tree, who: Thread, call: Call) -> Result<(), AllocError>
 }
 
 /// The rectangle with these edges.
-fn place_of(l: i64, t: i64, r: i64, b: i64) -> Rect
+pub(crate) fn place_of(l: i64, t: i64, r: i64, b: i64) -> Rect
     requires { is_bad_rect l t r b ≡ false }
     ensures { box_in result ≡ box l t r b }
 {
