@@ -34,6 +34,8 @@ call_row names.NewWindow = row (codes "new_window") (fields.Name ∷ fields.Name
 call_row names.Doom = row (codes "doom") (fields.Number ∷ [])
 call_row names.Unmake = row (codes "unmake") (fields.Number ∷ [])
 call_row names.Drop = row (codes "drop") (fields.Number ∷ [])
+call_row names.Place = row (codes "place") (fields.Number ∷ fields.Signed ∷ fields.Signed ∷ fields.Signed ∷ fields.Signed ∷ fields.Signed ∷ fields.Number ∷ [])
+call_row names.Show = row (codes "show") (fields.Number ∷ fields.Number ∷ [])
 call_row names.NextTop = row (codes "next_top") (fields.Number ∷ [])
 call_row names.IsWindow = row (codes "is_window") (fields.Number ∷ [])
 call_row names.Parent = row (codes "parent") (fields.Number ∷ [])
@@ -46,7 +48,7 @@ call_row names.Advance = row (codes "advance") []
 
 -- all of them
 abbrev pub all_calls : List CallName
-all_calls = names.Peek ∷ names.Get ∷ names.Post ∷ names.PostThread ∷ names.PostQuit ∷ names.Dispatch ∷ names.Send ∷ names.SendTimeout ∷ names.SendNotify ∷ names.SendCallback ∷ names.Await ∷ names.Leave ∷ names.Reply ∷ names.InSend ∷ names.Message ∷ names.Register ∷ names.Unregister ∷ names.NewWindow ∷ names.Doom ∷ names.Unmake ∷ names.Drop ∷ names.NextTop ∷ names.IsWindow ∷ names.Parent ∷ names.EndThread ∷ names.Clock ∷ names.SleepUntil ∷ names.Yield ∷ names.Tick ∷ names.Advance ∷ []
+all_calls = names.Peek ∷ names.Get ∷ names.Post ∷ names.PostThread ∷ names.PostQuit ∷ names.Dispatch ∷ names.Send ∷ names.SendTimeout ∷ names.SendNotify ∷ names.SendCallback ∷ names.Await ∷ names.Leave ∷ names.Reply ∷ names.InSend ∷ names.Message ∷ names.Register ∷ names.Unregister ∷ names.NewWindow ∷ names.Doom ∷ names.Unmake ∷ names.Drop ∷ names.Place ∷ names.Show ∷ names.NextTop ∷ names.IsWindow ∷ names.Parent ∷ names.EndThread ∷ names.Clock ∷ names.SleepUntil ∷ names.Yield ∷ names.Tick ∷ names.Advance ∷ []
 
 -- the one with this word
 unfoldable pub call_named : List ℕ → Option CallName
@@ -75,6 +77,8 @@ call_name (calls.NewWindow class title parent style extended left top right bott
 call_name (calls.Doom window) = names.Doom
 call_name (calls.Unmake window) = names.Unmake
 call_name (calls.Drop window) = names.Drop
+call_name (calls.Place window after left top right bottom flags) = names.Place
+call_name (calls.Show window on) = names.Show
 call_name (calls.NextTop window) = names.NextTop
 call_name (calls.IsWindow window) = names.IsWindow
 call_name (calls.Parent window) = names.Parent
@@ -108,6 +112,8 @@ call_parts (calls.NewWindow class title parent style extended left top right bot
 call_parts (calls.Doom window) = values.Number window ∷ []
 call_parts (calls.Unmake window) = values.Number window ∷ []
 call_parts (calls.Drop window) = values.Number window ∷ []
+call_parts (calls.Place window after left top right bottom flags) = values.Number window ∷ values.Signed after ∷ values.Signed left ∷ values.Signed top ∷ values.Signed right ∷ values.Signed bottom ∷ values.Number flags ∷ []
+call_parts (calls.Show window on) = values.Number window ∷ values.Number on ∷ []
 call_parts (calls.NextTop window) = values.Number window ∷ []
 call_parts (calls.IsWindow window) = values.Number window ∷ []
 call_parts (calls.Parent window) = values.Number window ∷ []
@@ -141,6 +147,8 @@ made_call names.NewWindow vs = calls.NewWindow (name_at vs 0) (name_at vs 1) (nu
 made_call names.Doom vs = calls.Doom (number_at vs 0)
 made_call names.Unmake vs = calls.Unmake (number_at vs 0)
 made_call names.Drop vs = calls.Drop (number_at vs 0)
+made_call names.Place vs = calls.Place (number_at vs 0) (signed_at vs 1) (signed_at vs 2) (signed_at vs 3) (signed_at vs 4) (signed_at vs 5) (number_at vs 6)
+made_call names.Show vs = calls.Show (number_at vs 0) (number_at vs 1)
 made_call names.NextTop vs = calls.NextTop (number_at vs 0)
 made_call names.IsWindow vs = calls.IsWindow (number_at vs 0)
 made_call names.Parent vs = calls.Parent (number_at vs 0)

@@ -41,6 +41,8 @@ fn group_of(call: Call) -> Group
         | Call::Doom(..)
         | Call::Unmake(..)
         | Call::Drop(..)
+        | Call::Place(..)
+        | Call::Show(..)
         | Call::NextTop(..)
         | Call::IsWindow(..)
         | Call::Parent(..)

@@ -22,8 +22,8 @@ use Rattle.user_model.proofs.DeliveryReplies.{post_told}
 use Rattle.user_model.proofs.ReplyLaws.{by_row}
 use Rattle.core_state.specs.Changes.{Change, changed, noted, count_kept, time_kept}
 use Rattle.core_state.specs.Deliveries.{adding_in, effect_in}
-use Rattle.window_state.specs.Effects.{IsAddedBy, added_classes, affected_classes, affected_tree}
-use Rattle.window_state.specs.Needs.{FitsNaming, FitsUnmaking}
+use Rattle.window_state.specs.Effects.{IsAddedBy, IsAffected, added_classes, affected_classes}
+use Rattle.window_state.specs.Needs.{FitsLooking, FitsNaming, FitsUnmaking}
 use Rattle.core_state.specs.Needs.{FitsCarrying, FitsAdding, FitsEffect, IsOne}
 use Rattle.thread_state.specs.Threads.{ThreadView, thread_at}
 use Rattle.send_state.specs.Parts.{SendParts}
@@ -44,6 +44,7 @@ use Rattle.core_state.proofs.Deliveries.{both_changes, fits_post, fits_posting, 
 use Rattle.window_state.proofs.NewWindows.{doom_not_refused, drop_not_refused}
 use Rattle.core_state.proofs.ThreadChanges.{thread-next, count_kept-next, time_kept-next}
 use Rattle.window_state.proofs.TreeNeeds.{fits_making, fits_unmaking}
+use Rattle.window_state.proofs.LookSteps.{fits_looking}
 use Rattle.window_state.proofs.TreeSteps.{tree_after}
 
 -- ---- what a change needs
@@ -75,6 +76,7 @@ carrying_by setup past p classes tree threads who _ st right same_classes same_t
 
 effect_by : (setup : Setup) (past : Past) (p : Parts) (classes : ClassTable) (tree : Windows) (threads : List ThreadView) (who : Thread) (a : Answer) (call : Call) → Stands setup past p → a ≡ reply setup past who.0 call → classes ≡ added_classes a call p.classes → IsAddedBy who.0 a call p.tree tree → length threads ≡ length p.threads → FitsEffect classes tree threads who.0 a call
 effect_by setup past p classes tree threads who answers.Okay call st right grown made same = carrying_by setup past p classes tree threads who call st right grown made same
+effect_by setup past p classes tree threads who (answers.Value n) call st right grown made same = subst (λ (t : Windows). FitsLooking t call) (sym made) (fits_looking setup past p.tree who.0 n call st.tree (sym right))
 effect_by setup past p classes tree threads who (answers.Tell v) call st right grown made same = subst (λ (t : Windows). FitsUnmaking t call) (sym made) (fits_unmaking setup past p.tree who (answers.Tell v) call st.tree (sym right) refl)
 effect_by setup past p classes tree threads who (answers.Last v) call st right grown made same = subst (λ (t : Windows). FitsUnmaking t call) (sym made) (fits_unmaking setup past p.tree who (answers.Last v) call st.tree (sym right) refl)
 effect_by setup past p classes tree threads who (answers.Got o n m) call st right grown made same = one_of setup past p threads who.0 st same (by_row setup past who.0 call (answers.Got o n m) (sym right) refl).running
@@ -148,7 +150,7 @@ tally_step setup past p e place lost tree sends st right here made begun counted
 pub stands_step : (setup : Setup) (past : Past) (p : Parts) (point : Point) (e : Entry) (classes1 classes2 : ClassTable) (tree1 tree2 : Windows) (threads1 threads2 threads3 : List ThreadView) (sends1 sends2 : SendParts) (first : Option Cause) (lost : ℕ) (tally : Tally) (stories1 stories2 stories3 : List SendStory) (place : ℕ)
     → is_full past ≡ false → e.answer ≡ reply setup past e.who.0 e.call → Stands setup past p → point ≡ cursor past
     → classes1 ≡ added_classes e.answer e.call p.classes → classes2 ≡ affected_classes e.answer e.call classes1
-    → IsAddedBy e.who.0 e.answer e.call p.tree tree1 → tree2 ≡ affected_tree e.who.0 e.answer e.call tree1
+    → IsAddedBy e.who.0 e.answer e.call p.tree tree1 → IsAffected e.who.0 e.answer e.call tree1 tree2
     → EachBy (λ t. changed t (adding_in p.tree.live p.time point e.who.0 e.answer e.call)) p.threads threads1
     → EachBy (λ t. changed t (effect_in tree1.live e.who.0 e.answer e.call)) threads1 threads2
     → EachBy (λ t. noted t e) threads2 threads3

@@ -10,7 +10,7 @@ use Rattle.user_model.specs.declared.call.Call.TheVariants.{Unregister, Doom, Dr
 use Rattle.user_model.specs.declared.entry.Answer.{Answer}
 use Rattle.user_model.specs.declared.entry.Answer.TheVariants.{Okay, Ended, Value, Window, Posted as PostMade, Tell, Last, Got}
 use Rattle.core_state.specs.Deliveries.{posting, FitsPost}
-use Rattle.window_state.specs.Needs.{FitsMaking, FitsNaming, FitsUnmaking}
+use Rattle.window_state.specs.Needs.{FitsLooking, FitsMaking, FitsNaming, FitsUnmaking}
 use Rattle.thread_state.specs.Threads.{ThreadView}
 
 -- it is the number of a thread
@@ -46,6 +46,7 @@ FitsCarrying classes tree threads who _ = Unit {0}
 -- what an answer that takes no memory needs
 abbrev pub FitsEffect : ClassTable → Windows → List ThreadView → ℕ → Answer → Call → Type 0
 FitsEffect classes tree threads who Okay call = FitsCarrying classes tree threads who call
+FitsEffect classes tree threads who (Value v) call = FitsLooking tree call
 FitsEffect classes tree threads who (Tell v) call = FitsUnmaking tree call
 FitsEffect classes tree threads who (Last v) call = FitsUnmaking tree call
 FitsEffect classes tree threads who (Got o n m) call = IsOne threads who

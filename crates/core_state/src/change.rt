@@ -4,7 +4,7 @@
 ghost use Rattle.std.specs.Prelude.{◌≡◌, OnOk, OnErr};
 ghost use Rattle.core_state.specs.Changes.{changed};
 ghost use Rattle.core_state.specs.Deliveries.{carried_in, adding_in, effect_in};
-ghost use Rattle.window_state.specs.Effects.{IsAddedBy, carried_classes, carried_tree, added_classes, affected_classes, affected_tree};
+ghost use Rattle.window_state.specs.Effects.{IsAddedBy, carried_classes, carried_tree, added_classes, affected_classes, IsAffected};
 ghost use Rattle.core_state.specs.Needs.{FitsCarrying, FitsAdding, FitsEffect};
 ghost use Rattle.core_state.specs.Sendings.{FitsAddedSends, added_sends};
 ghost use Rattle.core_state.specs.States.{EachBy};
@@ -19,7 +19,7 @@ use user_model::{Answer, Call, Entry};
 use win_class::Classes;
 use win_num::Thread;
 use win_tree::Tree;
-use window_state::{doom, drop_window, make, name, unmake, unregister, window_or_none};
+use window_state::{doom, drop_window, make, name, relook, unmake, unregister, window_or_none};
 
 /// Adds a post, a class, a message's name, a window or a send, as the answer says. After want of memory
 /// nothing has changed.
@@ -55,7 +55,7 @@ pub fn add_item(
 }
 
 /// Does what takes no memory: takes out a message or quit, posts quit, takes a class back, marks windows,
-/// gives a step of a destruction, drops windows with their messages, or ends a thread.
+/// gives a step of a destruction, puts windows at a place, shows or hides them, drops windows with their messages, or ends a thread.
 pub fn take_effect(
     classes: &mut Classes,
     tree: &mut Tree,
@@ -64,11 +64,12 @@ pub fn take_effect(
 )
     requires { FitsEffect classes.old tree.old threads.old.items entry.who.0 entry.answer entry.call }
     ensures classes { classes.new ≡ affected_classes entry.answer entry.call classes.old }
-    ensures tree { tree.new ≡ affected_tree entry.who.0 entry.answer entry.call tree.old }
+    ensures tree { IsAffected entry.who.0 entry.answer entry.call tree.old tree.new }
     ensures threads { EachBy (λ t. changed t (effect_in tree.old.live entry.who.0 entry.answer entry.call)) threads.old.items threads.new.items }
 {
     match entry.answer {
         Answer::Okay => carry_out(classes, tree, threads, entry),
+        Answer::Value(_) => relook(tree, entry.call),
         Answer::Tell(_) | Answer::Last(_) => unmake(tree, entry.call),
         Answer::Got { origin, number, .. } => take(threads, entry, origin, number),
         Answer::Ended => {

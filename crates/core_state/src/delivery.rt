@@ -58,6 +58,8 @@ pub fn posting(tree: &Tree, stamp: Stamp, entry: Entry) -> Option<(u64, Msg)>
         | Call::Doom(..)
         | Call::Unmake(..)
         | Call::Drop(..)
+        | Call::Place(..)
+        | Call::Show(..)
         | Call::NextTop(..)
         | Call::IsWindow(..)
         | Call::Parent(..)

@@ -14,6 +14,7 @@ mod state;
 pub use send_state::SendRow;
 pub use state::CoreState;
 pub use user_model::SendStory;
+pub use window_state::{Edges, Placing};
 
 #[cfg(test)]
 mod tests;

@@ -97,6 +97,8 @@ fn removes(call: Call) -> bool
         | Call::Doom(..)
         | Call::Unmake(..)
         | Call::Drop(..)
+        | Call::Place(..)
+        | Call::Show(..)
         | Call::NextTop(..)
         | Call::IsWindow(..)
         | Call::Parent(..)

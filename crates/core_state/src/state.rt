@@ -7,7 +7,7 @@ ghost use Rattle.user_model.specs.Past.{is_full};
 ghost use Rattle.user_model.specs.Places.{clock, cursor, has_ended};
 ghost use Rattle.user_model.specs.Posts.{first_post, posted, quit};
 ghost use Rattle.user_model.specs.ReplyDelivery.{next_post_number};
-ghost use Rattle.user_model.specs.ReplyWindows.{next_window, next_top_reply};
+ghost use Rattle.user_model.specs.ReplyWindows.{changes_told, next_window, next_top_reply};
 ghost use Rattle.user_model.specs.Setups.{IsSetup};
 ghost use Rattle.user_model.specs.Threads.{is_running, is_thread};
 ghost use Rattle.user_model.specs.Stacks.{has_room, top};
@@ -18,7 +18,10 @@ ghost use Rattle.user_model.specs.ReplySends.{blocks, deadline, next_send_number
 ghost use Rattle.send_state.specs.Standing.{as_told, row_of};
 ghost use Rattle.user_model.specs.Stories.{send_story};
 ghost use Rattle.core_state.specs.Frames.{IsOnTop, wait_end};
-ghost use Rattle.user_model.specs.Windows.{live, window, is_live, thread_of, up, next_top};
+ghost use Rattle.user_model.specs.Windows.{live, window, is_live, parent_in, thread_of, up, next_top};
+ghost use Rattle.user_model.specs.Looks.{look, placed, is_shown};
+ghost use Rattle.user_model.specs.Refusals.{is_no_rect};
+ghost use Rattle.window_state.specs.Placings.{box_of};
 ghost use Rattle.user_model.specs.Destruction.{is_marked, was_given, ended};
 ghost use Rattle.user_model.specs.Classes.{class, classes, registered_count, is_used, message_names, message_number, proc_of};
 ghost use Rattle.user_model.specs.Idle.{reply, is_idle, ends_stuck, last_entry, one_of, times_of};
@@ -37,7 +40,7 @@ use user_model::{Answer, Call, Entry, HISTORY_LIMIT, SendCount, SendStory, Setup
 use win_class::Classes;
 use win_num::{Cause, Filter, Frame, Hwnd, Msg, Point, SendId, Thread};
 use win_tree::Tree;
-use window_state::{step_told, thread_of, up};
+use window_state::{Placing, is_shown, parent_of, placing_changes, step_told, thread_of, up};
 
 /// The history so far, and parts that answer in short time what the definitions say of it.
 #[derive(Drop)]
@@ -414,6 +417,35 @@ impl CoreState {
         let window = self.tree.find(w)?;
         let row = self.tree.row(window)?;
         Some(up(row))
+    }
+
+    /// The parent of a live window, or 0.
+    pub fn parent(&self, w: u64) -> Hwnd
+        ensures { result.0 ≡ parent_in (live self.now.past) w }
+    {
+        match self.tree.find(w) {
+            Some(window) => parent_of(&self.tree, window),
+            None => Hwnd(0),
+        }
+    }
+
+    /// Whether it is a live window with WS_VISIBLE.
+    pub fn is_shown(&self, w: u64) -> bool
+        ensures { result ≡ (is_live self.now.past w && is_shown self.now.past w) }
+    {
+        match self.tree.find(w) {
+            Some(window) => is_shown(&self.tree, window),
+            None => false,
+        }
+    }
+
+    /// What a placing of a live window would change: 1 its corner, 2 its size, 4 whether it is shown.
+    pub fn placing_changes(&self, w: u64, placing: Placing) -> u64
+        requires live { is_live self.now.past w ≡ true }
+        requires edges { is_no_rect placing.edges.l placing.edges.t placing.edges.r placing.edges.b ≡ false }
+        ensures { result ≡ changes_told (look self.now.past w) (placed placing.flags placing.after (box_of placing.edges) (look self.now.past w)) }
+    {
+        placing_changes(&self.tree, w, placing)
     }
 
     /// The next step of the destruction of a live window that is marked.

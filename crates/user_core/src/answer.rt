@@ -11,11 +11,11 @@ ghost use Rattle.user_model.specs.Idle.{is_wait, is_idle, is_barred, first_busy,
 use crate::actor::{Actor, actor_of};
 use crate::clock::{advanced, sleep_until_answer, soonest, tick_answer};
 use crate::windows::{
-    Edges, NewWindow, doom_answer, drop_answer, is_window_answer, new_window_answer,
-    next_top_answer, parent_answer, register_answer, unmake_answer, unregister_answer,
+    NewWindow, doom_answer, drop_answer, is_window_answer, new_window_answer, next_top_answer,
+    parent_answer, place_answer, register_answer, show_answer, unmake_answer, unregister_answer,
 };
 use core_deliver::{admit, delivery_answer, is_delivery, is_retrieval, retrieval_answer};
-use core_state::CoreState;
+use core_state::{CoreState, Edges, Placing};
 use user_model::{Answer, Call};
 use win_num::{Code, Thread};
 
@@ -41,6 +41,19 @@ fn row_answer(state: &CoreState, thread: u8, call: Call) -> Answer
         Call::Doom(w) => doom_answer(state, thread, w),
         Call::Unmake(w) => unmake_answer(state, thread, w),
         Call::Drop(w) => drop_answer(state, thread, w),
+        Call::Place(w, after, l, t, r, b, flags) => {
+            let edges = Edges { l, t, r, b };
+            place_answer(
+                state,
+                w,
+                Placing {
+                    after,
+                    edges,
+                    flags,
+                },
+            )
+        }
+        Call::Show(w, on) => show_answer(state, w, on),
         Call::NextTop(w) => next_top_answer(state, w),
         Call::IsWindow(w) => is_window_answer(state, w),
         Call::Parent(w) => parent_answer(state, w),

@@ -3,7 +3,7 @@
 ghost use Rattle.std.specs.Prelude.{◌≡◌, ◌-ℤ◌, false, int_lt, pos};
 ghost use Rattle.user_model.specs.Past.{is_full};
 ghost use Rattle.user_model.specs.Refusals.{if_own, is_no_rect, is_outside};
-ghost use Rattle.user_model.specs.ReplyWindows.{doom_reply, drop_reply, is_no_parent, is_no_style, is_window_reply, new_window_reply, next_top_reply, parent_reply, register_reply, unmake_reply, unregister_reply, window_if_room};
+ghost use Rattle.user_model.specs.ReplyWindows.{doom_reply, drop_reply, is_no_parent, is_no_placing, is_no_style, is_order, is_sibling, is_window_reply, new_window_reply, next_top_reply, parent_reply, place_reply, register_reply, show_reply, unmake_reply, unregister_reply, window_if_room};
 ghost use Rattle.user_model.specs.Windows.{has_flag};
 
 use crate::codes::{
@@ -11,9 +11,12 @@ use crate::codes::{
     CLASS_HAS_WINDOWS,
 };
 use core_deliver::codes::{ACCESS_DENIED, INVALID_PARAMETER, INVALID_WINDOW_HANDLE};
-use core_state::CoreState;
+use core_state::{CoreState, Edges, Placing};
 use user_model::Answer;
-use win_num::names::{WS_CHILD, WS_DISABLED, WS_EX_TOPMOST, WS_POPUP};
+use win_num::names::{
+    SWP_HIDEWINDOW, SWP_NOACTIVATE, SWP_NOMOVE, SWP_NOSIZE, SWP_NOZORDER, SWP_SHOWWINDOW, WS_CHILD,
+    WS_DISABLED, WS_EX_TOPMOST, WS_POPUP,
+};
 use win_num::{Code, Hwnd};
 
 /// The greatest colour of a class.
@@ -27,6 +30,14 @@ const FAR: i64 = 4096;
 
 /// The styles that a window may have; without painting none is visible.
 const KNOWN_STYLES: u64 = WS_CHILD + WS_POPUP + WS_DISABLED;
+
+/// The flags of a placing.
+const KNOWN_PLACINGS: u64 = SWP_NOSIZE
+    + SWP_NOMOVE
+    + SWP_NOZORDER
+    + SWP_NOACTIVATE
+    + SWP_SHOWWINDOW
+    + SWP_HIDEWINDOW;
 
 /// The answer of a class's registration.
 pub fn register_answer(state: &CoreState, name: u32, colour: u64) -> Answer
@@ -64,15 +75,6 @@ pub struct NewWindow {
     pub parent: u64,
     pub style: u64,
     pub ex: u64,
-}
-
-/// The edges of a new window, in pixels from its parent's or the screen's left top corner.
-#[derive(Clone, Copy)]
-pub struct Edges {
-    pub l: i64,
-    pub t: i64,
-    pub r: i64,
-    pub b: i64,
 }
 
 /// Whether a left or top edge is too far away.
@@ -219,6 +221,65 @@ pub fn drop_answer(state: &CoreState, who: u8, w: u64) -> Answer
         return Answer::Refused(INVALID_PARAMETER);
     }
     if_own(state, who, w)
+}
+
+/// Whether a flag is unknown, or one shows the window and another hides it.
+fn is_no_placing(flags: u64) -> bool
+    ensures { result ≡ is_no_placing flags }
+{
+    if flags & KNOWN_PLACINGS != flags {
+        return true;
+    }
+    has_flag(flags, SWP_SHOWWINDOW) && has_flag(flags, SWP_HIDEWINDOW)
+}
+
+/// Whether `v` is a live window with the parent of `w`, and isn't `w`.
+fn is_sibling(state: &CoreState, w: u64, v: u64) -> bool
+    ensures { result ≡ is_sibling state.now.past w v }
+{
+    state.is_live(v) && (state.parent(v) == state.parent(w) && v != w)
+}
+
+/// Whether a window can come there among its siblings: at the top (0) or the bottom (1), or below a sibling; a top-level window
+/// also with its topmost flag set (minus one) or cleared (minus two).
+fn is_order(state: &CoreState, w: u64, after: i64) -> bool
+    ensures { result ≡ is_order state.now.past w after }
+{
+    match after {
+        0 | 1 => true,
+        -1 | -2 => state.parent(w) == Hwnd(0),
+        _ => after > 1 && is_sibling(state, w, after as u64),
+    }
+}
+
+/// The answer where a window is to be put at a place.
+pub fn place_answer(state: &CoreState, w: u64, placing: Placing) -> Answer
+    ensures { result ≡ place_reply state.now.past w placing.after placing.edges.l placing.edges.t placing.edges.r placing.edges.b placing.flags }
+{
+    if is_no_rect(placing.edges) || is_no_placing(placing.flags) {
+        return Answer::Refused(INVALID_PARAMETER);
+    }
+    let is_live = state.is_live(w);
+    if !has_flag(placing.flags, SWP_NOZORDER) && is_live && !is_order(state, w, placing.after) {
+        return Answer::Refused(INVALID_PARAMETER);
+    }
+    if !is_live {
+        return Answer::Refused(INVALID_WINDOW_HANDLE);
+    }
+    Answer::Value(state.placing_changes(w, placing))
+}
+
+/// The answer where a window is to be shown or hidden: 1 where it was shown, else 0.
+pub fn show_answer(state: &CoreState, w: u64, on: u64) -> Answer
+    ensures { result ≡ show_reply state.now.past w on }
+{
+    if on > 1 {
+        return Answer::Refused(INVALID_PARAMETER);
+    }
+    if !state.is_live(w) {
+        return Answer::Refused(INVALID_WINDOW_HANDLE);
+    }
+    Answer::Value(u64::from(state.is_shown(w)))
 }
 
 /// The top-level window of least number above this one, or 0.

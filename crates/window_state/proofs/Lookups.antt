@@ -1,9 +1,14 @@
 -- What a look-up in the table of windows finds.
-use Rattle.std.proofs.Common.{◌≡◌, ℕ, false, List, Option, Some, None, refl, ap, sym}
+use Rattle.std.proofs.Common.{◌≡◌, ℕ, Bool, false, List, Option, Some, None, refl, ap, sym}
 use Rattle.std.specs.Prelude.{is_some, option_map, unwrap_or}
 use Rattle.win_tree.specs.declared.window.Window.{Window}
 use Rattle.win_tree.specs.declared.row.WindowRow.{WindowRow}
-use Rattle.win_tree.specs.Windows.{number_of, window_of, is_marked, is_ended}
+use Rattle.win_num.specs.declared.message.Hwnd.{Hwnd}
+use Rattle.win_num.specs.declared.names.TheConstants.{WS_VISIBLE}
+use Rattle.win_tree.specs.Windows.{nobody, number_of, window_of, is_marked, is_ended}
+use Rattle.win_tree.specs.Kin.{parent_of}
+use Rattle.user_model.specs.Windows.{has_flag}
+use Rattle.window_state.specs.Placings.{shown_in}
 use Rattle.window_state.specs.Trees.{thread_in}
 use Rattle.window_state.specs.Steps.{up_of}
 
@@ -28,6 +33,12 @@ none_ended ws w e = sym (ap (λ (o : Option Window). unwrap_or (option_map (λ x
 
 pub none_threaded : (ws : List Window) (w : ℕ) → None ≡ option_map number_of (window_of ws w) → 0 ≡ thread_in ws w
 none_threaded ws w e = sym (ap (λ (o : Option Window). unwrap_or (option_map (λ x. x.row.thread.0) o) 0) (none_found ws w e))
+
+pub none_parented : (ws : List Window) (w : ℕ) → None ≡ option_map number_of (window_of ws w) → 0 ≡ (parent_of ws w).0
+none_parented ws w e = sym (ap (λ (o : Option Window). (elim o as (λ p. Hwnd) [ Some x ↦ x.row.parent | None ↦ nobody ]).0) (none_found ws w e))
+
+pub none_shown : (ws : List Window) (w : ℕ) → None ≡ option_map number_of (window_of ws w) → false ≡ shown_in ws w
+none_shown ws w e = sym (ap (λ (o : Option Window). elim o as (λ p. Bool) [ None ↦ false | Some x ↦ has_flag x.row.style WS_VISIBLE ]) (none_found ws w e))
 
 -- what stands above the window of a row
 pub row_up : (o : Option Window) (row : WindowRow) → Some row ≡ option_map (λ (x : Window). x.row) o → Some (up_of row).0 ≡ option_map (λ (x : Window). (up_of x.row).0) o
