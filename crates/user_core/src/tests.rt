@@ -411,6 +411,46 @@ fn windows_are_refused_in_order(rt: HostRuntime) -> Result<(), Fail> {
     Ok(())
 }
 
+/// A placing of window 16: where among its siblings, its edges and flags.
+macro_rules! place {
+    ($after:expr, $l:expr, $t:expr, $r:expr, $b:expr, $flags:expr) => {
+        Call::Place(16, $after, $l, $t, $r, $b, $flags)
+    };
+}
+
+#[test]
+fn windows_are_placed_and_shown(rt: HostRuntime) -> Result<(), Fail> {
+    static ENTRIES: [Made; 25] = [
+        (1, Call::Show(16, 2), refused!(87)),
+        (1, Call::Show(99, 1), refused!(1400)),
+        (2, Call::Show(16, 1), Answer::Value(0)),
+        (1, Call::Show(16, 1), Answer::Value(1)),
+        (1, Call::Show(16, 0), Answer::Value(1)),
+        (1, Call::Show(16, 0), Answer::Value(0)),
+        (1, place!(0, 1, 2, 11, 22, 0), Answer::Value(3)),
+        (1, place!(0, 1, 2, 11, 22, 64), Answer::Value(4)),
+        (1, place!(0, 5, 5, 5, 5, 129), Answer::Value(5)),
+        (1, place!(0, 0, 0, 3, 20, 2), Answer::Value(2)),
+        (1, place!(1, 5, 5, 8, 25, 0), Answer::Value(0)),
+        (1, place!(17, 5, 5, 8, 25, 0), Answer::Value(0)),
+        (1, place!(16, 5, 5, 8, 25, 0), refused!(87)),
+        (1, place!(99, 5, 5, 8, 25, 0), refused!(87)),
+        (1, place!(99, 5, 5, 8, 25, 4), Answer::Value(0)),
+        (1, Call::Place(99, 99, 5, 5, 8, 25, 0), refused!(1400)),
+        (1, place!(0, 5, 5, 8, 25, 192), refused!(87)),
+        (1, place!(0, 5, 5, 8, 25, 8), refused!(87)),
+        (1, place!(0, 5, 5, 4, 25, 0), refused!(87)),
+        (1, place!(-1, 5, 5, 8, 25, 0), Answer::Value(0)),
+        (1, place!(-2, 5, 5, 8, 25, 0), Answer::Value(0)),
+        (1, place!(-3, 5, 5, 8, 25, 0), refused!(87)),
+        (1, make!(names::WS_CHILD, 16), window!(18)),
+        (1, Call::Place(18, -1, 0, 0, 0, 0, 0), refused!(87)),
+        (1, Call::Place(18, 17, 0, 0, 0, 0, 0), refused!(87)),
+    ];
+    assert_eq!(rt; replayed(rt.alloc(), 2, &ENTRIES)?, ENTRIES.len());
+    Ok(())
+}
+
 #[test]
 fn classes_and_messages(rt: HostRuntime) -> Result<(), Fail> {
     static ENTRIES: [Made; 11] = [
