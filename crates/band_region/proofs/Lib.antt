@@ -1,4 +1,6 @@
 pub mod Geometry
-pub mod Gains
-pub mod Sweep
+pub mod Lists
+pub mod Pixels
 pub mod Sets
+pub mod Spans
+pub mod RowSweep

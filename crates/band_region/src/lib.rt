@@ -1,8 +1,9 @@
 //! Sets of pixels of the plane, as lists of rectangles (Microsoft, Regions).
 #![tactic(auto)]
 
+mod bands;
+mod columns;
 mod covering;
-mod lists;
 mod pieces;
 mod region;
 

@@ -1,17 +1,16 @@
--- Sweeping over the rows of a rectangle.
+-- Pixels of rectangles, and the rectangle around a list.
 use Rattle.std.proofs.Common.{◌≡◌, ℕ, ◌+◌, ◌<◌, ◌≤◌, Bool, true, false, ◌&&◌, ◌||◌, List, [], ◌∷◌, take, get_or, length, refl, sym, subst, ◌∙◌, arith}
-use Rattle.std.specs.Prelude.{ℤ, pos, negsuc, ◌+ℤ◌, ◌-ℤ◌, ◌≤ℤ◌, ◌<ℤ◌, int_lt, int_le, All, Option, None, Some, IfNone}
+use Rattle.std.specs.Prelude.{ℤ, pos, negsuc, ◌+ℤ◌, ◌-ℤ◌, ◌≤ℤ◌, ◌<ℤ◌, int_lt, int_le, All, Option, None, Some, IfNone, Result, Ok, Err, IsOk, IsErr, IsTrue, ◌↔◌}
 use Rattle.std.proofs.lemmas.Int.{ints, by_lt_z}
 use Rattle.std.proofs.lemmas.List.{take_all}
 use Rattle.std.proofs.lemmas.List.Folds.{list_any_at, list_any_more}
 use Rattle.std.proofs.lemmas.List.Elements.{All-nil, All-cons, All-head, All-tail, All-more, All-weaker, All-get_or}
-use borrow.Author.Differences.{up}
 use Rattle.win_num.specs.declared.shapes.Point.{Point}
 use Rattle.win_num.specs.declared.shapes.Rect.{Rect}
 use Rattle.win_num.specs.PixelSets.{Box, has_pixel}
 use Rattle.win_num.specs.Rects.{box_in}
 use Rattle.band_region.specs.Regions.{rect_has, region_has, IsFilled, moved_back, plane, StaysInPlane}
-use Rattle.band_region.specs.Pieces.{IsFoundAt, IsCovered, IsBare, CoversBlock, CoversRows, HasAll, LacksSome, IsWithin, IsJoined, Bounds}
+use Rattle.band_region.specs.Pieces.{IsFoundAt, IsWithin, IsJoined, Bounds}
 use Rattle.band_region.proofs.Geometry.{le_yes, lt_yes, ≤ℤ-trans}
 
 and_left : (a b : Bool) → (a && b) ≡ true → a ≡ true
@@ -68,104 +67,9 @@ found_at rs i r p h e t = record {
   covered = λ q k. list_any_at (λ x. rect_has x q) rs i r h (subst (λ x. rect_has x q ≡ true) e k);
 }
 
--- the columns from the left edge up to x are covered, in the rows from y up to low
-pub record Swept (rs : List Rect) (b : Rect) (y x low : ℤ) : Type 0 where
-  pub from_left : b.l ≤ℤ x
-  pub lower : y <ℤ low
-  pub above_bottom : low ≤ℤ b.b
-  pub block : CoversBlock rs b.l y x low
-
-pub swept-start : (rs : List Rect) (b : Rect) (y x low : ℤ) → x ≡ b.l → low ≡ b.b → y <ℤ b.b → Swept rs b y x low
-swept-start rs b y x low e f h = record {
-  from_left = omega (arith, ints);
-  lower = omega (arith, ints);
-  above_bottom = omega (arith, ints);
-  block = λ p l r t d. absurd (omega (arith, ints));
-}
-
-pub swept-more : (rs : List Rect) (b r : Rect) (y x low x' low' : ℤ) (q : Point) → Swept rs b y x low → IsFoundAt rs q r → q.x ≡ x → q.y ≡ y → x' ≡ r.r → low' ≤ℤ low → low' ≤ℤ r.b → (q.y <ℤ low → q.y <ℤ r.b → q.y <ℤ low') → Swept rs b y x' low'
-swept-more rs b r y x low x' low' q s f ex ey ex' m n o =
-    let a = at_from_rect r q f.at in
-    let al : r.l ≤ℤ q.x = a.left in
-    let ar : q.x <ℤ r.r = a.right in
-    let at : r.t ≤ℤ q.y = a.top in
-    let ab : q.y <ℤ r.b = a.bottom in
-    let fl = s.from_left in
-    let lo = s.lower in
-    let bo = s.above_bottom in
-    let lower : q.y <ℤ low' = o (omega (arith, ints)) ab in
-    record {
-      from_left = omega (arith, ints);
-      lower = omega (arith, ints);
-      above_bottom = omega (arith, ints);
-      block = λ p l t u d. by_lt_z p.x x
-          (λ k. s.block p l k u (omega (arith, ints)))
-          (λ k. f.covered p (rect_from_at r p (record { left = omega (arith, ints); right = omega (arith, ints); top = omega (arith, ints); bottom = omega (arith, ints) })));
-    }
-
-pub swept-end : (rs : List Rect) (b : Rect) (y x low y' low' : ℤ) → Swept rs b y x low → b.r ≤ℤ x → y' ≡ y → low' ≡ low → CoversRows rs b y' low'
-swept-end rs b y x low y' low' s h e f =
-    let lo = s.lower in
-    let bo = s.above_bottom in
-    record {
-      lower = omega (arith, ints);
-      above_bottom = omega (arith, ints);
-      block = λ p l r t d. s.block p l (omega (arith, ints)) (omega (arith, ints)) (omega (arith, ints));
-    }
-
-pub bare_at : (rs : List Rect) (b : Rect) (q : Point) → b.l ≤ℤ q.x → q.x <ℤ b.r → b.t ≤ℤ q.y → q.y <ℤ b.b → region_has rs q ≡ false → IsBare rs b
-bare_at rs b q l r t d h = record {
-  bare = q;
-  within = rect_from_at b q (record { left = l; right = r; top = t; bottom = d });
-  lacked = h;
-}
-
--- the rows from the top edge down to y are covered
-pub record Down (rs : List Rect) (b : Rect) (y : ℤ) : Type 0 where
-  pub from_top : b.t ≤ℤ y
-  pub block : CoversBlock rs b.l b.t b.r y
-
-pub down-start : (rs : List Rect) (b : Rect) (y : ℤ) → y ≡ b.t → Down rs b y
-down-start rs b y e = record { from_top = omega (arith, ints); block = λ p l r t d. absurd (omega (arith, ints)) }
-
-pub down-more : (rs : List Rect) (b : Rect) (y low y' low' : ℤ) → Down rs b y → CoversRows rs b y' low → y' ≡ y → low' ≡ low → Down rs b low'
-down-more rs b y low y' low' d c e f =
-    let top = d.from_top in
-    let lower = c.lower in
-    record {
-      from_top = omega (arith, ints);
-      block = λ p l r t k. by_lt_z p.y y (λ h. d.block p l r t h) (λ h. c.block p l r (omega (arith, ints)) (omega (arith, ints)));
-    }
-
-pub down-end : (rs : List Rect) (b : Rect) (y : ℤ) → Down rs b y → b.b ≤ℤ y → IsCovered rs b
-down-end rs b y d h p t =
-    let a = at_from_rect b p t in
-    let bottom : p.y <ℤ b.b = a.bottom in
-    d.block p a.left a.right a.top (omega (arith, ints))
-
-up-less : (z w : ℤ) → w <ℤ z → pos 0 <ℤ z → up w < up z
-up-less (pos n) (pos m) h k = omega (arith, ints)
-up-less (pos n) (negsuc m) h k = omega (arith, ints)
-up-less (negsuc n) w h k = absurd (omega (arith, ints))
-
--- a distance to an edge gets less
-pub nearer : (e a b : ℤ) → a <ℤ b → a <ℤ e → up (e -ℤ b) < up (e -ℤ a)
-nearer e a b h k = up-less (e -ℤ a) (e -ℤ b) (omega (arith, ints)) (omega (arith, ints))
-
-pub lacks_from_bare : (rs parts : List Rect) (i : ℕ) (r : Rect) → i < length parts → r ≡ get_or parts i r → IsBare rs r → LacksSome rs parts
-lacks_from_bare rs parts i r h e b = record {
-  bare = b.bare;
-  within = list_any_at (λ x. rect_has x b.bare) parts i r h (subst (λ x. rect_has x b.bare ≡ true) e b.within);
-  lacked = b.lacked;
-}
-
 either : (a b : Bool) (P : Type 0) → (a || b) ≡ true → (a ≡ true → P) → (b ≡ true → P) → P
 either true b P h f g = f refl
 either false b P h f g = g h
-
-pub has_all-more : (rs parts : List Rect) (i : ℕ) (r : Rect) → i < length parts → r ≡ get_or parts i r → HasAll rs (take i parts) → IsCovered rs r → HasAll rs (take (i + 1) parts)
-has_all-more rs parts i r h e a c p t =
-    either _ _ _ (sym (list_any_more (λ x. rect_has x p) parts i r h) ∙ t) (a p) (λ k. c p (subst (λ x. rect_has x p ≡ true) (sym e) k))
 
 pub unseen_more : (rs : List Rect) (i : ℕ) (r : Rect) (p : Point) (b : Bool) → i < length rs → r ≡ get_or rs i r → region_has (take i rs) p ≡ false → ((b ≡ true → has_pixel (box_in r) p ≡ true) × (has_pixel (box_in r) p ≡ true → b ≡ true)) → b ≡ false → region_has (take (i + 1) rs) p ≡ false
 unfolding rect_has
@@ -255,3 +159,7 @@ stays_at rs dx dy i r h e f s =
     let br : ((r.r -ℤ pos 1) +ℤ dx) <ℤ pos 8388608 = b.right in
     let bb : ((r.b -ℤ pos 1) +ℤ dy) <ℤ pos 8388608 = b.bottom in
     record { left = al; top = at; right = omega (arith, ints); bottom = omega (arith, ints) }
+
+pub ok_from : {A E : Type 0} (r : Result A E) (b : Bool) → (IsErr r ↔ IsTrue b) → b ≡ false → IsOk r
+ok_from (Ok x) b h e = grind arith
+ok_from (Err x) b h e = grind (arith, h)
