@@ -36,7 +36,7 @@ pub good_rect : (l t r b : ℤ) → l ≤ℤ r → t ≤ℤ b → negsuc 8388607
 good_rect l t r b h k hl ht hr hb =
     rw (lt_no r l h, lt_no b t k, near l hl (≤ℤ-trans l r (pos 8388608) h hr), near t ht (≤ℤ-trans t b (pos 8388608) k hb), near r (≤ℤ-trans (negsuc 8388607) l r hl h) hr, near b (≤ℤ-trans (negsuc 8388607) t b ht k) hb) refl
 
-near_fits : (z : ℤ) → negsuc 8388607 ≤ℤ z → z ≤ℤ pos 8388608 → FitsSigned w32 z
+pub near_fits : (z : ℤ) → negsuc 8388607 ≤ℤ z → z ≤ℤ pos 8388608 → FitsSigned w32 z
 near_fits z h k = fits_signed_from_abs w32 z (omega (arith, ints))
 
 -- the edges of a rectangle fit 32 bits

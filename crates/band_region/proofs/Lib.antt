@@ -4,3 +4,6 @@ pub mod Pixels
 pub mod Sets
 pub mod Spans
 pub mod RowSweep
+pub mod Rows
+pub mod Unique
+pub mod BandSweep

@@ -2,10 +2,10 @@
 use Rattle.std.proofs.Common.{◌≡◌, ℕ, ◌+◌, ◌<◌, ◌≤◌, Bool, true, false, ◌||◌, List, [], ◌∷◌, ◌++◌, zero, suc, take, drop, get_or, length, refl, sym, ap, subst, ◌∙◌, arith}
 use Rattle.std.specs.Prelude.{All}
 use Rattle.std.specs.List.{AllPairs, list_any}
-use Rattle.std.proofs.lemmas.List.{take-append-drop, drop_more}
+use Rattle.std.proofs.lemmas.List.{take-append-drop, drop_more, take_more}
 use Rattle.std.proofs.lemmas.List.Kept.{AllPairs-cons}
 use Rattle.std.proofs.lemmas.List.Folds.{list_any-append, list_any_none}
-use Rattle.std.proofs.lemmas.List.Elements.{All-nil, All-cons, All-head, All-tail, All-take, All-push}
+use Rattle.std.proofs.lemmas.List.Elements.{All-nil, All-cons, All-head, All-tail, All-take, All-push, All-contains, Contains-push}
 
 pub pairs-nil : {X : Type 0} (R : X → X → Type 0) → AllPairs R []
 pairs-nil R = λ i j d h k. absurd (omega arith)
@@ -36,6 +36,14 @@ pairs-push R (x ∷ xs) y p h = AllPairs-cons R x (xs ++ y ∷ []) (All-push (R 
 -- what is left from a place on, with its first element
 pub pairs-rest : {X : Type 0} (R : X → X → Type 0) (xs : List X) (i : ℕ) (d : X) → i < length xs → AllPairs R xs → All (R (get_or xs i d)) (drop (i + 1) xs)
 pairs-rest R xs i d h p = pairs-head R (get_or xs i d) (drop (i + 1) xs) (subst (λ ys. AllPairs R ys) (drop_more xs i d h) (pairs-drop R i xs p))
+
+pub pairs-last : {X : Type 0} (R : X → X → Type 0) (xs : List X) (y : X) → AllPairs R (xs ++ y ∷ []) → All (λ x. R x y) xs
+pairs-last R [] y p = All-nil (λ x. R x y)
+pairs-last R (x ∷ xs) y p = All-cons (λ z. R z y) x xs (All-contains (R x) (xs ++ y ∷ []) y (pairs-head R x (xs ++ y ∷ []) p) (Contains-push xs y)) (pairs-last R xs y (pairs-tail R x (xs ++ y ∷ []) p))
+
+-- what comes before an element
+pub pairs-earlier : {X : Type 0} (R : X → X → Type 0) (xs : List X) (i : ℕ) (d : X) → i < length xs → AllPairs R xs → All (λ x. R x (get_or xs i d)) (take i xs)
+pairs-earlier R xs i d h p = pairs-last R (take i xs) (get_or xs i d) (subst (λ ys. AllPairs R ys) (take_more xs i d h) (pairs-take R (i + 1) xs p))
 
 pub all-rest : {X : Type 0} (P : X → Type 0) (xs : List X) (i : ℕ) (d : X) → i < length xs → P (get_or xs i d) → All P (drop (i + 1) xs) → All P (drop i xs)
 all-rest P xs i d h here after = subst (λ ys. All P ys) (sym (drop_more xs i d h)) (All-cons P (get_or xs i d) (drop (i + 1) xs) here after)

@@ -13,7 +13,7 @@ use Rattle.band_region.specs.declared.columns.Span.{Span}
 use Rattle.band_region.specs.declared.columns.Stretch.{Stretch}
 use Rattle.band_region.specs.Columns.{kept, column_in, spans_have, columns_have, IsLeftOf, IsStretch, IsRightOf, IsGood, IsRow, IsSpanAdded, IsMixedRow}
 use Rattle.band_region.proofs.Geometry.{le_yes, lt_yes, le_no, lt_no, ≤ℤ-trans}
-use Rattle.band_region.proofs.Lists.{pairs-nil, pairs-head, pairs-tail, pairs-take, pairs-drop, pairs-push, pairs-rest, all-rest, any_back}
+use Rattle.band_region.proofs.Lists.{pairs-nil, pairs-head, pairs-tail, pairs-take, pairs-drop, pairs-push, pairs-last, pairs-rest, all-rest, any_back}
 
 pub col_in : (l r x : ℤ) → l ≤ℤ x → x <ℤ r → column_in l r x ≡ true
 unfolding column_in
@@ -142,12 +142,6 @@ row-front front last w = record {
   apart = subst (λ ss. AllPairs (λ t u. t.r <ℤ u.l) ss) (take_at front (last ∷ []) (length front) refl) (pairs-take (λ t u. t.r <ℤ u.l) (length front) (front ++ last ∷ []) w.apart);
 }
 
-pub before_last : (front : List Span) (last : Span) → AllPairs (λ t u. t.r <ℤ u.l) (front ++ last ∷ []) → All (λ t. t.r <ℤ last.l) front
-before_last [] last p = All-nil (λ t. t.r <ℤ last.l)
-before_last (s ∷ ss) last p = All-cons (λ t. t.r <ℤ last.l) s ss
-    (All-contains (λ u. s.r <ℤ u.l) (ss ++ last ∷ []) last (pairs-head (λ t u. t.r <ℤ u.l) s (ss ++ last ∷ []) p) (Contains-push ss last))
-    (before_last ss last (pairs-tail (λ t u. t.r <ℤ u.l) s (ss ++ last ∷ []) p))
-
 pub last_good : (front : List Span) (last : Span) → IsRow (front ++ last ∷ []) → IsGood last
 last_good front last w = All-contains IsGood (front ++ last ∷ []) last w.good (Contains-push front last)
 
@@ -166,7 +160,7 @@ span_joined old front last s l r e w f g h k m =
     let good = last_good front last row in
     let across : last.l <ℤ last.r = good.across in
     let left : negsuc 8388607 ≤ℤ last.l = good.left_near in
-    let added = span_pushed front s last.l r (row-front front last row) (before_last front last row.apart) g h (omega (arith, ints)) left m in
+    let added = span_pushed front s last.l r (row-front front last row) (pairs-last (λ t u. t.r <ℤ u.l) front last row.apart) g h (omega (arith, ints)) left m in
     record {
       row = added.row;
       ended = added.ended;
@@ -181,7 +175,7 @@ span_apart old front last s l r e w a n f g h k m =
     let end : last.r ≤ℤ l = All-contains (λ t. t.r ≤ℤ l) (front ++ last ∷ []) last ends (Contains-push front last) in
     let good = last_good front last row in
     let across : last.l <ℤ last.r = good.across in
-    let ended : All (λ t. t.r <ℤ l) (front ++ last ∷ []) = All-push (λ t. t.r <ℤ l) front last (All-weaker (λ t. t.r <ℤ last.l) (λ t. t.r <ℤ l) (λ t q. omega (arith, ints)) front (before_last front last row.apart)) (less end n) in
+    let ended : All (λ t. t.r <ℤ l) (front ++ last ∷ []) = All-push (λ t. t.r <ℤ l) front last (All-weaker (λ t. t.r <ℤ last.l) (λ t. t.r <ℤ l) (λ t q. omega (arith, ints)) front (pairs-last (λ t u. t.r <ℤ u.l) front last row.apart)) (less end n) in
     subst (λ ss. IsSpanAdded ss l r ((front ++ last ∷ []) ++ s ∷ [])) (sym e) (span_pushed (front ++ last ∷ []) s l r row ended f g h k m)
   where
     less : {a b : ℤ} → a ≤ℤ b → (a ≡ b → ⊥) → a <ℤ b

@@ -99,9 +99,9 @@ pub(crate) fn mixed(
         let next = mixed_row(alloc, &ones[..one.count], &others[..other.count], mix)?;
         if next != row {
             push_band(&mut rects, row.as_slice(), top, y)?;
-            row = next;
             top = y;
         }
+        row = next;
         y = one.end.min(other.end);
         ones = below(ones, y);
         others = below(others, y);
