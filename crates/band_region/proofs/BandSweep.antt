@@ -1,5 +1,5 @@
 -- The sweep over the rows of two regions.
-use Rattle.std.proofs.Common.{◌≡◌, ℕ, ◌<◌, Bool, true, false, ◌&&◌, ◌||◌, ◌⊎◌, inl, inr, List, [], ◌∷◌, take, get_or, length, refl, sym, ap, subst, ◌∙◌, arith}
+use Rattle.std.proofs.Common.{◌≡◌, Bool, true, false, ◌&&◌, ◌||◌, ◌⊎◌, inl, inr, List, [], take, get_or, refl, sym, ap, subst, ◌∙◌, arith}
 use Rattle.std.specs.Prelude.{ℤ, pos, negsuc, ◌-ℤ◌, ◌≤ℤ◌, ◌<ℤ◌, All, Contains}
 use Rattle.std.specs.List.{AllPairs}
 use Rattle.std.proofs.lemmas.Int.{ints, by_lt_z}
@@ -10,12 +10,12 @@ use Rattle.win_num.specs.declared.shapes.Rect.{Rect}
 use Rattle.band_region.specs.declared.columns.Mix.{Mix}
 use Rattle.band_region.specs.declared.columns.Span.{Span}
 use Rattle.band_region.specs.declared.bands.Rows.{Rows}
-use Rattle.band_region.specs.Regions.{rect_has, region_has, IsFilled, IsBefore, IsBanded, SameRows}
-use Rattle.band_region.specs.Columns.{kept, column_in, spans_have, columns_have, IsGood, IsRow, IsMixedRow}
+use Rattle.band_region.specs.Regions.{rect_has, region_has, IsFilled, IsBefore, SameRows}
+use Rattle.band_region.specs.Columns.{kept, column_in, spans_have, IsGood, IsRow, IsMixedRow}
 use Rattle.band_region.specs.Bands.{IsRowsAt, IsBelow, IsBandAdded, IsMixed}
 use Rattle.band_region.proofs.Lists.{pairs-nil}
 use Rattle.band_region.proofs.Pixels.{rect_from_at}
-use Rattle.band_region.proofs.Spans.{col_in, col_before, col_after, kept_none}
+use Rattle.band_region.proofs.Spans.{col_in, col_before, kept_none}
 use Rattle.band_region.proofs.Rows.{none_above, no_pixel_far, no_pixel_before}
 use Rattle.band_region.proofs.Unique.{one_row}
 

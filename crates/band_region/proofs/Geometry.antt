@@ -1,14 +1,12 @@
 -- Tests of edges.
-use Rattle.std.proofs.Common.{◌≡◌, ℕ, ◌+◌, ◌<◌, Bool, true, false, ◌&&◌, refl, sym, ap, ◌∙◌, ◌⊎◌, inl, inr, w32, arith}
-use Rattle.std.specs.Prelude.{if◌then◌else◌, ℤ, pos, negsuc, ◌-ℤ◌, ◌≤ℤ◌, ◌<ℤ◌, int_lt, int_le, FitsSigned}
+use Rattle.std.proofs.Common.{◌≡◌, ◌<◌, true, false, refl, ap, w32, arith}
+use Rattle.std.specs.Prelude.{ℤ, pos, negsuc, ◌-ℤ◌, ◌≤ℤ◌, ◌<ℤ◌, int_lt, int_le, FitsSigned}
 use borrow.Author.Differences.{up}
 use Rattle.std.specs.Int.{int_max, int_min}
 use Rattle.std.proofs.lemmas.Int.{ints, clamps, fits_signed_from_abs}
-use Rattle.win_num.specs.declared.shapes.Point.{Point}
-use Rattle.win_num.specs.PixelSets.{Box, box, has_pixel, is_bad_rect, is_far}
+use Rattle.win_num.specs.PixelSets.{Box, box, is_bad_rect, is_far}
 use Rattle.win_num.specs.declared.shapes.Rect.{Rect}
 use Rattle.win_num.specs.Rects.{box_in}
-use Rattle.band_region.specs.Regions.{rect_has, IsFilled}
 use Rattle.band_region.specs.Pieces.{IsJoined}
 
 pub near : (z : ℤ) → negsuc 8388607 ≤ℤ z → z ≤ℤ pos 8388608 → is_far z ≡ false

@@ -7,3 +7,4 @@ pub mod RowSweep
 pub mod Rows
 pub mod Unique
 pub mod BandSweep
+pub mod Shapes

@@ -1,14 +1,13 @@
 -- The sweep over the columns of two rows.
-use Rattle.std.proofs.Common.{◌≡◌, Bool, true, false, ◌||◌, List, [], refl, sym, ap, subst, ◌∙◌, arith}
+use Rattle.std.proofs.Common.{◌≡◌, Bool, true, false, ◌||◌, List, [], refl, sym, subst, ◌∙◌, arith}
 use Rattle.std.specs.Prelude.{ℤ, pos, negsuc, ◌≤ℤ◌, ◌<ℤ◌, All}
-use Rattle.std.specs.List.{AllPairs}
 use Rattle.std.proofs.lemmas.Int.{ints, by_lt_z}
 use Rattle.std.proofs.lemmas.List.Elements.{All-nil, All-weaker}
 use Rattle.win_num.specs.declared.shapes.Rect.{Rect}
 use Rattle.band_region.specs.declared.columns.Mix.{Mix}
 use Rattle.band_region.specs.declared.columns.Span.{Span}
 use Rattle.band_region.specs.declared.columns.Stretch.{Stretch}
-use Rattle.band_region.specs.Columns.{kept, column_in, spans_have, columns_have, IsLeftOf, IsStretch, IsRightOf, IsGood, IsRow, IsSpanAdded, IsMixedRow}
+use Rattle.band_region.specs.Columns.{kept, column_in, spans_have, columns_have, IsStretch, IsRightOf, IsGood, IsRow, IsSpanAdded, IsMixedRow}
 use Rattle.band_region.proofs.Lists.{pairs-nil}
 use Rattle.band_region.proofs.Spans.{col_in, col_before, no_spans, no_column_far, no_column_before, kept_none}
 

@@ -1,19 +1,19 @@
 -- The rectangles of one row, and those below it.
 use Rattle.std.proofs.Common.{◌≡◌, ℕ, ◌+◌, ◌<◌, ◌≤◌, Bool, true, false, ◌&&◌, ◌||◌, ◌⊎◌, inl, inr, List, [], ◌∷◌, ◌++◌, take, drop, get_or, length, refl, sym, ap, subst, ◌∙◌, arith}
 use Rattle.std.specs.Prelude.{ℤ, pos, negsuc, ◌≤ℤ◌, ◌<ℤ◌, int_le, int_lt, All, Contains}
-use Rattle.std.specs.List.{AllPairs, list_any}
+use Rattle.std.specs.List.{AllPairs}
 use Rattle.std.proofs.lemmas.Int.{ints}
-use Rattle.std.proofs.lemmas.List.{take_all, drop_all, drop_more, take_more}
+use Rattle.std.proofs.lemmas.List.{take_all, drop_all, drop_more}
 use Rattle.std.proofs.lemmas.List.Folds.{list_any_none, list_any_more, list_any-append}
 use Rattle.std.proofs.lemmas.List.Elements.{All-nil, All-weaker, All-more, All-take, All-push, All-head, All-tail, Contains-get_or}
 use Rattle.win_num.specs.declared.shapes.Point.{Point}
 use Rattle.win_num.specs.declared.shapes.Rect.{Rect}
-use Rattle.win_num.specs.PixelSets.{Box, box, has_pixel}
+use Rattle.win_num.specs.PixelSets.{Box, box}
 use Rattle.win_num.specs.Rects.{box_in}
 use Rattle.band_region.specs.declared.columns.Span.{Span}
 use Rattle.band_region.specs.declared.bands.Rows.{Rows}
 use Rattle.band_region.specs.Regions.{rect_has, region_has, IsFilled, IsBefore}
-use Rattle.band_region.specs.Columns.{column_in, spans_have, columns_have, IsLeftOf, IsGood, IsRow}
+use Rattle.band_region.specs.Columns.{column_in, spans_have, IsRow}
 use Rattle.band_region.specs.Bands.{IsRowsAt, IsBelow, IsBandAdded}
 use Rattle.band_region.proofs.Geometry.{le_yes, lt_yes, le_no, lt_no, ≤ℤ-trans}
 use Rattle.band_region.proofs.Lists.{pairs-nil, pairs-take, pairs-drop, pairs-push, pairs-rest, pairs-earlier, all-rest, any_agree, any_front, any_back}
@@ -113,8 +113,8 @@ rows_of rs y end i s p a w h e on le rest =
 pub rows_here : (rs : List Rect) (y end : ℤ) (i : ℕ) (r : Rect) (s : Rows) → i < length rs → r ≡ get_or rs i r → AllPairs IsBefore rs → All (λ q. y <ℤ q.b) rs → RowsSeen rs y end i → y <ℤ r.t → s.count ≡ i → y <ℤ s.end → s.end ≤ℤ end → s.end ≤ℤ r.t → IsRowsAt rs y s
 rows_here rs y end i r s h g p a w k e on le top =
     rows_of rs y end i s p a w (omega arith) e on le (λ q n. none_lower (drop i rs) q
-        (all-rest (λ u. q.y <ℤ u.t) rs i r h (subst (λ u. q.y <ℤ u.t) g (omega (arith, ints)))
-        (All-weaker (IsBefore (get_or rs i r)) (λ u. q.y <ℤ u.t) (λ u b. let d : (get_or rs i r).t ≤ℤ u.t = tops_down (get_or rs i r) u b in let f : r.t ≡ (get_or rs i r).t = ap (λ (v : Rect). v.t) g in omega (arith, ints)) (drop (i + 1) rs) (pairs-rest IsBefore rs i r h p))))
+    (all-rest (λ u. q.y <ℤ u.t) rs i r h (subst (λ u. q.y <ℤ u.t) g (omega (arith, ints)))
+    (All-weaker (IsBefore (get_or rs i r)) (λ u. q.y <ℤ u.t) (λ u b. let d : (get_or rs i r).t ≤ℤ u.t = tops_down (get_or rs i r) u b in let f : r.t ≡ (get_or rs i r).t = ap (λ (v : Rect). v.t) g in omega (arith, ints)) (drop (i + 1) rs) (pairs-rest IsBefore rs i r h p))))
 
 pub rows_all : (rs : List Rect) (y end : ℤ) (i : ℕ) (s : Rows) → length rs ≤ i → i ≤ length rs → AllPairs IsBefore rs → All (λ q. y <ℤ q.b) rs → RowsSeen rs y end i → s.count ≡ length rs → s.end ≡ end → IsRowsAt rs y s
 rows_all rs y end i s h k p a w e f =
@@ -173,7 +173,6 @@ before-new row top bottom i d q r h et eb el (inl k) = inl (omega (arith, ints))
 before-new row top bottom i d q r h et eb el (inr k) =
     let first : q.r <ℤ (get_or row i d).l = All-head (λ s. q.r <ℤ s.l) (get_or row i d) (drop (i + 1) row) (subst (λ ss. All (λ s. q.r <ℤ s.l) ss) (drop_more row i d h) k.2) in
     inr (k.0 ∙ sym et, k.1 ∙ sym eb, omega (arith, ints))
-
 
 pub grown-more : (old new new' : List Rect) (row : List Span) (top bottom : ℤ) (i : ℕ) (d : Span) (r : Rect) → i < length row → IsRow row → top <ℤ bottom → box_in r ≡ box (get_or row i d).l top (get_or row i d).r bottom → new' ≡ new ++ r ∷ [] → BandGrown old row top bottom i new → BandGrown old row top bottom (i + 1) new'
 grown-more old new new' row top bottom i d r h w k e f g =

@@ -1,15 +1,13 @@
 -- Regions as sets of pixels.
-use Rattle.std.proofs.Common.{◌≡◌, ℕ, ◌+◌, ◌*◌, ◌≤◌, Bool, true, false, not, ◌&&◌, ◌||◌, List, [], ◌∷◌, ◌++◌, zero, suc, refl, sym, ap, subst, ◌∙◌, arith}
-use Rattle.std.specs.Prelude.{if◌then◌else◌, ℤ, pos, negsuc, ◌-ℤ◌, ◌≤ℤ◌, ◌<ℤ◌, All, nat_lt, Option, None, Some, IfNone, IfSome, is_some}
+use Rattle.std.proofs.Common.{◌≡◌, Bool, true, false, ◌||◌, List, [], ◌∷◌, refl, sym, ap, subst, ◌∙◌, arith}
+use Rattle.std.specs.Prelude.{pos, negsuc, ◌-ℤ◌, ◌≤ℤ◌, ◌<ℤ◌, All, Option, None, Some, IfNone, IfSome, is_some}
 use Rattle.std.proofs.lemmas.Int.{ints}
-use Rattle.std.proofs.lemmas.Grind.{common_steps}
-use Rattle.std.proofs.lemmas.List.Folds.{list_any-append}
-use Rattle.std.proofs.lemmas.List.Elements.{All-nil, All-cons, All-head, All-tail, All-append}
+use Rattle.std.proofs.lemmas.List.Elements.{All-nil, All-cons, All-head, All-tail}
 use Rattle.win_num.specs.declared.shapes.Point.{Point}
 use Rattle.win_num.specs.declared.shapes.Rect.{Rect}
 use Rattle.win_num.specs.PixelSets.{Box, box, has_pixel}
 use Rattle.win_num.specs.Rects.{box_in}
-use Rattle.band_region.specs.Regions.{rect_has, region_has, depth, IsFilled, IsBanded, IsEmpty, IsOneRectangle, IsInside, IsLeastAround, is_in_one, moved_back, plane, StaysInPlane}
+use Rattle.band_region.specs.Regions.{rect_has, region_has, IsFilled, IsBanded, IsEmpty, IsInside, IsLeastAround, moved_back, plane, StaysInPlane}
 use Rattle.band_region.specs.Pieces.{IsFoundAt, IsWithin, Bounds}
 use Rattle.band_region.proofs.Pixels.{at_from_has, has_from_at, at_from_rect, rect_from_at}
 

@@ -1,19 +1,19 @@
 -- Columns of a row.
 use Rattle.std.proofs.Common.{◌≡◌, ℕ, ◌+◌, ◌<◌, ◌≤◌, Bool, true, false, ◌&&◌, ◌||◌, List, [], ◌∷◌, ◌++◌, take, drop, get_or, length, refl, sym, ap, subst, ◌∙◌, arith}
-use Rattle.std.specs.Prelude.{ℤ, pos, negsuc, ◌≤ℤ◌, ◌<ℤ◌, int_le, int_lt, All}
-use Rattle.std.specs.List.{AllPairs, list_any}
-use Rattle.std.proofs.lemmas.Int.{ints, by_lt_z}
+use Rattle.std.specs.Prelude.{ℤ, pos, negsuc, ◌≤ℤ◌, ◌<ℤ◌, int_le, All}
+use Rattle.std.specs.List.{AllPairs}
+use Rattle.std.proofs.lemmas.Int.{ints}
 use Rattle.std.proofs.lemmas.List.Folds.{list_any_none, list_any-append}
 use Rattle.std.proofs.lemmas.List.{take_at, take_all}
-use Rattle.std.proofs.lemmas.List.Elements.{All-nil, All-cons, All-head, All-more, All-weaker, All-push, All-take, All-contains, Contains-push}
+use Rattle.std.proofs.lemmas.List.Elements.{All-nil, All-head, All-more, All-weaker, All-push, All-take, All-contains, Contains-push}
 use Rattle.win_num.specs.declared.shapes.Rect.{Rect}
 use Rattle.band_region.specs.declared.columns.Mix.{Mix}
 use Rattle.band_region.specs.declared.columns.Mix.TheVariants.{And, Or, Xor, Diff}
 use Rattle.band_region.specs.declared.columns.Span.{Span}
 use Rattle.band_region.specs.declared.columns.Stretch.{Stretch}
-use Rattle.band_region.specs.Columns.{kept, column_in, spans_have, columns_have, IsLeftOf, IsStretch, IsRightOf, IsGood, IsRow, IsSpanAdded, IsMixedRow}
+use Rattle.band_region.specs.Columns.{kept, column_in, spans_have, columns_have, IsLeftOf, IsStretch, IsRightOf, IsGood, IsRow, IsSpanAdded}
 use Rattle.band_region.proofs.Geometry.{le_yes, lt_yes, le_no, lt_no, ≤ℤ-trans}
-use Rattle.band_region.proofs.Lists.{pairs-nil, pairs-head, pairs-tail, pairs-take, pairs-drop, pairs-push, pairs-last, pairs-rest, all-rest, any_back}
+use Rattle.band_region.proofs.Lists.{pairs-nil, pairs-head, pairs-take, pairs-drop, pairs-push, pairs-last, pairs-rest, all-rest, any_back}
 
 pub col_in : (l r x : ℤ) → l ≤ℤ x → x <ℤ r → column_in l r x ≡ true
 unfolding column_in

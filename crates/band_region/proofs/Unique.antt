@@ -1,14 +1,14 @@
 -- One list in bands for a set of pixels, and one row of spans for a set of columns.
-use Rattle.std.proofs.Common.{◌≡◌, ℕ, ◌+◌, ◌<◌, ◌≤◌, Bool, true, false, not, ◌&&◌, ◌||◌, ◌⊎◌, inl, inr, List, [], ◌∷◌, zero, suc, get_or, length, refl, sym, ap, subst, ◌∙◌, arith}
-use Rattle.std.specs.Prelude.{ℤ, pos, negsuc, ◌+ℤ◌, ◌-ℤ◌, ◌≤ℤ◌, ◌<ℤ◌, All, IsTrue, ◌↔◌}
-use Rattle.std.specs.List.{AllPairs, list_any}
+use Rattle.std.proofs.Common.{◌≡◌, ℕ, ◌<◌, Bool, true, false, not, ◌&&◌, ◌||◌, ◌⊎◌, inl, inr, List, [], ◌∷◌, zero, suc, get_or, length, refl, sym, ap, subst, ◌∙◌, arith}
+use Rattle.std.specs.Prelude.{ℤ, pos, negsuc, ◌-ℤ◌, ◌≤ℤ◌, ◌<ℤ◌, All, IsTrue, ◌↔◌}
+use Rattle.std.specs.List.{AllPairs}
 use Rattle.std.specs.Ordering.{int_eq}
 use lib.Pointwise.{pointwise}
 use Rattle.std.proofs.lemmas.Bool.Decides.{Decides-int_eq}
 use Rattle.std.proofs.Props.{props}
 use Rattle.std.proofs.lemmas.Int.{ints, by_lt_z}
 use Rattle.std.proofs.lemmas.List.{get_or_default}
-use Rattle.std.proofs.lemmas.List.Elements.{All-nil, All-cons, All-head, All-tail, All-weaker}
+use Rattle.std.proofs.lemmas.List.Elements.{All-head, All-tail}
 use Rattle.win_num.specs.declared.shapes.Point.{Point}
 use Rattle.win_num.specs.declared.shapes.Rect.{Rect}
 use Rattle.band_region.specs.declared.columns.Span.{Span}
@@ -16,8 +16,8 @@ use Rattle.band_region.specs.Regions.{rect_has, region_has, IsFilled, IsBefore, 
 use Rattle.band_region.specs.Columns.{column_in, spans_have, IsGood, IsRow}
 use Rattle.band_region.proofs.Lists.{pairs-head, pairs-tail, any_agree}
 use Rattle.band_region.proofs.Pixels.{at_from_rect, rect_from_at}
-use Rattle.band_region.proofs.Sets.{either, or_first, or_second, corner, corner_has, same_from}
-use Rattle.band_region.proofs.Spans.{col_in, col_before, col_after, col_left, col_right, no_spans}
+use Rattle.band_region.proofs.Sets.{either, or_first, corner, corner_has}
+use Rattle.band_region.proofs.Spans.{col_in, col_left, col_right}
 use Rattle.band_region.proofs.Rows.{rect_upper, rect_lower, rect_row, tops_down}
 
 not_less : (a b : ℤ) → (a <ℤ b → ⊥) → b ≤ℤ a
@@ -26,7 +26,7 @@ not_less a b n = by_lt_z a b (λ h. absurd (n h)) (λ h. h)
 same_z : (a b : ℤ) → a ≤ℤ b → b ≤ℤ a → a ≡ b
 same_z a b h k = omega (arith, ints)
 
-false_true : {P : Type 0} → false ≡ true → P
+pub false_true : {P : Type 0} → false ≡ true → P
 false_true e = cc
 
 -- columns of later spans lie beyond the first one
@@ -60,15 +60,15 @@ right_most : (s t : Span) (ss ts : List Span) → IsRow (s ∷ ss) → IsRow (t 
 right_most s t ss ts v w h e = not_less s.r t.r (λ k.
     let i : spans_have (s ∷ ss) s.r ≡ true = e s.r ∙ or_first (column_in t.l t.r s.r) (spans_have ts s.r) (col_in t.l t.r s.r h k) in
     either (column_in s.l s.r s.r) (spans_have ss s.r) ⊥ i
-        (λ m. let n = col_right s.l s.r s.r m in absurd (omega (arith, ints)))
-        (λ m. let n = beyond s ss s.r (first-apart s ss v) m in absurd (omega (arith, ints))))
+    (λ m. let n = col_right s.l s.r s.r m in absurd (omega (arith, ints)))
+    (λ m. let n = beyond s ss s.r (first-apart s ss v) m in absurd (omega (arith, ints))))
 
 -- tests that agree on two lists agree on the rest, where the first elements are the same and apart
 rest_agrees : (a b c : Bool) → (a || b) ≡ (a || c) → (a ≡ true → b ≡ false) → (a ≡ true → c ≡ false) → b ≡ c
 rest_agrees true b c e f g = f refl ∙ sym (g refl)
 rest_agrees false b c e f g = e
 
-no_true : (b : Bool) → (b ≡ true → ⊥) → b ≡ false
+pub no_true : (b : Bool) → (b ≡ true → ⊥) → b ≡ false
 no_true true f = absurd (f refl)
 no_true false f = refl
 
@@ -89,10 +89,10 @@ one_row (s ∷ ss) (t ∷ ts) v w e =
     let er : s.r ≡ t.r = same_z s.r t.r (right_most t s ts ss w v (omega (arith, ints)) (λ x. sym (e x))) (right_most s t ss ts v w (omega (arith, ints)) e) in
     let f = span_same s t el er in
     cons_same f (one_row ss ts (row-rest s ss v) (row-rest t ts w) (λ x.
-        rest_agrees (column_in s.l s.r x) (spans_have ss x) (spans_have ts x)
-            (subst (λ (u : Span). (column_in s.l s.r x || spans_have ss x) ≡ (column_in u.l u.r x || spans_have ts x)) (sym f) (e x))
-            (λ h. no_true (spans_have ss x) (λ k. let m = col_right s.l s.r x h in let n = beyond s ss x (first-apart s ss v) k in absurd (omega (arith, ints))))
-            (λ h. no_true (spans_have ts x) (λ k. let m = col_right s.l s.r x h in let n = beyond t ts x (first-apart t ts w) k in absurd (omega (arith, ints))))))
+    rest_agrees (column_in s.l s.r x) (spans_have ss x) (spans_have ts x)
+    (subst (λ (u : Span). (column_in s.l s.r x || spans_have ss x) ≡ (column_in u.l u.r x || spans_have ts x)) (sym f) (e x))
+    (λ h. no_true (spans_have ss x) (λ k. let m = col_right s.l s.r x h in let n = beyond s ss x (first-apart s ss v) k in absurd (omega (arith, ints))))
+    (λ h. no_true (spans_have ts x) (λ k. let m = col_right s.l s.r x h in let n = beyond t ts x (first-apart t ts w) k in absurd (omega (arith, ints))))))
 
 -- a part of a list in bands, whose pixels are a part of the set's
 record IsPart (has : Point → Bool) (rs : List Rect) : Type 0 where
@@ -168,8 +168,8 @@ first_right has r s rs ss v w t l e = not_less r.r s.r (λ k.
     let p : Point = record { x = r.r; y = r.t } in
     let i : region_has (r ∷ rs) p ≡ true = e p ∙ or_first (rect_has s p) (region_has ss p) (rect_from_at s p (record { left = omega (arith, ints); right = k; top = omega (arith, ints); bottom = omega (arith, ints) })) in
     either (rect_has r p) (region_has rs p) ⊥ i
-        (λ m. let a = at_from_rect r p m in let n : r.r <ℤ r.r = a.right in absurd (omega (arith, ints)))
-        (λ m. let n : r.r <ℤ r.r = right_beyond r rs p (first-before has r rs v) m down in absurd (omega (arith, ints))))
+    (λ m. let a = at_from_rect r p m in let n : r.r <ℤ r.r = a.right in absurd (omega (arith, ints)))
+    (λ m. let n : r.r <ℤ r.r = right_beyond r rs p (first-before has r rs v) m down in absurd (omega (arith, ints))))
 
 first_bottom : (has : Point → Bool) (r s : Rect) (rs ss : List Rect) → IsPart has (r ∷ rs) → IsPart has (s ∷ ss) → r.t ≡ s.t → s.b ≤ℤ r.b
 first_bottom has r s rs ss v w t = not_less r.b s.b (λ k.
@@ -193,6 +193,15 @@ pub rect_same : (r s : Rect) → r.l ≡ s.l → r.t ≡ s.t → r.r ≡ s.r →
 rect_same r s el et er eb =
     subst (λ (z : ℤ). Same r s.l s.t s.r z) eb (subst (λ (z : ℤ). Same r s.l s.t z r.b) er (subst (λ (z : ℤ). Same r s.l z r.r r.b) et (subst (λ (z : ℤ). Same r z r.t r.r r.b) el (same-here r)))) s.across s.down s.left_near s.top_near s.right_near s.bottom_near
 
+-- later rectangles have no pixel of the first one
+pub no_later : (q : Rect) (qs : List Rect) (p : Point) → rect_has q p ≡ true → All (IsBefore q) qs → region_has qs p ≡ true → ⊥
+no_later q qs p h a k =
+    let i = at_from_rect q p h in
+    let x : p.x <ℤ q.r = i.right in
+    let y : p.y <ℤ q.b = i.bottom in
+    let n = right_beyond q qs p a k y in
+    absurd (omega (arith, ints))
+
 one_part : (has : Point → Bool) (rs ss : List Rect) → IsPart has rs → IsPart has ss → ((p : Point) → region_has rs p ≡ region_has ss p) → rs ≡ ss
 one_part has [] [] v w e = refl
 one_part has [] (s ∷ ss) v w e = false_true (e (corner s) ∙ first-corner has s ss w)
@@ -205,18 +214,10 @@ one_part has (r ∷ rs) (s ∷ ss) v w e =
     let eb : r.b ≡ s.b = same_z r.b s.b (first_bottom has s r ss rs w v (sym et)) (first_bottom has r s rs ss v w et) in
     let f = rect_same r s el et er eb in
     cons_same f (one_part has rs ss (part-rest has r rs v) (part-rest has s ss w) (λ p.
-        rest_agrees (rect_has r p) (region_has rs p) (region_has ss p)
-            (subst (λ (u : Rect). (rect_has r p || region_has rs p) ≡ (rect_has u p || region_has ss p)) (sym f) (e p))
-            (λ h. no_true (region_has rs p) (apart r rs p h (first-before has r rs v)))
-            (λ h. no_true (region_has ss p) (apart r ss p h (subst (λ u. All (IsBefore u) ss) (sym f) (first-before has s ss w))))))
-  where
-    apart : (q : Rect) (qs : List Rect) (p : Point) → rect_has q p ≡ true → All (IsBefore q) qs → region_has qs p ≡ true → ⊥
-    apart q qs p h a k =
-        let i = at_from_rect q p h in
-        let x : p.x <ℤ q.r = i.right in
-        let y : p.y <ℤ q.b = i.bottom in
-        let n = right_beyond q qs p a k y in
-        absurd (omega (arith, ints))
+    rest_agrees (rect_has r p) (region_has rs p) (region_has ss p)
+    (subst (λ (u : Rect). (rect_has r p || region_has rs p) ≡ (rect_has u p || region_has ss p)) (sym f) (e p))
+    (λ h. no_true (region_has rs p) (no_later r rs p h (first-before has r rs v)))
+    (λ h. no_true (region_has ss p) (no_later r ss p h (subst (λ u. All (IsBefore u) ss) (sym f) (first-before has s ss w))))))
 
 by_order : {P : Type 0} (m n : ℕ) → (m < n → P) → (n < m → P) → (m ≡ n → P) → P
 by_order zero zero f g h = h refl
@@ -324,9 +325,10 @@ spans_own ss ts e = subst (λ (xs : List Span). pointwise same_span ss xs ≡ tr
 
 -- what a comparison of two lists in bands says of their pixels
 pub same_told : (a b rs ss : List Rect) (r : Bool) → a ≡ rs → b ≡ ss → IsBanded a → IsBanded b → r ≡ pointwise same_edges a b → IsTrue r ↔ IsSameSet rs ss
-same_told a b rs ss r e f v w g =
-    (λ h p. ap (λ xs. region_has xs p) (sym e ∙ (rects_same a b (sym g ∙ h) ∙ f)),
-     λ h. g ∙ rects_own a b (one_list a b v w (λ p. ap (λ xs. region_has xs p) e ∙ (h p ∙ ap (λ xs. region_has xs p) (sym f)))))
+same_told a b rs ss r e f v w g = (
+  λ h p. ap (λ xs. region_has xs p) (sym e ∙ (rects_same a b (sym g ∙ h) ∙ f)),
+  λ h. g ∙ rects_own a b (one_list a b v w (λ p. ap (λ xs. region_has xs p) e ∙ (h p ∙ ap (λ xs. region_has xs p) (sym f)))),
+)
 
 -- what `!=` says of two rows
 pub same_from_ne : (ss ts : List Span) (r : Bool) → r ≡ not (pointwise same_span ss ts) → r ≡ false → ss ≡ ts

@@ -56,12 +56,7 @@ fn below(rects: &[Rect], y: i32) -> &[Rect]
 }
 
 /// Adds the columns of the row in each row from `top` up to `bottom`.
-fn push_band(
-    rects: &mut Vec<Rect>,
-    row: &[Span],
-    top: i32,
-    bottom: i32,
-) -> Result<(), AllocError>
+fn push_band(rects: &mut Vec<Rect>, row: &[Span], top: i32, bottom: i32) -> Result<(), AllocError>
     requires row { IsRow row.now }
     requires down { All (λ _. top <ℤ bottom) row.now }
     requires top_near { negsuc 8388607 ≤ℤ top }

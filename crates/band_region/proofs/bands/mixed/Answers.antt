@@ -1,4 +1,4 @@
-use Rattle.std.proofs.Common.{List, not, true, false, refl, sym, ap, subst, ◌∙◌, ◌≡◌, ◌<ℤ◌, All, to_z, of_z, w32, arith}
+use Rattle.std.proofs.Common.{refl, sym, ap, subst, ◌<ℤ◌, All, to_z, of_z, w32, arith}
 use Rattle.std.specs.Prelude.{pos}
 use Rattle.std.proofs.lemmas.Int.{ints, clamps}
 use Rattle.band_region.specs.declared.columns.Span.{Span}
@@ -17,8 +17,8 @@ loop-y-preserved c =
     let w = c.loop-y.invariant in
     let s = slab_of _ _ _ _ _ c.in_ok-next.next.items (to_z w32 c.loop-y.y-bits) (to_z w32 (of_z w32 c.min-y.result)) c.rows_at-one.result c.rows_at-other.result _ _ w.left w.left_too c.rows_at-one.ensures c.rows_at-other.ensures refl refl c.in_ok-next.ensures (omega (arith, ints, clamps)) (omega (arith, ints)) (omega (arith, ints)) in
     elim c.if-ne.branch [
-      then-ne+in_ok-push_band v ↦ swept_at (ap (λ r. r.items) v.rects-is) v.top-is (sweep_turn _ _ _ _ _ _ _ _ _ _ _ _ _ _ w s (other_from_ne _ _ _ c.ne.ensures v.if-ne.true) (added_at v.as_slice.ensures.value v.in_ok-push_band.ensures) c.below-ones-in-loop-y.ensures c.below-others-in-loop-y.ensures)
-    | else-ne v ↦ swept_at (ap (λ r. r.items) v.rects-is) v.top-is (sweep_on _ _ _ _ _ _ _ _ _ _ _ _ _ w s (same_from_ne _ _ _ c.ne.ensures v.if-ne.false) c.below-ones-in-loop-y.ensures c.below-others-in-loop-y.ensures)
+      | then-ne+in_ok-push_band v ↦ swept_at (ap (λ r. r.items) v.rects-is) v.top-is (sweep_turn _ _ _ _ _ _ _ _ _ _ _ _ _ _ w s (other_from_ne _ _ _ c.ne.ensures v.if-ne.true) (added_at v.as_slice.ensures.value v.in_ok-push_band.ensures) c.below-ones-in-loop-y.ensures c.below-others-in-loop-y.ensures)
+      | else-ne v ↦ swept_at (ap (λ r. r.items) v.rects-is) v.top-is (sweep_on _ _ _ _ _ _ _ _ _ _ _ _ _ w s (same_from_ne _ _ _ c.ne.ensures v.if-ne.false) c.below-ones-in-loop-y.ensures c.below-others-in-loop-y.ensures)
     ]
 
 pub loop-y-smaller : goal.loop-y-smaller

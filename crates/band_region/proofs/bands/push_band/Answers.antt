@@ -1,7 +1,5 @@
-use Rattle.std.proofs.Common.{FitsSigned, ◌∙◌, ◌≡◌, ◌<ℤ◌, get_or, w32, to_z, of_z, pos, refl, arith}
+use Rattle.std.proofs.Common.{FitsSigned, ◌∙◌, ◌<ℤ◌, get_or, w32, pos, refl, arith}
 use Rattle.std.proofs.lemmas.Int.{ints, to_z-of_z}
-use Rattle.win_num.specs.PixelSets.{box}
-use Rattle.win_num.specs.Rects.{box_in}
 use Rattle.band_region.specs.declared.columns.Span.{Span}
 use Rattle.band_region.proofs.Geometry.{near_fits, box_same}
 use Rattle.band_region.proofs.Rows.{grown-start, grown-more, grown-end, above_at}

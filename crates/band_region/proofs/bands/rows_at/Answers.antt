@@ -1,4 +1,4 @@
-use Rattle.std.proofs.Common.{refl, to_z, of_z, w32, arith}
+use Rattle.std.proofs.Common.{refl, arith}
 use Rattle.std.proofs.lemmas.Int.{ints, clamps}
 use Rattle.band_region.proofs.Rows.{seen-start, seen-more, rows_here, rows_all, ahead_at, seen_at}
 use Rattle.band_region.proofs.bands.rows_at.Goals as goal

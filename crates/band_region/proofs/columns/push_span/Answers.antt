@@ -1,7 +1,7 @@
-use Rattle.std.proofs.Common.{◌≡◌, List, ◌++◌, ◌∷◌, [], sym, ap, ◌∙◌, to_z, of_z, w32, arith}
+use Rattle.std.proofs.Common.{◌≡◌, List, ◌++◌, ◌∷◌, [], ap, ◌∙◌, to_z, of_z, w32, arith}
 use Rattle.std.proofs.lemmas.Int.{ints}
 use Rattle.band_region.specs.declared.columns.Span.{Span}
-use Rattle.band_region.proofs.Spans.{span_pushed, span_joined, span_apart, added_at}
+use Rattle.band_region.proofs.Spans.{span_joined, span_apart, added_at}
 use Rattle.band_region.proofs.columns.push_span.Goals as goal
 
 pub returns-then-last-l : goal.returns-then-last-l

@@ -1,4 +1,4 @@
-use Rattle.std.proofs.Common.{◌<◌, length, arith}
+use Rattle.std.proofs.Common.{arith}
 use Rattle.std.proofs.lemmas.Int.{ints}
 use Rattle.band_region.proofs.Spans.{right_here, right_gone, ended_more}
 use Rattle.band_region.proofs.columns.right_of.Goals as goal
