@@ -159,8 +159,8 @@ sweep_turn mix first second ones others rects new rest rests row next top y z w 
     merged r (inr e) = λ h. differ (subst (λ v. SameRows (target mix first second) (v -ℤ pos 1) v) e h)
 
 -- all rows are done
-pub sweep_end : (mix : Mix) (first second ones others rects new : List Rect) (row : List Span) (top y : ℤ) → pos 8388608 ≤ℤ y → Swept mix first second ones others rects row top y → IsBandAdded rects row top y new → IsMixed mix first second new
-sweep_end mix first second ones others rects new row top y far w g = record {
+all_done : (mix : Mix) (first second ones others rects new : List Rect) (row : List Span) (top y : ℤ) → pos 8388608 ≤ℤ y → Swept mix first second ones others rects row top y → IsBandAdded rects row top y new → IsMixed mix first second new
+all_done mix first second ones others rects new row top y far w g = record {
   banded = record {
     filled = g.filled w.filled;
     apart = g.apart w.apart;
@@ -189,6 +189,12 @@ sweep_end mix first second ones others rects new row top y far w g = record {
         let wrong : true ≡ false = sym in-last ∙ (same p ∙ (h r.l ∙ off)) in
         absurd (grind arith)
 
+pub sweep_end : (mix : Mix) (first second ones others rects new : List Rect) (row : List Span) (top y : ℤ) → pos 8388608 ≤ℤ y → Swept mix first second ones others rects row top y → IsBandAdded rects row top (pos 8388608) new → IsMixed mix first second new
+sweep_end mix first second ones others rects new row top y far w g =
+    let to = w.to in
+    let end : pos 8388608 ≡ y = omega (arith, ints) in
+    all_done mix first second ones others rects new row top y far w (subst (λ z. IsBandAdded rects row top z new) end g)
+
 -- the same of a list and a top that are known by another name
 pub swept_at : {mix : Mix} {first second ones others rects rects' : List Rect} {row : List Span} {top top' y : ℤ} → rects' ≡ rects → top' ≡ top → Swept mix first second ones others rects row top y → Swept mix first second ones others rects' row top' y
 swept_at {mix = mix} {first = first} {second = second} {ones = ones} {others = others} {rects' = rects'} {row = row} {top = top} {y = y} e f w =
@@ -196,3 +202,7 @@ swept_at {mix = mix} {first = first} {second = second} {ones = ones} {others = o
 
 pub added_at : {old new : List Rect} {row row' : List Span} {top bottom : ℤ} → row' ≡ row → IsBandAdded old row' top bottom new → IsBandAdded old row top bottom new
 added_at {old = old} {new = new} {top = top} {bottom = bottom} e g = subst (λ ss. IsBandAdded old ss top bottom new) e g
+
+-- the last band ends below its top
+pub down_to : {mix : Mix} {first second ones others rects : List Rect} {row : List Span} {top y : ℤ} → Swept mix first second ones others rects row top y → pos 8388608 ≤ℤ y → All (λ _. top <ℤ pos 8388608) row
+down_to {row = row} w h = let to = w.to in λ k d i. let n = w.down k d i in omega (arith, ints)

@@ -101,6 +101,6 @@ pub(crate) fn mixed(
         ones = below(ones, y);
         others = below(others, y);
     }
-    push_band(&mut rects, row.as_slice(), top, y)?;
+    push_band(&mut rects, row.as_slice(), top, FAR)?;
     Ok(rects)
 }

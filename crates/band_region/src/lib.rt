@@ -4,7 +4,9 @@
 mod bands;
 mod columns;
 mod covering;
+mod law;
 mod pieces;
 mod region;
 
+pub use law::one_list_in_bands;
 pub use region::Region;

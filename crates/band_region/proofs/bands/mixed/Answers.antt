@@ -1,10 +1,10 @@
-use Rattle.std.proofs.Common.{refl, sym, ap, subst, ◌<ℤ◌, All, to_z, of_z, w32, arith}
+use Rattle.std.proofs.Common.{◌<◌, List, length, refl, sym, ap, subst, ◌<ℤ◌, All, to_z, of_z, w32, arith}
 use Rattle.std.specs.Prelude.{pos}
 use Rattle.std.proofs.lemmas.Int.{ints, clamps}
 use Rattle.band_region.specs.declared.columns.Span.{Span}
 use Rattle.band_region.specs.Columns.{IsRow}
 use Rattle.band_region.proofs.Geometry.{nearer}
-use Rattle.band_region.proofs.BandSweep.{slab_of, sweep_start, sweep_on, sweep_turn, sweep_end, swept_at, added_at}
+use Rattle.band_region.proofs.BandSweep.{slab_of, sweep_start, sweep_on, sweep_turn, sweep_end, swept_at, added_at, down_to}
 use Rattle.band_region.proofs.Unique.{same_from_ne, other_from_ne}
 use Rattle.band_region.proofs.bands.mixed.Goals as goal
 use Rattle.band_region.proofs.bands.mixed.Goals.{then-ne+in_ok-push_band, else-ne}
@@ -32,7 +32,7 @@ push_band-requires c =
 pub push_band-requires-2 : goal.push_band-requires-2
 push_band-requires-2 c =
     let w = c.loop-y.invariant in
-    record { row = subst IsRow (sym c.as_slice-2.ensures.value) w.spans; down = subst (λ ss. All (λ (_ : Span). to_z w32 c.loop-y.top-bits <ℤ to_z w32 c.loop-y.y-bits) ss) (sym c.as_slice-2.ensures.value) w.down; top_near = w.from; bottom_near = w.to; above = w.above }
+    record { row = subst IsRow (sym c.as_slice-2.ensures.value) w.spans; down = λ k d h. down_to w (omega (arith, ints)) k d (subst (λ (ss : List Span). k < length ss) c.as_slice-2.ensures.value h); top_near = w.from; bottom_near = omega (arith, ints); above = w.above }
 
 pub returns : goal.returns
 returns c = sweep_end _ _ _ _ _ _ _ _ _ _ (omega (arith, ints)) c.loop-y.invariant (added_at c.as_slice-2.ensures.value c.in_ok-push_band-2.ensures)
