@@ -3,3 +3,5 @@ pub mod Puts
 pub mod LimitLemmas
 pub mod Counting
 pub mod PartsAgain
+pub mod TreeNesting
+pub mod TreeNames

@@ -11,3 +11,4 @@ pub mod Nesting
 pub mod Building
 pub mod Refusals
 pub mod Programs
+pub mod TreeLimits

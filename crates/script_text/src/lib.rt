@@ -52,12 +52,14 @@
 mod builder;
 mod fault;
 mod flatten;
+mod laws;
 mod limits;
 mod parser;
 mod reader;
 mod writer;
 
 pub use fault::{ReadFault, Reason, Refusal};
+pub use laws::limits_of_the_tree;
 pub use limits::SCRIPT_LIMIT;
 pub use reader::{one_tree, read};
 pub use script_tree::{

@@ -1,5 +1,5 @@
 -- Two trees that say the same have the same runs.
-use Rattle.std.proofs.Common.{◌≡◌, ℕ, zero, suc, Bool, not, List, [], ◌∷◌, length, Option, Some, None, sym, ap, ◌∙◌}
+use Rattle.std.proofs.Common.{◌≡◌, ℕ, zero, suc, Bool, not, List, [], ◌∷◌, length, Option, Some, None, sym, ap, ◌∙◌, arith}
 use Rattle.std.specs.Prelude.{◌==◌, ◌&&◌, nat_lt, if◌then◌else◌, find}
 use Rattle.user_model.specs.declared.call.Call.{Call}
 use Rattle.user_model.specs.declared.entry.Entry.{Entry}
@@ -14,7 +14,7 @@ use Rattle.script_tree.specs.Traces.{trace_of}
 use Rattle.script_text.specs.Lines.{names_of, bodies_of, script_lines}
 use Rattle.script_text.specs.Refusals.{IsSame}
 use Rattle.log_text.specs.Ends.{setup_of, used}
-use Rattle.user_pool.specs.Runs.{is_runnable, behind_first, left, last_thread, choice, ComesNext, IsMove, IsRun, IsListed}
+use Rattle.user_pool.specs.Runs.{is_runnable, behind_first, left, last_thread, choice, ComesNext, HasEntriesLeft, IsMove, IsRun, IsByChoice, IsListed}
 use Rattle.user_pool.proofs.OneRun.{one_listed}
 use Rattle.user_app.proofs.SameBodies.{SameBodies, procedures_apart, bodies_apart, same_count}
 use Rattle.user_app.proofs.SameTraces.{same_trace}
@@ -87,9 +87,14 @@ module _ (s t : Tree) (h : SameRules s t) where
   next_too past zero call k = k
   next_too past (suc n) call k = same_trace s t h.procedures (suc n) (trace_of past (suc n)) (Cut call) h.bodies k
 
+  left_too : (past : Past) (who : ℕ) → HasEntriesLeft s past who → HasEntriesLeft t past who
+  left_too past zero k = tt
+  left_too past (suc n) k = (omega (arith, k.0, h.count), omega (arith, k.1, h.budget))
+
   move_too : (past : Past) (e : Entry) → IsMove s past e → IsMove t past e
   move_too past e m = record {
-    actor = sym (same_choice past) ∙ m.actor;
+    free = ap (λ (x : Setup). is_barred x past e.who.0) (sym h.setup) ∙ m.free;
+    remains = left_too past e.who.0 m.remains;
     call = next_too past e.who.0 e.call m.call;
     answer = m.answer ∙ ap (λ (x : Setup). reply x past e.who.0 e.call) h.setup;
     room = m.room;
@@ -99,8 +104,12 @@ module _ (s t : Tree) (h : SameRules s t) where
   run_too [] r = tt
   run_too (e ∷ past) r = (move_too past e r.0, run_too past r.1)
 
+  chosen_too : (past : Past) → IsByChoice s past → IsByChoice t past
+  chosen_too [] r = tt
+  chosen_too (e ∷ past) r = (sym (same_choice past) ∙ r.0, chosen_too past r.1)
+
   listed_too : (past : Past) → IsListed s past → IsListed t past
-  listed_too past l = record { run = run_too past l.run; over = sym (same_choice past) ∙ l.over }
+  listed_too past l = record { run = run_too past l.run; chosen = chosen_too past l.chosen; over = sym (same_choice past) ∙ l.over }
 
   -- the listed run of the one is that of the other
   pub same_run : (a b : Past) → IsListed s a → IsListed t b → a ≡ b

@@ -2,3 +2,8 @@ pub mod Stories
 pub mod KeptByRefusals
 pub mod WordLaws
 pub mod Standing
+pub mod Forest
+pub mod Walks
+pub mod Once
+pub mod Fields
+pub mod Rows

@@ -128,7 +128,7 @@ first_said says past a = (first_so says past a, λ r. ap (first_of says) r.at.sp
 
 -- ---- values of lists
 
-in_append : {A : Type 0} (a : A) (xs ys : List A) → IsIn a (xs ++ ys) → IsIn a xs ⊎ IsIn a ys
+pub in_append : {A : Type 0} (a : A) (xs ys : List A) → IsIn a (xs ++ ys) → IsIn a xs ⊎ IsIn a ys
 in_append a [] ys is = inr is
 in_append a (x ∷ xs) ys (inl is) = inl (inl is)
 in_append a (x ∷ xs) ys (inr is) = by (in_append a xs ys is)
@@ -137,12 +137,12 @@ in_append a (x ∷ xs) ys (inr is) = by (in_append a xs ys is)
     by (inl there) = inl (inr there)
     by (inr there) = inr there
 
-in_left : {A : Type 0} (a : A) (xs ys : List A) → IsIn a xs → IsIn a (xs ++ ys)
+pub in_left : {A : Type 0} (a : A) (xs ys : List A) → IsIn a xs → IsIn a (xs ++ ys)
 in_left a [] ys is = absurd is
 in_left a (x ∷ xs) ys (inl is) = inl is
 in_left a (x ∷ xs) ys (inr is) = inr (in_left a xs ys is)
 
-in_right : {A : Type 0} (a : A) (xs ys : List A) → IsIn a ys → IsIn a (xs ++ ys)
+pub in_right : {A : Type 0} (a : A) (xs ys : List A) → IsIn a ys → IsIn a (xs ++ ys)
 in_right a [] ys is = is
 in_right a (x ∷ xs) ys is = inr (in_right a xs ys is)
 
@@ -223,7 +223,7 @@ each_added adds past a = (added_so adds past a, λ r. subst (λ p. IsIn a (each_
 standing-refused : {A : Type 0} (adds : Entry → Past → List A) (ends : Entry → Past → A → Bool) (e : Entry) (past : Past) → is_refused e ≡ true → standing adds ends (e ∷ past) ≡ standing adds ends past
 standing-refused adds ends e past is = first_way (is_refused e) (standing adds ends past) (filter (λ a. not (ends e past a)) (standing adds ends past) ++ adds e past) is
 
-in_filter : {A : Type 0} (p : A → Bool) (a : A) (xs : List A) → IsIn a (filter p xs) → IsIn a xs × (p a ≡ true)
+pub in_filter : {A : Type 0} (p : A → Bool) (a : A) (xs : List A) → IsIn a (filter p xs) → IsIn a xs × (p a ≡ true)
 in_filter p a [] is = absurd is
 in_filter p a (x ∷ xs) is = by (in_filter p a xs) (p x) refl is
   where
@@ -238,7 +238,7 @@ in_filter p a (x ∷ xs) is = by (in_filter p a xs) (p x) refl is
     by rest true passes is = here rest passes is
     by rest false passes is = later (rest is)
 
-in_filter_back : {A : Type 0} (p : A → Bool) (a : A) (xs : List A) → p a ≡ true → IsIn a xs → IsIn a (filter p xs)
+pub in_filter_back : {A : Type 0} (p : A → Bool) (a : A) (xs : List A) → p a ≡ true → IsIn a xs → IsIn a (filter p xs)
 in_filter_back p a [] passes is = absurd is
 in_filter_back p a (x ∷ xs) passes (inl same) = subst (λ b. IsIn a (cond b (x ∷ filter p xs) (filter p xs))) (sym (ap p (sym same) ∙ passes)) (inl same)
 in_filter_back p a (x ∷ xs) passes (inr there) = by (in_filter_back p a xs passes there) (p x)

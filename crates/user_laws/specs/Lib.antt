@@ -1,3 +1,5 @@
 pub mod Kept
 pub mod Words
 pub mod Stands
+pub mod Destructions
+pub mod Fields

@@ -3,6 +3,7 @@
 #![tactic(auto)]
 
 mod machines;
+mod orders;
 mod refusals;
 mod sends;
 mod stands;
@@ -10,6 +11,7 @@ mod times;
 mod words;
 
 pub use machines::{send_law, sum_law};
+pub use orders::{destruction_is_in_order, kin_are_destroyed_once};
 pub use refusals::{posts_leave_in_order, refusals_change_nothing};
 pub use sends::{
     all_sends_come_to_an_end, answers_stay, awaits_pop_their_frames, frames_and_sends_are_few,
@@ -17,7 +19,8 @@ pub use sends::{
     stacks_change_at_the_top,
 };
 pub use stands::{
-    kin_is_a_chain, posts_stand_until_taken, ready_until_served, windows_live_until_dropped,
+    kin_is_a_chain, posts_stand_until_taken, ready_until_served, windows_are_as_last_set,
+    windows_live_until_dropped,
 };
 pub use times::{
     clock_has_a_bound, clock_never_goes_back, clock_wakes_a_thread, soonest_time_is_to_come,

@@ -1,5 +1,5 @@
 -- In a run each entry of a thread is answered by its row, and none is refused as not now.
-use Rattle.std.proofs.Common.{◌≡◌, ◌≢◌, ℕ, ◌<◌, Bool, true, false, [], ◌∷◌, Option, Some, None, refl, sym, ap, ◌∙◌, inl, inr, arith}
+use Rattle.std.proofs.Common.{◌≡◌, ◌≢◌, ℕ, ◌<◌, Bool, false, [], ◌∷◌, Option, Some, None, refl, sym, ap, ◌∙◌, inl, inr, arith}
 use Rattle.std.specs.Prelude.{All}
 use Rattle.std.proofs.lemmas.Bool.{cases_lt, false≢true}
 use Rattle.std.proofs.lemmas.List.Elements.{All-nil, All-cons}
@@ -24,7 +24,7 @@ use Rattle.user_pool.specs.InTurn.{AreByRow}
 use Rattle.user_pool.proofs.ClockCalls.{is_of_clock, none_of_clock}
 use Rattle.user_pool.proofs.NeverFull.{clock_answer}
 use Rattle.user_pool.proofs.Programs.{by_row, next_of}
-use Rattle.user_pool.proofs.Turns.{chosen_can_move}
+use Rattle.user_pool.proofs.Turns.{move_can}
 
 -- ---- answers that aren't the refusal as not now
 
@@ -53,7 +53,7 @@ row_fine setup past who call h = record { so = said_fine setup past who call (ro
 -- each entry of a thread
 pub thread_by_row : (s : Tree) (past : Past) (e : Entry) → IsRun s (e ∷ past) → 0 < e.who.0 → e.answer ≡ row (setup_of s) past e.who.0 e.call
 thread_by_row s past e run positive =
-    run.0.answer ∙ by_row s past e.who.0 e.call run.1 positive (chosen_can_move s past e.who.0 run.0.actor positive) run.0.room run.0.call
+    run.0.answer ∙ by_row s past e.who.0 e.call run.1 positive (move_can s past e run.0 positive) run.0.room run.0.call
 
 pub all_by_row : (s : Tree) (past : Past) → IsRun s past → AreByRow s past
 all_by_row s [] run = tt

@@ -2,6 +2,7 @@ pub mod Choices
 pub mod ClockCalls
 pub mod Ended
 pub mod InTurn
+pub mod Interleavings
 pub mod NeverCut
 pub mod NeverFull
 pub mod OneRun

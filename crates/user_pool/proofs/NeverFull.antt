@@ -1,5 +1,5 @@
 -- A run never fills the history.
-use Rattle.std.proofs.Common.{◌≡◌, ◌≢◌, ℕ, zero, suc, ◌+◌, ◌*◌, ◌<◌, ◌≤◌, Bool, true, false, not, cond, eqb, [], ◌∷◌, length, Option, Some, None, refl, ap, ◌∙◌, sym, inl, inr, arith, mul-le-mul_left}
+use Rattle.std.proofs.Common.{◌≡◌, ℕ, zero, suc, ◌+◌, ◌*◌, ◌<◌, ◌≤◌, Bool, true, false, not, cond, eqb, [], ◌∷◌, length, Option, Some, None, refl, ap, ◌∙◌, sym, inl, inr, arith, mul-le-mul_left}
 use Rattle.std.specs.Prelude.{◌||◌, is_none}
 use Rattle.std.proofs.Math.Dec.{leb}
 use Rattle.std.proofs.lemmas.Bool.{cases_Bool, cases_lt, false≢true}
@@ -9,14 +9,14 @@ use Rattle.user_model.specs.declared.call.Call.{Call}
 use Rattle.user_model.specs.declared.call.Call.TheVariants.{Advance}
 use Rattle.user_model.specs.declared.entry.Entry.{Entry}
 use Rattle.user_model.specs.declared.entry.Setup.{Setup}
-use Rattle.user_model.specs.Past.{Past, or_else, is_full}
+use Rattle.user_model.specs.Past.{Past, is_full}
 use Rattle.user_model.specs.Idle.{reply, is_barred, first_busy, have_all_ended, ends_stuck, advance_reply, busy_or, advanced, soonest}
 use Rattle.user_model.proofs.WakeLaws.{advance_wakes}
 use Rattle.script_tree.specs.Tree.{Tree}
 use Rattle.log_text.specs.Ends.{setup_of, used}
-use Rattle.user_pool.specs.Runs.{is_runnable, left, listed, in_turn, choice, ComesNext, IsMove, IsRun}
+use Rattle.user_pool.specs.Runs.{ComesNext, IsMove, IsRun}
 use Rattle.user_pool.proofs.OneRun.{run_lawful}
-use Rattle.user_pool.proofs.Turns.{found_passes, turn_runs, runnable_can, thread_positive, chosen_can_move, thread_within, used_own, used_other, used_within, refuse_not}
+use Rattle.user_pool.proofs.Turns.{move_can, thread_within, used_own, used_other, used_within, refuse_not}
 
 -- ---- how many entries there are
 
@@ -51,21 +51,6 @@ total_within s past (suc n) run =
 
 -- ---- the clock moves only where all are idle, and then some thread isn't or all is stuck
 
-never_zero : (s : Tree) (past : Past) (o : Option ℕ) → ((t : ℕ) → o ≡ Some t → is_runnable s past t ≡ true) → o ≢ Some 0
-never_zero s past o runs e = absurd (omega (arith, thread_positive s 0 (runnable_can s past 0 (runs 0 e)).known))
-
--- what the choice of the clock tells
-clock_chosen : (a b : Option ℕ) (barred : Bool) → a ≢ Some 0 → b ≢ Some 0 → or_else a (or_else b (cond barred None (Some 0))) ≡ Some 0 → barred ≡ false
-clock_chosen (Some i) b x f g e = absurd (f e)
-clock_chosen None (Some j) x f g e = absurd (g e)
-clock_chosen None None true f g e = absurd cc
-clock_chosen None None false f g e = refl
-
-clock_free : (s : Tree) (past : Past) → choice s past ≡ Some 0 → is_barred (setup_of s) past 0 ≡ false
-clock_free s past chosen = clock_chosen (listed s past) (in_turn s past) (is_barred (setup_of s) past 0)
-    (never_zero s past (listed s past) (λ t e. found_passes (is_runnable s past) (left s past) t e))
-    (never_zero s past (in_turn s past) (λ t e. turn_runs s past t e)) chosen
-
 not_barred : (busy : Option ℕ) (ended stuck : Bool) → (not (is_none busy) || ended || stuck) ≡ false → (busy ≡ None) × (stuck ≡ false)
 not_barred (Some t) ended stuck e = absurd (false≢true (sym e))
 not_barred None true stuck e = absurd (false≢true (sym e))
@@ -79,10 +64,10 @@ advance_is : (setup : Setup) (past : Past) → is_full past ≡ false → reply 
 unfolding reply
 advance_is setup past room = refuse_not (is_full past) Full (advance_reply setup past) room
 
-chosen_clock : (s : Tree) (past : Past) (e : Entry) → IsMove s past e → e.who.0 ≡ 0 → choice s past ≡ Some 0
-chosen_clock s past e move zero_is = move.actor ∙ ap (λ (w : ℕ). let o : Option ℕ = Some w in o) zero_is
+clock_free : (s : Tree) (past : Past) (e : Entry) → IsMove s past e → e.who.0 ≡ 0 → is_barred (setup_of s) past 0 ≡ false
+clock_free s past e move zero_is = ap (λ (w : ℕ). is_barred (setup_of s) past w) (sym zero_is) ∙ move.free
 
-clock_call : (s : Tree) (past : Past) (who : ℕ) (call : Call) → who ≡ 0 → ComesNext s past who call → call ≡ Advance
+pub clock_call : (s : Tree) (past : Past) (who : ℕ) (call : Call) → who ≡ 0 → ComesNext s past who call → call ≡ Advance
 clock_call s past zero call zero_is next = next
 clock_call s past (suc n) call zero_is next = absurd (omega (arith, zero_is))
 
@@ -91,7 +76,7 @@ pub clock_answer : (s : Tree) (past : Past) (e : Entry) → IsMove s past e → 
 clock_answer s past e move zero_is =
     move.answer ∙ ap (λ (w : ℕ). reply (setup_of s) past w e.call) zero_is ∙ ap (reply (setup_of s) past 0) (clock_call s past e.who.0 e.call zero_is move.call)
     ∙ advance_is (setup_of s) past move.room
-    ∙ ap (λ o. busy_or o (advanced (soonest (setup_of s) past))) (quiet (setup_of s) past (clock_free s past (chosen_clock s past e move zero_is))).0
+    ∙ ap (λ o. busy_or o (advanced (soonest (setup_of s) past))) (quiet (setup_of s) past (clock_free s past e move zero_is)).0
 
 -- after it not all is quiet, or all is stuck
 clock_busy : (s : Tree) (past : Past) (e : Entry) → IsRun s (e ∷ past) → e.who.0 ≡ 0 → (o : Option ℕ) → e.answer ≡ advanced o → is_barred (setup_of s) (e ∷ past) 0 ≡ false → ⊥
@@ -108,7 +93,7 @@ clock_busy s past e run zero_is None a free =
 clock_stays : (s : Tree) (past : Past) (e f : Entry) → IsRun s (e ∷ past) → e.who.0 ≡ 0 → IsMove s (e ∷ past) f → 0 < f.who.0
 clock_stays s past e f run zero_is next = elim (cases_lt 0 f.who.0) [
   | inl positive ↦ positive
-  | inr le ↦ absurd (clock_busy s past e run zero_is (soonest (setup_of s) past) (clock_answer s past e run.0 zero_is) (clock_free s (e ∷ past) (chosen_clock s (e ∷ past) f next (omega (arith, le)))))
+  | inr le ↦ absurd (clock_busy s past e run zero_is (soonest (setup_of s) past) (clock_answer s past e run.0 zero_is) (clock_free s (e ∷ past) f next (omega (arith, le))))
 ]
 
 -- one where the last entry is the clock's
@@ -142,7 +127,7 @@ length_is s (e ∷ past) run =
     elim (eqb_tells e.who.0 0) [
       | inl x ↦ omega (arith, length_is s past run.1, total_more (length s.threads) e past, clock_then s past e run.1 run.0 x.1, one_by_clock e past x.0)
       | inr x ↦ let positive : 0 < e.who.0 = omega (arith, x.1) in
-          omega (arith, length_is s past run.1, by_clock_most past, total_own (length s.threads) e past positive (thread_within s e.who.0 (chosen_can_move s past e.who.0 run.0.actor positive).known))
+          omega (arith, length_is s past run.1, by_clock_most past, total_own (length s.threads) e past positive (thread_within s e.who.0 (move_can s past e run.0 positive).known))
     ]
 
 mul_most : (a b : ℕ) → a ≤ 15 → b ≤ 65536 → a * b ≤ 983040

@@ -24,7 +24,7 @@ use Rattle.user_pool.specs.Runs.{ComesNext, IsRun}
 use Rattle.user_pool.specs.Moves.{CanMove}
 use Rattle.user_pool.proofs.Ended.{has_ended-next}
 use Rattle.user_pool.proofs.OneRun.{run_lawful}
-use Rattle.user_pool.proofs.Turns.{chosen_can_move}
+use Rattle.user_pool.proofs.Turns.{move_can}
 
 -- what comes next of a thread is what its trace is cut before
 pub next_of : (s : Tree) (past : Past) (t : ℕ) (call : Call) → 0 < t → ComesNext s past t call → IsTrace s t (trace_of past t) (Cut call)
@@ -50,7 +50,7 @@ traced s (e ∷ past) t run positive =
     ]
 
 -- fewer entries than the history holds
-below_full : (past : Past) → is_full past ≡ false → length past < 2097152
+pub below_full : (past : Past) → is_full past ≡ false → length past < 2097152
 below_full past room = grind (arith, nat_tests, room)
 
 -- the call that comes next of a thread that can move is answered by its row
@@ -91,7 +91,7 @@ ended_so s (e ∷ past) t before run positive last =
           let ends : (e.call, e.answer) ≡ (EndThread, last.0) = last_same (trace_of past t) before (e.call, e.answer) (EndThread, last.0) (sym (trace_of-own past e t x.1) ∙ last.1) in
           let call : e.call ≡ EndThread = ap (λ p. p.0) ends in
           let here : 0 < e.who.0 = omega (arith, x.1) in
-          let can = chosen_can_move s past e.who.0 run.0.actor here in
+          let can = move_can s past e run.0 here in
           let answer : e.answer ≡ answers.Ended = run.0.answer ∙ by_row s past e.who.0 e.call run.1 here can run.0.room run.0.call ∙ ap (row (setup_of s) past e.who.0) call in
           has_ended-next e past t ∙ ends_now (eqb e.who.0 t) (has_ended past t) e.answer x.0 (ap is_end answer)
       | inr x ↦

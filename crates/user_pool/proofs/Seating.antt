@@ -25,6 +25,7 @@ use Rattle.user_pool.specs.Runs.{ComesNext, choice}
 use Rattle.user_pool.specs.Moves.{HasMoved}
 use Rattle.user_pool.specs.Seats.{IsSeatOf, SeatsStand, SeatsCount}
 use Rattle.user_pool.proofs.Ended.{has_ended-next}
+use Rattle.user_pool.proofs.Turns.{chosen_free, chosen_left}
 
 -- what a call that came next does to the past
 with_entry : (s : Tree) (past now : Past) (t : ℕ) (call : Call) (setup : Setup) → setup ≡ setup_of s → is_full past ≡ false
@@ -39,7 +40,8 @@ has_moved s past now t call setup same chosen next room is =
     let who : Thread = record { 0 = t } in
     record {
       entry = entry_by (setup_of s) past who call;
-      move = record { actor = chosen; call = next; answer = refl; room = room };
+      move = record { free = chosen_free s past t chosen; remains = chosen_left s past t chosen; call = next; answer = refl; room = room };
+      chosen = chosen;
       newest = with_entry s past now t call setup same room is;
       who = refl;
     }

@@ -1,5 +1,5 @@
 -- Who is chosen, and that it can move.
-use Rattle.std.proofs.Common.{◌≡◌, ℕ, zero, suc, ◌+◌, ◌<◌, ◌≤◌, Bool, true, false, not, cond, eqb, List, [], ◌∷◌, length, Option, Some, None, refl, sym, subst, inl, inr, ◌⊎◌, arith, add-one}
+use Rattle.std.proofs.Common.{◌≡◌, ◌≢◌, ℕ, zero, suc, ◌+◌, ◌<◌, ◌≤◌, Bool, true, false, not, cond, eqb, List, [], ◌∷◌, length, Option, Some, None, refl, sym, ◌∙◌, subst, inl, inr, ◌⊎◌, arith, add-one}
 use Rattle.std.specs.Prelude.{◌&&◌, nat_lt, find}
 use Rattle.std.proofs.lemmas.Bool.{cases_lt, false≢true}
 use Rattle.std.proofs.lemmas.Bool.Decides.{nat_tests, eqb_tells}
@@ -17,7 +17,7 @@ use Rattle.user_model.specs.Replies.{thread_reply}
 use Rattle.user_model.specs.Idle.{reply, is_idle, is_barred, still_waits, last_entry}
 use Rattle.script_tree.specs.Tree.{Tree}
 use Rattle.log_text.specs.Ends.{setup_of, used}
-use Rattle.user_pool.specs.Runs.{is_runnable, left, listed, last_thread, first_above, in_turn, clock_move, choice, IsRun}
+use Rattle.user_pool.specs.Runs.{is_runnable, left, listed, last_thread, first_above, in_turn, clock_move, choice, HasEntriesLeft, IsMove, IsRun}
 use Rattle.user_pool.specs.Moves.{CanMove}
 
 -- ---- booleans
@@ -133,6 +133,44 @@ chosen_runs s past t e positive =
 pub chosen_can_move : (s : Tree) (past : Past) (t : ℕ) → choice s past ≡ Some t → 0 < t → CanMove s past t
 chosen_can_move s past t e positive = runnable_can s past t (chosen_runs s past t e positive)
 
+-- ---- who makes a move can move
+
+left_parts : (s : Tree) (past : Past) (t : ℕ) → 0 < t → HasEntriesLeft s past t → (t ≤ length s.threads) × (used past t < s.budget)
+left_parts s past zero positive left = absurd (omega arith)
+left_parts s past (suc n) positive left = (omega (arith, left.0), left.1)
+
+pub move_can : (s : Tree) (past : Past) (e : Entry) → IsMove s past e → 0 < e.who.0 → CanMove s past e.who.0
+move_can s past e move positive =
+    let parts = left_parts s past e.who.0 positive move.remains in
+    record { known = is_thread_of s e.who.0 positive parts.0; busy = sym (barred_is_idle (setup_of s) past e.who.0 positive) ∙ move.free; remains = parts.1 }
+
+-- ---- who is chosen may move
+
+never_zero : (s : Tree) (past : Past) (o : Option ℕ) → ((t : ℕ) → o ≡ Some t → is_runnable s past t ≡ true) → o ≢ Some 0
+never_zero s past o runs e = absurd (omega (arith, thread_positive s 0 (runnable_can s past 0 (runs 0 e)).known))
+
+-- what the choice of the clock tells
+clock_chosen : (a b : Option ℕ) (barred : Bool) → a ≢ Some 0 → b ≢ Some 0 → or_else a (or_else b (cond barred None (Some 0))) ≡ Some 0 → barred ≡ false
+clock_chosen (Some i) b x f g e = absurd (f e)
+clock_chosen None (Some j) x f g e = absurd (g e)
+clock_chosen None None true f g e = absurd cc
+clock_chosen None None false f g e = refl
+
+-- the one that is chosen isn't barred
+pub chosen_free : (s : Tree) (past : Past) (t : ℕ) → choice s past ≡ Some t → is_barred (setup_of s) past t ≡ false
+chosen_free s past zero chosen = clock_chosen (listed s past) (in_turn s past) (is_barred (setup_of s) past 0)
+    (never_zero s past (listed s past) (λ t e. found_passes (is_runnable s past) (left s past) t e))
+    (never_zero s past (in_turn s past) (λ t e. turn_runs s past t e)) chosen
+chosen_free s past (suc n) chosen = barred_is_idle (setup_of s) past (suc n) (omega arith) ∙ (chosen_can_move s past (suc n) chosen (omega arith)).busy
+
+left_of : (s : Tree) (past : Past) (n : ℕ) → CanMove s past (suc n) → HasEntriesLeft s past (suc n)
+left_of s past n can = (omega (arith, thread_within s (suc n) can.known), can.remains)
+
+-- and has entries left
+pub chosen_left : (s : Tree) (past : Past) (t : ℕ) → choice s past ≡ Some t → HasEntriesLeft s past t
+chosen_left s past zero chosen = tt
+chosen_left s past (suc n) chosen = left_of s past n (chosen_can_move s past (suc n) chosen (omega arith))
+
 -- ---- a thread that can move has not ended
 
 pub idle_parts : (ended waits : Bool) → cond ended true waits ≡ false → (ended ≡ false) × (waits ≡ false)
@@ -172,6 +210,6 @@ pub used_within : (s : Tree) (past : Past) (t : ℕ) → IsRun s past → 0 < t 
 used_within s [] t run positive = omega arith
 used_within s (e ∷ past) t run positive =
     elim (eqb_tells e.who.0 t) [
-      | inl x ↦ omega (arith, used_own e past t x.0, subst (λ u. used past u < s.budget) x.1 (chosen_can_move s past e.who.0 run.0.actor (omega (arith, x.1))).remains)
+      | inl x ↦ omega (arith, used_own e past t x.0, subst (λ u. used past u < s.budget) x.1 (move_can s past e run.0 (omega (arith, x.1))).remains)
       | inr x ↦ omega (arith, used_other e past t x.0, used_within s past t run.1 positive)
     ]

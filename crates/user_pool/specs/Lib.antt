@@ -1,4 +1,5 @@
 pub mod InTurn
+pub mod Interleavings
 pub mod Moves
 pub mod Runs
 pub mod Seats

@@ -1,12 +1,12 @@
 -- Moves, and what is left of the order list.
-use Rattle.std.specs.Prelude.{if◌then◌else◌, ◌≡◌, ℕ, ◌+◌, ◌<◌, ◌≤◌, ◌==◌, Bool, true, false, List, ◌∷◌, length, drop, find, slice_get}
+use Rattle.std.specs.Prelude.{if◌then◌else◌, ◌≡◌, ℕ, ◌+◌, ◌<◌, ◌≤◌, ◌==◌, Bool, true, false, List, ◌∷◌, length, drop, find, slice_get, Some}
 use Rattle.user_model.specs.declared.entry.Entry.{Entry}
 use Rattle.user_model.specs.Past.{Past}
 use Rattle.user_model.specs.Threads.{is_thread}
 use Rattle.user_model.specs.Idle.{is_idle}
 use Rattle.script_tree.specs.Tree.{Tree}
 use Rattle.log_text.specs.Ends.{setup_of, used}
-use Rattle.user_pool.specs.Runs.{is_runnable, behind_first, left, IsMove}
+use Rattle.user_pool.specs.Runs.{is_runnable, behind_first, left, choice, IsMove}
 
 -- a thread of the script that isn't idle, and has some of its budget left
 pub record CanMove (s : Tree) (past : Past) (t : ℕ) : Type 0 where
@@ -14,10 +14,11 @@ pub record CanMove (s : Tree) (past : Past) (t : ℕ) : Type 0 where
   pub busy : is_idle (setup_of s) past t ≡ false
   pub remains : used past t < s.budget
 
--- the actor made one move
+-- the actor, who was chosen, made one move
 pub record HasMoved (s : Tree) (before now : Past) (actor : ℕ) : Type 0 where
   pub entry : Entry
   pub move : IsMove s before entry
+  pub chosen : choice s before ≡ Some entry.who.0
   pub newest : now ≡ entry ∷ before
   pub who : entry.who.0 ≡ actor
 

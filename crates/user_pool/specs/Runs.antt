@@ -1,5 +1,5 @@
--- The run of a script by its order list, and then by round robin.
-use Rattle.std.specs.Prelude.{if◌then◌else◌, ◌≡◌, ℕ, zero, suc, ◌==◌, nat_lt, Bool, false, not, ◌&&◌, List, [], ◌∷◌, length, find, Option, Some, None}
+-- Runs of a script, whoever moved when, and the one by its order list and then by round robin.
+use Rattle.std.specs.Prelude.{if◌then◌else◌, ◌≡◌, ◌<◌, ℕ, zero, suc, ◌==◌, nat_lt, Bool, false, not, ◌&&◌, List, [], ◌∷◌, length, find, Option, Some, None}
 use Rattle.user_model.specs.declared.call.Call.{Call}
 use Rattle.user_model.specs.declared.call.Call.TheVariants.{Advance}
 use Rattle.user_model.specs.declared.entry.Entry.{Entry}
@@ -10,6 +10,33 @@ use Rattle.script_tree.specs.Tree.{Tree}
 use Rattle.script_tree.specs.Pieces.{Cut}
 use Rattle.script_tree.specs.Traces.{IsTrace, trace_of}
 use Rattle.log_text.specs.Ends.{setup_of, used}
+
+-- ---- runs, whoever moved when
+
+-- the call that an actor makes next: the clock goes on, and a thread goes on with its trace
+abbrev pub ComesNext : Tree → Past → ℕ → Call → Type 0
+ComesNext s past zero call = call ≡ Advance
+ComesNext s past (suc n) call = IsTrace s (suc n) (trace_of past (suc n)) (Cut call)
+
+-- the clock, or a thread of the script that has some of its budget left
+abbrev pub HasEntriesLeft : Tree → Past → ℕ → Type 0
+HasEntriesLeft s past zero = Unit {0}
+HasEntriesLeft s past (suc n) = (n < length s.threads) × (used past (suc n) < s.budget)
+
+-- an entry, whoever makes it: its actor isn't barred and has entries left, its call is the one that comes next, and its answer is the one that the past gives it, which has room
+pub record IsMove (s : Tree) (past : Past) (e : Entry) : Type 0 where
+  pub free : is_barred (setup_of s) past e.who.0 ≡ false
+  pub remains : HasEntriesLeft s past e.who.0
+  pub call : ComesNext s past e.who.0 e.call
+  pub answer : e.answer ≡ reply (setup_of s) past e.who.0 e.call
+  pub room : is_full past ≡ false
+
+-- a run, also one that isn't over: each entry is a move
+abbrev pub IsRun : Tree → Past → Type 0
+IsRun s [] = Unit {0}
+IsRun s (e ∷ past) = IsMove s past e × IsRun s past
+
+-- ---- who is chosen
 
 -- whether a number is a thread's that can move: it isn't idle, and has some of its budget left
 abbrev pub is_runnable : Tree → Past → ℕ → Bool
@@ -50,24 +77,13 @@ clock_move s past = if is_barred (setup_of s) past 0 then None else Some 0
 abbrev pub choice : Tree → Past → Option ℕ
 choice s past = or_else (listed s past) (or_else (in_turn s past) (clock_move s past))
 
--- the call that an actor makes next: the clock goes on, and a thread goes on with its trace
-abbrev pub ComesNext : Tree → Past → ℕ → Call → Type 0
-ComesNext s past zero call = call ≡ Advance
-ComesNext s past (suc n) call = IsTrace s (suc n) (trace_of past (suc n)) (Cut call)
+-- each entry is by the actor that was chosen
+abbrev pub IsByChoice : Tree → Past → Type 0
+IsByChoice s [] = Unit {0}
+IsByChoice s (e ∷ past) = (choice s past ≡ Some e.who.0) × IsByChoice s past
 
--- an entry is made by the actor that is chosen, is the call that comes next, and has the answer that the past gives it
-pub record IsMove (s : Tree) (past : Past) (e : Entry) : Type 0 where
-  pub actor : choice s past ≡ Some e.who.0
-  pub call : ComesNext s past e.who.0 e.call
-  pub answer : e.answer ≡ reply (setup_of s) past e.who.0 e.call
-  pub room : is_full past ≡ false
-
--- each entry is a move
-abbrev pub IsRun : Tree → Past → Type 0
-IsRun s [] = Unit {0}
-IsRun s (e ∷ past) = IsMove s past e × IsRun s past
-
--- the run that goes on until nobody is chosen
+-- the run of those that are chosen, which goes on until nobody is
 pub record IsListed (s : Tree) (past : Past) : Type 0 where
   pub run : IsRun s past
+  pub chosen : IsByChoice s past
   pub over : choice s past ≡ None

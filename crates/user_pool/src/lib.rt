@@ -11,7 +11,8 @@ mod run;
 mod seat;
 
 pub use laws::{
-    no_call_out_of_turn, one_run, runs_answer_their_sends, runs_are_lawful, runs_are_not_cut,
+    listed_runs_are_runs, movers_decide_the_run, no_call_out_of_turn, one_run,
+    runs_answer_their_sends, runs_are_interleavings, runs_are_lawful, runs_are_not_cut,
     runs_are_short,
 };
 pub use run::run_listed;

@@ -1,11 +1,8 @@
 use Rattle.std.proofs.Common.{◌≡◌, Bool, true, false, cond, refl}
-use Rattle.user_model.specs.Past.{Past}
 use Rattle.user_model.specs.Idle.{have_all_ended, ends_stuck}
 use Rattle.user_model.proofs.SendStories.{send_law, sum_law}
-use Rattle.script_tree.specs.Tree.{Tree}
-use Rattle.log_text.specs.declared.end.End.{End}
 use Rattle.log_text.specs.declared.end.End.TheVariants.{Done, Stuck, Spent, Cut}
-use Rattle.log_text.specs.Ends.{setup_of, end_of, is_spent}
+use Rattle.log_text.specs.Ends.{setup_of, is_spent}
 use Rattle.user_pool.proofs.OneRun.{run_lawful}
 use Rattle.user_pool.proofs.laws.runs_answer_their_sends.Goals as goal
 

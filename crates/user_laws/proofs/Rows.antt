@@ -1,0 +1,4 @@
+-- Worked rows of destructions, each by computing.
+pub mod OwnedTwice
+pub mod KinAcrossOwners
+pub mod ParentInsideChild

@@ -1,0 +1,67 @@
+-- A tree with owned windows of two levels: what was answered is the reply at each place.
+use Rattle.std.specs.Prelude.{◌≡◌, ℕ, pos, List, [], ◌∷◌, reverse, refl}
+use Rattle.std.proofs.Common.{lit≤}
+use Rattle.user_model.specs.declared.call.Call.{Call}
+use Rattle.user_model.specs.declared.entry.Answer.{Answer}
+use Rattle.user_model.specs.declared.entry.Entry.{Entry}
+use Rattle.user_model.specs.declared.entry.Setup.{Setup}
+use Rattle.user_model.specs.Past.{Past}
+use Rattle.user_model.specs.Idle.{reply}
+use Rattle.user_model.specs.Legal.{IsLegal, told, replies}
+use Rattle.user_model.proofs.LegalLaws.{lawful_from_replies}
+
+abbrev entry : ℕ → Call → Answer → Entry
+entry t call answer = record { who = record { 0 = t }; call = call; answer = answer }
+
+-- a window of a parent and a style
+abbrev made : ℕ → ℕ → ℕ → Entry
+made parent style w = entry 1 (Call.NewWindow 0 1 parent style 0 (pos 0) (pos 0) (pos 0) (pos 0)) (Answer.Window (record { 0 = w }))
+
+-- the next step of the destruction of w tells v
+abbrev tells : ℕ → ℕ → Entry
+tells w v = entry 1 (Call.Unmake w) (Answer.Tell (record { 0 = v }))
+
+-- or gives v its last message
+abbrev ends : ℕ → ℕ → Entry
+ends w v = entry 1 (Call.Unmake w) (Answer.Last (record { 0 = v }))
+
+abbrev setup : Setup
+setup = record { threads = 1; width = 8; height = 4 }
+
+abbrev history : List Entry
+history = entry 1 (Call.Register 0 0 0) (Answer.Value 1)
+    ∷ made 0 0 16
+    ∷ made 16 0 17
+    ∷ made 17 0 18
+    ∷ made 16 1073741824 19
+    ∷ made 19 1073741824 20
+    ∷ made 17 1073741824 21
+    ∷ entry 1 (Call.Doom 16) Answer.Okay
+    ∷ tells 16 18
+    ∷ ends 16 18
+    ∷ tells 16 17
+    ∷ tells 16 21
+    ∷ ends 16 21
+    ∷ ends 16 17
+    ∷ tells 16 16
+    ∷ tells 16 19
+    ∷ tells 16 20
+    ∷ ends 16 20
+    ∷ ends 16 19
+    ∷ ends 16 16
+    ∷ ends 16 16
+    ∷ entry 1 (Call.Drop 16) Answer.Okay
+    ∷ entry 1 (Call.IsWindow 18) (Answer.Value 0)
+    ∷ entry 1 (Call.IsWindow 21) (Answer.Value 0)
+    ∷ []
+
+abbrev past : Past
+past = reverse history
+
+answers : told past ≡ replies setup past
+unfolding reply
+answers = refl
+
+-- so it is legal
+pub legal : IsLegal setup history
+legal = (lit≤ tt, lawful_from_replies setup past answers)
