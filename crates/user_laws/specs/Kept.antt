@@ -3,7 +3,8 @@ use Rattle.std.specs.Prelude.{◌≡◌, ℕ, ◌∷◌}
 use Rattle.user_model.specs.declared.entry.Entry.{Entry}
 use Rattle.user_model.specs.Past.{Past}
 use Rattle.user_model.specs.Places.{clock, cursor, has_ended}
-use Rattle.user_model.specs.Windows.{live, windows_made, style_of, ex_of, place_of}
+use Rattle.user_model.specs.Windows.{live, windows_made}
+use Rattle.user_model.specs.Looks.{look}
 use Rattle.user_model.specs.Destruction.{Step, is_marked, was_given}
 use Rattle.user_model.specs.Classes.{classes, registered_count, message_names}
 use Rattle.user_model.specs.Posts.{posts, posted, quit}
@@ -18,9 +19,7 @@ pub record ChangesNothing (past : Past) (e : Entry) : Type 0 where
   pub same_ends : (t : ℕ) → has_ended (e ∷ past) t ≡ has_ended past t
   pub same_windows : live (e ∷ past) ≡ live past
   pub same_numbers : windows_made (e ∷ past) ≡ windows_made past
-  pub same_style : (w : ℕ) → style_of (e ∷ past) w ≡ style_of past w
-  pub same_extended_style : (w : ℕ) → ex_of (e ∷ past) w ≡ ex_of past w
-  pub same_place : (w : ℕ) → place_of (e ∷ past) w ≡ place_of past w
+  pub same_looks : (w : ℕ) → look (e ∷ past) w ≡ look past w
   pub same_marks : (w : ℕ) → is_marked (e ∷ past) w ≡ is_marked past w
   pub same_steps : (step : Step) → was_given (e ∷ past) step ≡ was_given past step
   pub same_classes : classes (e ∷ past) ≡ classes past
