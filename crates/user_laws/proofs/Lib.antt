@@ -1,9 +1,9 @@
-pub mod Stories
-pub mod KeptByRefusals
-pub mod WordLaws
-pub mod Standing
 pub mod Forest
-pub mod Walks
+pub mod KeptByRefusals
+pub mod LastLooks
 pub mod Once
-pub mod Fields
 pub mod Rows
+pub mod Standing
+pub mod Stories
+pub mod Walks
+pub mod WordLaws

@@ -1,5 +1,5 @@
-pub mod Kept
-pub mod Words
-pub mod Stands
 pub mod Destructions
-pub mod Fields
+pub mod Kept
+pub mod Looks
+pub mod Stands
+pub mod Words

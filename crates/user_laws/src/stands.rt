@@ -4,12 +4,13 @@ ghost use Rattle.std.specs.Prelude.{◌≡◌, ◌≤◌, ◌↔◌, ℕ, List, 
 ghost use Rattle.std.specs.List.{AllByRecursion};
 ghost use Rattle.user_model.specs.declared.entry.Entry.{Entry};
 ghost use Rattle.user_model.specs.declared.entry.Setup.{Setup};
-ghost use Rattle.user_model.specs.Windows.{Window, live, is_kin, kin_within, style_of, ex_of, place_of};
+ghost use Rattle.user_model.specs.Windows.{Window, live, is_kin, kin_within};
+ghost use Rattle.user_model.specs.Looks.{look};
 ghost use Rattle.user_model.specs.Posts.{PostedMsg, posted, posts_to, ends_post};
 ghost use Rattle.user_model.specs.Ready.{ReadyMsg, arrives, departs, ready};
 ghost use Rattle.user_model.specs.Legal.{IsLawful};
 ghost use Rattle.user_laws.specs.Words.{IsIn, IsLastSaid, IsAddedForGood};
-ghost use Rattle.user_laws.specs.Fields.{sets_style, sets_extended_style, sets_place};
+ghost use Rattle.user_laws.specs.Looks.{gives_look};
 ghost use Rattle.user_laws.specs.Stands.{makes_window, drops_it, IsForItsThread, LeadsTo, RisesByNumber};
 
 /// The live windows are exactly those that some unrefused entry made and no later one dropped, by a drop of theirs or of
@@ -18,12 +19,11 @@ pub fn windows_live_until_dropped()
     ensures { (past : List Entry) (x : Window) → IsIn x (live past) ↔ IsAddedForGood makes_window drops_it past x }
 {}
 
-/// A live window's number, thread, class, title, parent and owner are those that it was made with, as the law above says; its
-/// style, its extended style and its place are those that the last entry set that set one (Microsoft, CreateWindowEx function).
+/// A live window's number, thread, class, title, parent and owner are those that it was made with, as the law above says. How it
+/// looks, its style, extended style and place, is what the last entry that made, placed or showed it has made of how it looked
+/// before (Microsoft, SetWindowPos function).
 pub fn windows_are_as_last_set()
-    ensures style { (past : List Entry) (x : Window) → IsIn x (live past) → IsLastSaid (sets_style x.number) past (style_of past x.number) }
-    ensures extended_style { (past : List Entry) (x : Window) → IsIn x (live past) → IsLastSaid (sets_extended_style x.number) past (ex_of past x.number) }
-    ensures place { (past : List Entry) (x : Window) → IsIn x (live past) → IsLastSaid (sets_place x.number) past (place_of past x.number) }
+    ensures { (past : List Entry) (x : Window) → IsIn x (live past) → IsLastSaid (gives_look x.number) past (look past x.number) }
 {}
 
 /// The posts that stand are exactly those that some unrefused entry posted to the thread, and that no later retrieval
