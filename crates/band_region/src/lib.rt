@@ -1,4 +1,4 @@
-//! Sets of pixels of the plane, as lists of rectangles (Microsoft, Regions).
+//! Sets of pixels of the plane, as lists of rectangles in bands (Microsoft, Regions).
 #![tactic(auto)]
 
 mod bands;
