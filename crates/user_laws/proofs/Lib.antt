@@ -5,5 +5,6 @@ pub mod Standing
 pub mod Forest
 pub mod Walks
 pub mod Once
+pub mod Before
 pub mod Fields
 pub mod Rows
