@@ -1,3 +1,4 @@
+pub mod Before
 pub mod Forest
 pub mod KeptByRefusals
 pub mod LastLooks

@@ -1,5 +1,5 @@
 -- The order of a destruction, as a whole.
-use Rattle.std.specs.Prelude.{if◌then◌else◌, ℕ, Bool, List, length, count_by}
+use Rattle.std.specs.Prelude.{◌≡◌, if◌then◌else◌, ℕ, Bool, List, ◌∷◌, ◌++◌, length, count_by}
 use Rattle.user_model.specs.Windows.{Window}
 use Rattle.user_model.specs.Destruction.{Step, preorder, postorder, same_step}
 
@@ -18,3 +18,10 @@ times i steps = count_by (same_step i) steps
 -- once where it is so, else never
 abbrev pub once_if : Bool → ℕ
 once_if b = if b then 1 else 0
+
+-- one value comes before another in a list
+pub record ComesBefore {A : Type 0} (i j : A) (xs : List A) : Type 0 where
+  pub before : List A
+  pub between : List A
+  pub after : List A
+  pub splits : xs ≡ before ++ i ∷ (between ++ j ∷ after)

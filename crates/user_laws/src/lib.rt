@@ -11,7 +11,7 @@ mod times;
 mod words;
 
 pub use machines::{send_law, sum_law};
-pub use orders::{destruction_is_in_order, kin_are_destroyed_once};
+pub use orders::{destruction_is_in_order, kin_are_destroyed_once, kin_go_before_what_is_above};
 pub use refusals::{posts_leave_in_order, refusals_change_nothing};
 pub use sends::{
     all_sends_come_to_an_end, answers_stay, awaits_pop_their_frames, frames_and_sends_are_few,
