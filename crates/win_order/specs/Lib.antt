@@ -1,4 +1,5 @@
 pub mod Families
+pub mod Kept
 pub mod Layers
 pub mod Mended
 pub mod Mending
