@@ -9,7 +9,7 @@ use Rattle.std.proofs.lemmas.Map.Views.{any-filter_same}
 use Rattle.win_num.specs.declared.message.Hwnd.{Hwnd}
 use Rattle.win_order.specs.declared.after.After.{After}
 use Rattle.win_order.specs.declared.after.After.TheVariants.{Bottom, Below, Top, Topmost, NoTopmost}
-use Rattle.win_order.specs.declared.standings.Standing.{Standing}
+use Rattle.win_order.specs.Standing.{Standing}
 use Rattle.win_order.specs.declared.top_level.TopLevel.{TopLevel}
 use Rattle.win_order.specs.Families.{place_in, put, windows_of, with_windows, without}
 use Rattle.win_order.specs.Kept.{AllCameNew, IsKept, age_in, is_child, times, top_levels}
@@ -32,7 +32,7 @@ any_by_times : (b : Bool) (n : ℕ) → (b || ltb 0 n) ≡ ltb 0 (cond b 1 0 + n
 any_by_times true n = sym (lt-ltb 0 (1 + n) (omega arith))
 any_by_times false n = ap (ltb 0) (omega arith)
 
-listed_any : (v : ℕ) (ws : List Hwnd) → list_any (λ u. eqb u.0 v) ws ≡ ltb 0 (times v ws)
+pub listed_any : (v : ℕ) (ws : List Hwnd) → list_any (λ u. eqb u.0 v) ws ≡ ltb 0 (times v ws)
 listed_any v [] = refl
 listed_any v (w ∷ ws) = ap (λ b. eqb w.0 v || b) (listed_any v ws) ∙ (any_by_times (eqb w.0 v) (times v ws) ∙ ap (ltb 0) (sym (times_cons v w ws)))
 
@@ -40,10 +40,10 @@ test_of_count : (b : Bool) → ltb 0 (cond b 1 0) ≡ b
 test_of_count true = refl
 test_of_count false = refl
 
-abbrev Lists : List Standing → List Hwnd → Type 0
+abbrev pub Lists : List Standing → List Hwnd → Type 0
 Lists ss ws = (v : ℕ) → times v ws ≡ cond (is_child v 0 ss) 1 0
 
-listed_here : (ss : List Standing) (ws : List Hwnd) → Lists ss ws → (v : ℕ) → list_any (λ u. eqb u.0 v) ws ≡ is_child v 0 ss
+pub listed_here : (ss : List Standing) (ws : List Hwnd) → Lists ss ws → (v : ℕ) → list_any (λ u. eqb u.0 v) ws ≡ is_child v 0 ss
 listed_here ss ws listed v = listed_any v ws ∙ (ap (ltb 0) (listed v) ∙ test_of_count (is_child v 0 ss))
 
 each_here : (front ws : List Hwnd) → list_all (λ w. list_any (λ u. eqb u.0 w.0) (front ++ ws)) ws ≡ true
@@ -53,7 +53,7 @@ each_here front (w ∷ ws) =
     let rest : list_all (λ v. list_any (λ u. eqb u.0 v.0) (front ++ w ∷ ws)) ws ≡ true = subst (λ l. list_all (λ v. list_any (λ u. eqb u.0 v.0) l) ws ≡ true) (append_assoc front (w ∷ []) ws) (each_here (front ++ w ∷ []) ws) in
     and_true (list_any (λ u. eqb u.0 w.0) (front ++ w ∷ ws)) (list_all (λ v. list_any (λ u. eqb u.0 v.0) (front ++ w ∷ ws)) ws) here rest
 
-each_stands : (ss : List Standing) (ws : List Hwnd) → Lists ss ws → list_all (λ w. is_child w.0 0 ss) ws ≡ true
+pub each_stands : (ss : List Standing) (ws : List Hwnd) → Lists ss ws → list_all (λ w. is_child w.0 0 ss) ws ≡ true
 each_stands ss ws listed = all_one (λ (w : Hwnd). list_any (λ u. eqb u.0 w.0) ws) (λ w. is_child w.0 0 ss) (λ w e. sym (listed_here ss ws listed w.0) ∙ e) ws (each_here [] ws)
 
 -- The premises of the law of mending.
@@ -219,7 +219,7 @@ relisted_mended_by ss p w after fs false is new listed stays =
 
 -- Tops that stay the same.
 
-tops_same : (f g : Hwnd → TopLevel) (p : Hwnd → Bool) → ((w : Hwnd) → p w ≡ true → f w ≡ g w) → (ws : List Hwnd) → list_all p ws ≡ true → map f ws ≡ map g ws
+pub tops_same : (f g : Hwnd → TopLevel) (p : Hwnd → Bool) → ((w : Hwnd) → p w ≡ true → f w ≡ g w) → (ws : List Hwnd) → list_all p ws ≡ true → map f ws ≡ map g ws
 tops_same f g p same [] a = refl
 tops_same f g p same (w ∷ ws) a = ap (λ t. t ∷ map f ws) (same w (and_left (p w) (list_all p ws) a)) ∙ ap (λ l. g w ∷ l) (tops_same f g p same ws (and_right (p w) (list_all p ws) a))
 
@@ -366,10 +366,17 @@ nobody_stands : (ss : List Standing) → AllCameNew ss → among 0 ss ≡ false
 nobody_stands [] n = refl
 nobody_stands (s ∷ ss) n = ap (λ b. b || among 0 ss) (not-true (eqb s.window.0 0) n.0.window) ∙ nobody_stands ss n.1
 
+stands_apart_from_nobody : (w : ℕ) (ss : List Standing) → AllCameNew ss → among w ss ≡ true → eqb 0 w ≡ false
+stands_apart_from_nobody w ss older there = ne_eqb 0 w (λ e. false≢true (sym (nobody_stands ss older) ∙ (ap (λ n. among n ss) e ∙ there)))
+
+alone : (w : ℕ) (ss : List Standing) → list_all (λ s. not (eqb s.parent.0 w) && not (eqb s.owner.0 w)) ss ≡ true → list_all (goes_with (λ v. eqb v w)) ss ≡ true
+alone w ss none = all_one (λ (s : Standing). not (eqb s.parent.0 w) && not (eqb s.owner.0 w)) (goes_with (λ v. eqb v w)) (λ s e. or_second (eqb s.window.0 w) (not (eqb s.parent.0 w) && not (eqb s.owner.0 w)) e) ss none
+
+pub new_without : (w : ℕ) (ss : List Standing) → AllCameNew ss → among w ss ≡ true → list_all (λ s. not (eqb s.parent.0 w) && not (eqb s.owner.0 w)) ss ≡ true → AllCameNew (filter (λ s. not (eqb s.window.0 w)) ss)
+new_without w ss older there none = new_left (λ v. eqb v w) ss (alone w ss none) older
+
 pub removed_kept : (w : ℕ) (z : Layers) → IsKept z → stands w z ≡ true → has_none w z ≡ true → IsKept (removed w z)
-removed_kept w z k there none =
-    let nobody : eqb 0 w ≡ false = ne_eqb 0 w (λ e. false≢true (sym (nobody_stands z.standings k.older) ∙ (ap (λ n. among n z.standings) e ∙ there))) in
-    cleared_kept (λ v. eqb v w) z nobody (all_one (λ (s : Standing). not (eqb s.parent.0 w) && not (eqb s.owner.0 w)) (goes_with (λ v. eqb v w)) (λ s e. or_second (eqb s.window.0 w) (not (eqb s.parent.0 w) && not (eqb s.owner.0 w)) e) z.standings none) k
+removed_kept w z k there none = cleared_kept (λ v. eqb v w) z (stands_apart_from_nobody w z.standings k.older there) (alone w z.standings none) k
 
 gone_stands : (gone : List Hwnd) (z : Layers) (w : ℕ) → list_all (λ v. stands v.0 z) gone ≡ true → stands w z ≡ false → is_gone gone w ≡ false
 gone_stands [] z w all missing = refl

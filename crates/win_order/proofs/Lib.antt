@@ -1,6 +1,9 @@
 pub mod Booleans
-pub mod MendingLaws
+pub mod EntryLaws
+pub mod GoneLaws
+pub mod InsertLaws
 pub mod KeptLaws
+pub mod MendingLaws
 pub mod OrderLaws
 pub mod Places
 pub mod Rewriting

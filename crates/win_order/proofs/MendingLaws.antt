@@ -90,14 +90,14 @@ above_cons_by : (below ts : List TopLevel) (t : TopLevel) (b : Bool) → b ≡ t
 above_cons_by below ts t true e above = above
 above_cons_by below ts t false e above = e
 
-above_cons : (below ts : List TopLevel) (t : TopLevel) → may_follow below t ≡ true → is_above_owners (below ++ t ∷ []) ts ≡ true → is_above_owners below (t ∷ ts) ≡ true
+pub above_cons : (below ts : List TopLevel) (t : TopLevel) → may_follow below t ≡ true → is_above_owners (below ++ t ∷ []) ts ≡ true → is_above_owners below (t ∷ ts) ≡ true
 above_cons below ts t free above = above_cons_by below ts t (may_follow below t) free above
 
 above_parts_by : (below ts : List TopLevel) (t : TopLevel) (b : Bool) → elim b [ true ↦ is_above_owners (below ++ t ∷ []) ts | false ↦ false ] ≡ true → (b ≡ true) × (is_above_owners (below ++ t ∷ []) ts ≡ true)
 above_parts_by below ts t true above = (refl, above)
 above_parts_by below ts t false above = absurd (false≢true above)
 
-above_parts : (below ts : List TopLevel) (t : TopLevel) → is_above_owners below (t ∷ ts) ≡ true → (may_follow below t ≡ true) × (is_above_owners (below ++ t ∷ []) ts ≡ true)
+pub above_parts : (below ts : List TopLevel) (t : TopLevel) → is_above_owners below (t ∷ ts) ≡ true → (may_follow below t ≡ true) × (is_above_owners (below ++ t ∷ []) ts ≡ true)
 above_parts below ts t above = above_parts_by below ts t (may_follow below t) above
 
 kept_owner_by : (gone : ℕ → Bool) (below : List TopLevel) (t : TopLevel) (b : Bool) → gone t.window.0 ≡ false → goes_along gone t ≡ true → (b || has t.owner.0 below) ≡ true → (b || has t.owner.0 (staying gone below)) ≡ true
@@ -125,7 +125,7 @@ stays_above gone below (t ∷ ts) along above =
     let parts = above_parts below ts t above in
     stays_above_by gone below t ts (gone t.window.0) refl (and_left (goes_along gone t) (list_all (goes_along gone) ts) along) parts.0 (stays_above gone (below ++ t ∷ []) ts (and_right (goes_along gone t) (list_all (goes_along gone) ts) along) parts.1)
 
-parted_cons : (t : TopLevel) (ts : List TopLevel) (b : Bool) → t.topmost ≡ b → (b ≡ true → list_all (λ v. v.topmost) ts ≡ true) → (b ≡ false → is_parted ts ≡ true) → elim b [ true ↦ list_all (λ v. v.topmost) ts | false ↦ is_parted ts ] ≡ true
+pub parted_cons : (t : TopLevel) (ts : List TopLevel) (b : Bool) → t.topmost ≡ b → (b ≡ true → list_all (λ v. v.topmost) ts ≡ true) → (b ≡ false → is_parted ts ≡ true) → elim b [ true ↦ list_all (λ v. v.topmost) ts | false ↦ is_parted ts ] ≡ true
 parted_cons t ts true is high low = high refl
 parted_cons t ts false is high low = low refl
 
@@ -137,7 +137,7 @@ stays_parted_by : (keep : TopLevel → Bool) (t : TopLevel) (ts : List TopLevel)
 stays_parted_by keep t ts true is high ih = ap is_parted (keep_first keep t ts is) ∙ parted_cons t (filter keep ts) t.topmost refl high (λ _. ih)
 stays_parted_by keep t ts false is high ih = ap is_parted (skip_first keep t ts is) ∙ ih
 
-parted_tail : (ts : List TopLevel) (b : Bool) → elim b [ true ↦ list_all (λ v. v.topmost) ts | false ↦ is_parted ts ] ≡ true → (b ≡ true → list_all (λ v. v.topmost) ts ≡ true) × (is_parted ts ≡ true)
+pub parted_tail : (ts : List TopLevel) (b : Bool) → elim b [ true ↦ list_all (λ v. v.topmost) ts | false ↦ is_parted ts ] ≡ true → (b ≡ true → list_all (λ v. v.topmost) ts ≡ true) × (is_parted ts ≡ true)
 parted_tail ts true a = (λ _. a, all_topmost_parted ts a)
 parted_tail ts false a = (λ e. absurd (false≢true e), a)
 
@@ -153,7 +153,7 @@ staying_mended gone ts along m = record { parted = stays_parted (λ t. not (gone
 
 -- Owned windows above their owners: the front of what is next is written or held, and what is held waits for an owner.
 
-has_end : (o : ℕ) (written : List TopLevel) (t : TopLevel) → has o (written ++ t ∷ []) ≡ (has o written || (eqb t.window.0 o || false))
+pub has_end : (o : ℕ) (written : List TopLevel) (t : TopLevel) → has o (written ++ t ∷ []) ≡ (has o written || (eqb t.window.0 o || false))
 has_end o written t = list_any-append (λ u. eqb u.window.0 o) written (t ∷ [])
 
 follows_more : (written : List TopLevel) (t u : TopLevel) → may_follow written u ≡ true → may_follow (written ++ t ∷ []) u ≡ true
@@ -176,7 +176,7 @@ still_waits written t u other waits =
     let end : has u.owner.0 (written ++ t ∷ []) ≡ false = has_end u.owner.0 written t ∙ (ap (λ b. b || (eqb t.window.0 u.owner.0 || false)) missing ∙ ap (λ b. b || false) apart) in
     ap not (ap (λ b. b || has u.owner.0 (written ++ t ∷ [])) some ∙ end)
 
-above_end : (below written : List TopLevel) (t : TopLevel) → is_above_owners below written ≡ true → may_follow (below ++ written) t ≡ true → is_above_owners below (written ++ t ∷ []) ≡ true
+pub above_end : (below written : List TopLevel) (t : TopLevel) → is_above_owners below written ≡ true → may_follow (below ++ written) t ≡ true → is_above_owners below (written ++ t ∷ []) ≡ true
 above_end below [] t above free = above_cons below [] t (subst (λ l. may_follow l t ≡ true) (append-nil below) free) refl
 above_end below (x ∷ written) t above free =
     let parts = above_parts below written x above in

@@ -4,7 +4,7 @@ use Rattle.std.specs.List.{filter, list_any, list_all}
 use Rattle.std.proofs.lemmas.Bool.{false≢true, eqb-true, ne_eqb, not-true}
 use Rattle.std.proofs.lemmas.Map.Views.{any-filter_same}
 use Rattle.win_num.specs.declared.message.Hwnd.{Hwnd}
-use Rattle.win_order.specs.declared.standings.Standing.{Standing}
+use Rattle.win_order.specs.Standing.{Standing}
 use Rattle.win_order.specs.Kept.{AllCameNew, is_child, age_in}
 use Rattle.win_order.specs.Layers.{IsNew}
 use Rattle.win_order.specs.Standings.{owner_of, is_topmost, top_level, flagged}
@@ -22,7 +22,7 @@ child_among w p ss e = any_one (λ (s : Standing). eqb s.window.0 w && eqb s.par
 pub apart : (ss : List Standing) (u w : ℕ) → not (among u ss) ≡ true → among w ss ≡ true → eqb u w ≡ false
 apart ss u w fresh there = ne_eqb u w (λ e. false≢true (sym (not-true (among u ss) fresh) ∙ (ap (λ n. among n ss) e ∙ there)))
 
-owner_first : (s : Standing) (ss : List Standing) (w : ℕ) → eqb s.window.0 w ≡ true → owner_of (s ∷ ss) w ≡ s.owner
+pub owner_first : (s : Standing) (ss : List Standing) (w : ℕ) → eqb s.window.0 w ≡ true → owner_of (s ∷ ss) w ≡ s.owner
 owner_first s ss w e = rw (e, owner_of) refl
 
 owner_next : (s : Standing) (ss : List Standing) (w : ℕ) → eqb s.window.0 w ≡ false → owner_of (s ∷ ss) w ≡ owner_of ss w
@@ -34,10 +34,10 @@ age_first s ss w e = rw (e, age_in) refl
 age_next : (s : Standing) (ss : List Standing) (w : ℕ) → eqb s.window.0 w ≡ false → age_in (s ∷ ss) w ≡ age_in ss w
 age_next s ss w e = rw (e, age_in) refl
 
-topmost_first : (s : Standing) (ss : List Standing) (w : ℕ) → eqb s.window.0 w ≡ true → is_topmost (s ∷ ss) w ≡ elim s.topmost [ true ↦ true | false ↦ elim (eqb s.owner.0 0) [ true ↦ false | false ↦ is_topmost ss s.owner.0 ] ]
+pub topmost_first : (s : Standing) (ss : List Standing) (w : ℕ) → eqb s.window.0 w ≡ true → is_topmost (s ∷ ss) w ≡ elim s.topmost [ true ↦ true | false ↦ elim (eqb s.owner.0 0) [ true ↦ false | false ↦ is_topmost ss s.owner.0 ] ]
 topmost_first s ss w e = rw (e, is_topmost) refl
 
-topmost_next : (s : Standing) (ss : List Standing) (w : ℕ) → eqb s.window.0 w ≡ false → is_topmost (s ∷ ss) w ≡ is_topmost ss w
+pub topmost_next : (s : Standing) (ss : List Standing) (w : ℕ) → eqb s.window.0 w ≡ false → is_topmost (s ∷ ss) w ≡ is_topmost ss w
 topmost_next s ss w e = rw (e, is_topmost) refl
 
 age_below_by : (s : Standing) (ss : List Standing) (w : ℕ) (b : Bool) → eqb s.window.0 w ≡ b → (b || among w ss) ≡ true → (among w ss ≡ true → age_in ss w < length ss) → age_in (s ∷ ss) w < length (s ∷ ss)

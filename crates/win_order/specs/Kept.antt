@@ -2,7 +2,7 @@
 use Rattle.std.specs.Prelude.{◌≡◌, ℕ, ◌==◌, Bool, true, false, ◌&&◌, ⊤, List, [], ◌∷◌, cond, length, map, count_by}
 use Rattle.std.specs.List.{list_any}
 use Rattle.win_num.specs.declared.message.Hwnd.{Hwnd}
-use Rattle.win_order.specs.declared.standings.Standing.{Standing}
+use Rattle.win_order.specs.Standing.{Standing}
 use Rattle.win_order.specs.declared.top_level.TopLevel.{TopLevel}
 use Rattle.win_order.specs.Layers.{Layers, IsNew, siblings_of}
 use Rattle.win_order.specs.Mended.{IsMended}

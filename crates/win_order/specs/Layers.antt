@@ -4,7 +4,7 @@ use Rattle.std.specs.List.{filter, list_any, list_all}
 use Rattle.win_num.specs.declared.message.Hwnd.{Hwnd}
 use Rattle.win_order.specs.declared.after.After.{After}
 use Rattle.win_order.specs.declared.after.After.TheVariants.{Below, Top}
-use Rattle.win_order.specs.declared.standings.Standing.{Standing}
+use Rattle.win_order.specs.Standing.{Standing}
 use Rattle.win_order.specs.Families.{put, windows_of, with_windows, without_window}
 use Rattle.win_order.specs.Mending.{mended}
 use Rattle.win_order.specs.Siblings.{Siblings}

@@ -1,7 +1,9 @@
+pub mod Entries
 pub mod Families
 pub mod Kept
 pub mod Layers
 pub mod Mended
 pub mod Mending
 pub mod Siblings
+pub mod Standing
 pub mod Standings

@@ -9,7 +9,7 @@ ghost use Rattle.std.specs.List.{list_all};
 ghost use Rattle.std.specs.List.Sorted.{IsPermutation};
 ghost use Rattle.win_order.specs.declared.top_level.TopLevel.{TopLevel};
 ghost use Rattle.win_num.specs.declared.message.Hwnd.{Hwnd};
-ghost use Rattle.win_order.specs.declared.standings.Standing.{Standing};
+ghost use Rattle.win_order.specs.Standing.{Standing};
 ghost use Rattle.win_order.specs.declared.after.After.{After};
 ghost use Rattle.win_order.specs.Kept.{IsKept, age_in, top_levels};
 ghost use Rattle.win_order.specs.Layers.{Layers, IsNew, IsPlace, MayGo, empty, has_none, inserted, placed, removed, removed_those, settled, stands};
