@@ -3,6 +3,7 @@ pub mod EntryLaws
 pub mod GoneLaws
 pub mod InsertLaws
 pub mod KeptLaws
+pub mod MarkLaws
 pub mod MendingLaws
 pub mod OrderLaws
 pub mod Places

@@ -2,6 +2,7 @@ pub mod Entries
 pub mod Families
 pub mod Kept
 pub mod Layers
+pub mod Marks
 pub mod Mended
 pub mod Mending
 pub mod Siblings
