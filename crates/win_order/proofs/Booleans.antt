@@ -1,5 +1,5 @@
 -- Tests of all elements of a list, and of one.
-use Rattle.std.proofs.Common.{◌≡◌, ◌∙◌, ℕ, List, [], ◌∷◌, Bool, true, false, cond, not, ◌&&◌, ◌||◌, refl, sym, ap}
+use Rattle.std.proofs.Common.{◌≡◌, ◌∙◌, List, [], ◌∷◌, Bool, true, false, cond, not, ◌&&◌, ◌||◌, map, refl, sym, ap}
 use Rattle.std.specs.List.{filter, list_any, list_all}
 use Rattle.std.specs.List.Sorted.{IsPermutation}
 use Rattle.std.proofs.lemmas.Bool.{false≢true}
@@ -79,3 +79,52 @@ keep_first p x xs e = cond_true (p x) (x ∷ filter p xs) (filter p xs) e
 
 pub skip_first : {X : Type 0} (p : X → Bool) (x : X) (xs : List X) → p x ≡ false → filter p (x ∷ xs) ≡ filter p xs
 skip_first p x xs e = cond_false (p x) (x ∷ filter p xs) (filter p xs) e
+
+pub or_both : (a b c d : Bool) → (a ≡ true → b ≡ true) → (c ≡ true → d ≡ true) → (a || c) ≡ true → (b || d) ≡ true
+or_both true b c d f g e = or_first b d (f refl)
+or_both false b c d f g e = or_second b d (g e)
+
+pub any_one : {X : Type 0} (p q : X → Bool) → ((x : X) → p x ≡ true → q x ≡ true) → (xs : List X) → list_any p xs ≡ true → list_any q xs ≡ true
+any_one p q f [] e = absurd (false≢true e)
+any_one p q f (x ∷ xs) e = or_both (p x) (q x) (list_any p xs) (list_any q xs) (f x) (any_one p q f xs) e
+
+all_kept_by : {X : Type 0} (p keep : X → Bool) (x : X) (xs : List X) (b : Bool) → keep x ≡ b → p x ≡ true → list_all p (filter keep xs) ≡ true → list_all p (filter keep (x ∷ xs)) ≡ true
+all_kept_by p keep x xs true is a ih = ap (λ l. list_all p l) (keep_first keep x xs is) ∙ and_true (p x) (list_all p (filter keep xs)) a ih
+all_kept_by p keep x xs false is a ih = ap (λ l. list_all p l) (skip_first keep x xs is) ∙ ih
+
+pub all_kept : {X : Type 0} (p keep : X → Bool) (xs : List X) → list_all p xs ≡ true → list_all p (filter keep xs) ≡ true
+all_kept p keep [] a = refl
+all_kept p keep (x ∷ xs) a = all_kept_by p keep x xs (keep x) refl (and_left (p x) (list_all p xs) a) (all_kept p keep xs (and_right (p x) (list_all p xs) a))
+
+all_filtered_by : {X : Type 0} (p : X → Bool) (x : X) (xs : List X) (b : Bool) → p x ≡ b → list_all p (filter p xs) ≡ true → list_all p (filter p (x ∷ xs)) ≡ true
+all_filtered_by p x xs true is ih = ap (λ l. list_all p l) (keep_first p x xs is) ∙ and_true (p x) (list_all p (filter p xs)) is ih
+all_filtered_by p x xs false is ih = ap (λ l. list_all p l) (skip_first p x xs is) ∙ ih
+
+pub all_filtered : {X : Type 0} (p : X → Bool) (xs : List X) → list_all p (filter p xs) ≡ true
+all_filtered p [] = refl
+all_filtered p (x ∷ xs) = all_filtered_by p x xs (p x) refl (all_filtered p xs)
+
+filter_over_by : {X Y : Type 0} (f : X → Y) (q : Y → Bool) (x : X) (xs : List X) (b : Bool) → q (f x) ≡ b → filter q (map f xs) ≡ map f (filter (λ y. q (f y)) xs) → filter q (map f (x ∷ xs)) ≡ map f (filter (λ y. q (f y)) (x ∷ xs))
+filter_over_by f q x xs true is ih = keep_first q (f x) (map f xs) is ∙ (ap (λ l. f x ∷ l) ih ∙ sym (ap (map f) (keep_first (λ y. q (f y)) x xs is)))
+filter_over_by f q x xs false is ih = skip_first q (f x) (map f xs) is ∙ (ih ∙ sym (ap (map f) (skip_first (λ y. q (f y)) x xs is)))
+
+-- what passes of the images are the images of what passes
+pub filter_over : {X Y : Type 0} (f : X → Y) (q : Y → Bool) (xs : List X) → filter q (map f xs) ≡ map f (filter (λ y. q (f y)) xs)
+filter_over f q [] = refl
+filter_over f q (x ∷ xs) = filter_over_by f q x xs (q (f x)) refl (filter_over f q xs)
+
+pub any_over : {X Y : Type 0} (f : X → Y) (q : Y → Bool) (xs : List X) → list_any q (map f xs) ≡ list_any (λ y. q (f y)) xs
+any_over f q [] = refl
+any_over f q (x ∷ xs) = ap (λ b. q (f x) || b) (any_over f q xs)
+
+pub keep_all : {X : Type 0} (p : X → Bool) (xs : List X) → list_all p xs ≡ true → filter p xs ≡ xs
+keep_all p [] a = refl
+keep_all p (x ∷ xs) a = keep_first p x xs (and_left (p x) (list_all p xs) a) ∙ ap (λ l. x ∷ l) (keep_all p xs (and_right (p x) (list_all p xs) a))
+
+pub skip_all : {X : Type 0} (p : X → Bool) (xs : List X) → list_all (λ x. not (p x)) xs ≡ true → filter p xs ≡ []
+skip_all p [] a = refl
+skip_all p (x ∷ xs) a = skip_first p x xs (no_test (p x) (and_left (not (p x)) (list_all (λ y. not (p y)) xs) a)) ∙ skip_all p xs (and_right (not (p x)) (list_all (λ y. not (p y)) xs) a)
+  where
+    no_test : (b : Bool) → not b ≡ true → b ≡ false
+    no_test true e = sym e
+    no_test false e = refl

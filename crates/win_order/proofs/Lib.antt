@@ -1,6 +1,12 @@
 pub mod Booleans
+pub mod EntryLaws
+pub mod GoneLaws
+pub mod InsertLaws
+pub mod KeptLaws
+pub mod MarkLaws
 pub mod MendingLaws
 pub mod OrderLaws
 pub mod Places
 pub mod Rewriting
+pub mod StandingLaws
 pub mod Walks

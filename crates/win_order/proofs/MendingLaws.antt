@@ -1,9 +1,9 @@
 -- The laws of mending.
-use Rattle.std.proofs.Common.{◌≡◌, ◌∙◌, ℕ, zero, suc, ◌+◌, ◌*◌, ◌<◌, ◌≤◌, List, [], ◌∷◌, ◌++◌, length, Bool, true, false, not, ◌&&◌, ◌||◌, eqb, ltb, leb, refl, sym, ap, subst, arith, append_assoc, append-nil, length-append}
-use Rattle.std.specs.List.{filter, list_any, list_all}
+use Rattle.std.proofs.Common.{◌≡◌, ◌∙◌, ℕ, zero, suc, ◌+◌, ◌*◌, ◌≤◌, List, [], ◌∷◌, ◌++◌, length, Bool, true, false, not, ◌&&◌, ◌||◌, eqb, ltb, leb, refl, sym, ap, subst, arith, append_assoc, append-nil, length-append}
+use Rattle.std.specs.List.{filter, list_all}
 use Rattle.std.specs.List.Sorted.{IsPermutation}
 use Rattle.std.proofs.lemmas.Bool.{false≢true, eqb-true, eqb-false, eq-eqb, ne_eqb, ltb-true, leb-true, le-leb, not-true}
-use Rattle.std.proofs.lemmas.List.Sorted.{IsPermutation-refl, IsPermutation-trans, IsPermutation-sym, IsPermutation-append_left, IsPermutation-append_right, IsPermutation-append_comm, IsPermutation-cons, IsPermutation-middle, IsPermutation-filter_both, list_any-IsPermutation, length_permutation}
+use Rattle.std.proofs.lemmas.List.Sorted.{IsPermutation-refl, IsPermutation-trans, IsPermutation-append_left, IsPermutation-append_right, IsPermutation-append_comm, IsPermutation-cons, IsPermutation-middle, IsPermutation-filter_both, list_any-IsPermutation}
 use Rattle.std.proofs.lemmas.List.Filters.{length-filter_both}
 use Rattle.std.proofs.lemmas.List.Folds.{list_any-append, list_all-append}
 use Rattle.std.proofs.lemmas.Map.Views.{any-filter_same}
@@ -11,7 +11,7 @@ use Rattle.std.proofs.lemmas.List.Elements.{filter-append}
 use Rattle.win_order.specs.declared.top_level.TopLevel.{TopLevel}
 use Rattle.win_order.specs.Mending.{has, may_follow, owned_by, not_owned_by, rewritten, parted, mended}
 use Rattle.win_order.specs.Mended.{is_above_owners, is_parted, IsMended, ordinary, has_older_owner, AreOwned, goes_along, staying}
-use Rattle.win_order.proofs.Booleans.{and_left, and_right, and_true, or_rest, or_left_false, or_right_false, or_first, or_second, all_always, all_one, all_both, witness, all_permuted, or_other, keep_first, skip_first}
+use Rattle.win_order.proofs.Booleans.{and_left, and_right, and_true, or_rest, or_left_false, or_right_false, or_first, or_second, all_always, all_one, all_both, witness, all_permuted, or_other, keep_first, skip_first, all_kept, all_filtered}
 use Rattle.win_order.proofs.Rewriting.{rewritten_done, rewritten_written, rewritten_held}
 
 -- A window is held back, or written with those that it owns coming next: nothing is lost.
@@ -90,14 +90,14 @@ above_cons_by : (below ts : List TopLevel) (t : TopLevel) (b : Bool) → b ≡ t
 above_cons_by below ts t true e above = above
 above_cons_by below ts t false e above = e
 
-above_cons : (below ts : List TopLevel) (t : TopLevel) → may_follow below t ≡ true → is_above_owners (below ++ t ∷ []) ts ≡ true → is_above_owners below (t ∷ ts) ≡ true
+pub above_cons : (below ts : List TopLevel) (t : TopLevel) → may_follow below t ≡ true → is_above_owners (below ++ t ∷ []) ts ≡ true → is_above_owners below (t ∷ ts) ≡ true
 above_cons below ts t free above = above_cons_by below ts t (may_follow below t) free above
 
 above_parts_by : (below ts : List TopLevel) (t : TopLevel) (b : Bool) → elim b [ true ↦ is_above_owners (below ++ t ∷ []) ts | false ↦ false ] ≡ true → (b ≡ true) × (is_above_owners (below ++ t ∷ []) ts ≡ true)
 above_parts_by below ts t true above = (refl, above)
 above_parts_by below ts t false above = absurd (false≢true above)
 
-above_parts : (below ts : List TopLevel) (t : TopLevel) → is_above_owners below (t ∷ ts) ≡ true → (may_follow below t ≡ true) × (is_above_owners (below ++ t ∷ []) ts ≡ true)
+pub above_parts : (below ts : List TopLevel) (t : TopLevel) → is_above_owners below (t ∷ ts) ≡ true → (may_follow below t ≡ true) × (is_above_owners (below ++ t ∷ []) ts ≡ true)
 above_parts below ts t above = above_parts_by below ts t (may_follow below t) above
 
 kept_owner_by : (gone : ℕ → Bool) (below : List TopLevel) (t : TopLevel) (b : Bool) → gone t.window.0 ≡ false → goes_along gone t ≡ true → (b || has t.owner.0 below) ≡ true → (b || has t.owner.0 (staying gone below)) ≡ true
@@ -125,15 +125,7 @@ stays_above gone below (t ∷ ts) along above =
     let parts = above_parts below ts t above in
     stays_above_by gone below t ts (gone t.window.0) refl (and_left (goes_along gone t) (list_all (goes_along gone) ts) along) parts.0 (stays_above gone (below ++ t ∷ []) ts (and_right (goes_along gone t) (list_all (goes_along gone) ts) along) parts.1)
 
-all_kept : (p keep : TopLevel → Bool) (ts : List TopLevel) → list_all p ts ≡ true → list_all p (filter keep ts) ≡ true
-all_kept p keep [] a = refl
-all_kept p keep (t ∷ ts) a = all_kept_by p keep t ts (keep t) refl (and_left (p t) (list_all p ts) a) (all_kept p keep ts (and_right (p t) (list_all p ts) a))
-  where
-    all_kept_by : (p keep : TopLevel → Bool) (t : TopLevel) (ts : List TopLevel) (b : Bool) → keep t ≡ b → p t ≡ true → list_all p (filter keep ts) ≡ true → list_all p (filter keep (t ∷ ts)) ≡ true
-    all_kept_by p keep t ts true is a ih = ap (λ l. list_all p l) (keep_first keep t ts is) ∙ and_true (p t) (list_all p (filter keep ts)) a ih
-    all_kept_by p keep t ts false is a ih = ap (λ l. list_all p l) (skip_first keep t ts is) ∙ ih
-
-parted_cons : (t : TopLevel) (ts : List TopLevel) (b : Bool) → t.topmost ≡ b → (b ≡ true → list_all (λ v. v.topmost) ts ≡ true) → (b ≡ false → is_parted ts ≡ true) → elim b [ true ↦ list_all (λ v. v.topmost) ts | false ↦ is_parted ts ] ≡ true
+pub parted_cons : (t : TopLevel) (ts : List TopLevel) (b : Bool) → t.topmost ≡ b → (b ≡ true → list_all (λ v. v.topmost) ts ≡ true) → (b ≡ false → is_parted ts ≡ true) → elim b [ true ↦ list_all (λ v. v.topmost) ts | false ↦ is_parted ts ] ≡ true
 parted_cons t ts true is high low = high refl
 parted_cons t ts false is high low = low refl
 
@@ -145,7 +137,7 @@ stays_parted_by : (keep : TopLevel → Bool) (t : TopLevel) (ts : List TopLevel)
 stays_parted_by keep t ts true is high ih = ap is_parted (keep_first keep t ts is) ∙ parted_cons t (filter keep ts) t.topmost refl high (λ _. ih)
 stays_parted_by keep t ts false is high ih = ap is_parted (skip_first keep t ts is) ∙ ih
 
-parted_tail : (ts : List TopLevel) (b : Bool) → elim b [ true ↦ list_all (λ v. v.topmost) ts | false ↦ is_parted ts ] ≡ true → (b ≡ true → list_all (λ v. v.topmost) ts ≡ true) × (is_parted ts ≡ true)
+pub parted_tail : (ts : List TopLevel) (b : Bool) → elim b [ true ↦ list_all (λ v. v.topmost) ts | false ↦ is_parted ts ] ≡ true → (b ≡ true → list_all (λ v. v.topmost) ts ≡ true) × (is_parted ts ≡ true)
 parted_tail ts true a = (λ _. a, all_topmost_parted ts a)
 parted_tail ts false a = (λ e. absurd (false≢true e), a)
 
@@ -161,15 +153,7 @@ staying_mended gone ts along m = record { parted = stays_parted (λ t. not (gone
 
 -- Owned windows above their owners: the front of what is next is written or held, and what is held waits for an owner.
 
-all_filtered : (p : TopLevel → Bool) (ts : List TopLevel) → list_all p (filter p ts) ≡ true
-all_filtered p [] = refl
-all_filtered p (t ∷ ts) = all_filtered_by p t ts (p t) refl (all_filtered p ts)
-  where
-    all_filtered_by : (p : TopLevel → Bool) (t : TopLevel) (ts : List TopLevel) (b : Bool) → p t ≡ b → list_all p (filter p ts) ≡ true → list_all p (filter p (t ∷ ts)) ≡ true
-    all_filtered_by p t ts true is ih = ap (λ l. list_all p l) (keep_first p t ts is) ∙ and_true (p t) (list_all p (filter p ts)) is ih
-    all_filtered_by p t ts false is ih = ap (λ l. list_all p l) (skip_first p t ts is) ∙ ih
-
-has_end : (o : ℕ) (written : List TopLevel) (t : TopLevel) → has o (written ++ t ∷ []) ≡ (has o written || (eqb t.window.0 o || false))
+pub has_end : (o : ℕ) (written : List TopLevel) (t : TopLevel) → has o (written ++ t ∷ []) ≡ (has o written || (eqb t.window.0 o || false))
 has_end o written t = list_any-append (λ u. eqb u.window.0 o) written (t ∷ [])
 
 follows_more : (written : List TopLevel) (t u : TopLevel) → may_follow written u ≡ true → may_follow (written ++ t ∷ []) u ≡ true
@@ -192,7 +176,7 @@ still_waits written t u other waits =
     let end : has u.owner.0 (written ++ t ∷ []) ≡ false = has_end u.owner.0 written t ∙ (ap (λ b. b || (eqb t.window.0 u.owner.0 || false)) missing ∙ ap (λ b. b || false) apart) in
     ap not (ap (λ b. b || has u.owner.0 (written ++ t ∷ [])) some ∙ end)
 
-above_end : (below written : List TopLevel) (t : TopLevel) → is_above_owners below written ≡ true → may_follow (below ++ written) t ≡ true → is_above_owners below (written ++ t ∷ []) ≡ true
+pub above_end : (below written : List TopLevel) (t : TopLevel) → is_above_owners below written ≡ true → may_follow (below ++ written) t ≡ true → is_above_owners below (written ++ t ∷ []) ≡ true
 above_end below [] t above free = above_cons below [] t (subst (λ l. may_follow l t ≡ true) (append-nil below) free) refl
 above_end below (x ∷ written) t above free =
     let parts = above_parts below written x above in

@@ -1,11 +1,11 @@
 -- The laws of mending at the list of windows that an order keeps.
-use Rattle.std.proofs.Common.{◌≡◌, ◌∙◌, ℕ, zero, suc, ◌<◌, List, [], ◌∷◌, length, get_or, map, refl, sym, ap, subst, arith}
+use Rattle.std.proofs.Common.{◌≡◌, ◌∙◌, ℕ, List, [], ◌∷◌, map, refl, sym, ap, subst, arith}
 use Rattle.std.specs.List.{All}
 use Rattle.std.specs.List.Sorted.{IsPermutation}
 use Rattle.std.proofs.lemmas.List.Elements.{All-cons, All-tail}
 use Rattle.std.proofs.lemmas.List.Sorted.{All-permutation, IsPermutation-map}
 use Rattle.win_num.specs.declared.message.Hwnd.{Hwnd}
-use Rattle.win_order.specs.declared.standings.Standing.{Standing}
+use Rattle.win_order.specs.Standing.{Standing}
 use Rattle.win_order.specs.declared.top_level.TopLevel.{TopLevel}
 use Rattle.win_order.specs.Layers.{settled}
 use Rattle.win_order.specs.Mended.{IsMended, AreOwned}
@@ -24,7 +24,7 @@ known_again : (ss : List Standing) (ts : List TopLevel) → All (IsKnown ss) ts 
 known_again ss [] a = refl
 known_again ss (t ∷ ts) a = ap (λ u. u ∷ map (top_level ss) (map (λ v. v.window) ts)) (a 0 t (omega arith)) ∙ ap (λ us. t ∷ us) (known_again ss ts (All-tail (IsKnown ss) t ts a))
 
-windows_again : (ss : List Standing) (ws : List Hwnd) → map (λ t. t.window) (map (top_level ss) ws) ≡ ws
+pub windows_again : (ss : List Standing) (ws : List Hwnd) → map (λ t. t.window) (map (top_level ss) ws) ≡ ws
 windows_again ss [] = refl
 windows_again ss (w ∷ ws) = ap (λ vs. w ∷ vs) (windows_again ss ws)
 

@@ -4,7 +4,7 @@ use Rattle.std.specs.List.{filter, list_any, list_all}
 use Rattle.win_num.specs.declared.message.Hwnd.{Hwnd}
 use Rattle.win_order.specs.declared.after.After.{After}
 use Rattle.win_order.specs.declared.after.After.TheVariants.{Below, Top}
-use Rattle.win_order.specs.declared.standings.Standing.{Standing}
+use Rattle.win_order.specs.Standing.{Standing}
 use Rattle.win_order.specs.Families.{put, windows_of, with_windows, without_window}
 use Rattle.win_order.specs.Mending.{mended}
 use Rattle.win_order.specs.Siblings.{Siblings}
@@ -70,3 +70,24 @@ placed w after z = let ss = pinned after w.0 z.standings in record { standings =
 -- a window is taken out
 abbrev pub removed : ℕ → Layers → Layers
 removed w z = record { standings = filter (λ s. not (s.window.0 == w)) z.standings; families = map (without_window w) (filter (λ f. not (f.parent.0 == w)) z.families) }
+
+-- whether a window of this number is among those that go
+abbrev pub is_gone : List Hwnd → ℕ → Bool
+is_gone gone w = list_any (λ v. v.0 == w) gone
+
+-- whether a window goes, where its parent or its owner does
+abbrev pub goes_along_with : List Hwnd → Standing → Bool
+goes_along_with gone s = is_gone gone s.window.0 || (not (is_gone gone s.parent.0) && not (is_gone gone s.owner.0))
+
+-- whether these may go at once: all stand, and who has one of them as its parent or owner is one of them
+pub record MayGo (gone : List Hwnd) (z : Layers) : Type 0 where
+  pub stand : IsTrue (list_all (λ v. stands v.0 z) gone)
+  pub along : IsTrue (list_all (goes_along_with gone) z.standings)
+
+-- a list of siblings without those that go
+abbrev pub without_those : List Hwnd → Siblings → Siblings
+without_those gone f = record { parent = f.parent; windows = filter (λ v. not (is_gone gone v.0)) f.windows }
+
+-- these windows are taken out
+abbrev pub removed_those : List Hwnd → Layers → Layers
+removed_those gone z = record { standings = filter (λ s. not (is_gone gone s.window.0)) z.standings; families = map (without_those gone) (filter (λ f. not (is_gone gone f.parent.0)) z.families) }

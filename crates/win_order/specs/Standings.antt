@@ -3,7 +3,7 @@ use Rattle.std.specs.Prelude.{if◌then◌else◌, ℕ, ◌==◌, Bool, true, fa
 use Rattle.win_num.specs.declared.message.Hwnd.{Hwnd}
 use Rattle.win_order.specs.declared.after.After.{After}
 use Rattle.win_order.specs.declared.after.After.TheVariants.{Bottom, Below, Top, Topmost, NoTopmost}
-use Rattle.win_order.specs.declared.standings.Standing.{Standing}
+use Rattle.win_order.specs.Standing.{Standing}
 use Rattle.win_order.specs.declared.top_level.TopLevel.{TopLevel}
 
 -- no window

@@ -1,8 +1,10 @@
 //! The lists of siblings.
 
 ghost use Rattle.std.specs.Prelude.{◌≡◌, ◌≤◌, ◌∷◌, ◌++◌, [], map, length, not, position, ◌==◌, IfOk, OnOk, OnErr};
-ghost use Rattle.std.specs.List.{filter};
+ghost use Rattle.std.specs.List.{filter, insert};
+ghost use Rattle.std.specs.List.Sorted.{IsNonDecreasingBy};
 ghost use Rattle.win_order.specs.Families.{place_in, put, windows_of, with_windows, without, without_window};
+ghost use Rattle.win_order.specs.Layers.{is_gone, without_those};
 
 use crate::after::After;
 use std::alloc::{AllocError, Global};
@@ -44,6 +46,14 @@ impl Family {
         ensures { self.new ≡ without_window window.0 self.old }
     {
         self.windows.retain(|w| *w != window);
+    }
+
+    /// Takes windows out.
+    fn take_all_out(&mut self, gone: &[Hwnd])
+        requires { IsNonDecreasingBy (λ v. v.0) gone.now }
+        ensures { self.new ≡ without_those gone.now self.old }
+    {
+        self.windows.retain(|w| !is_gone(gone, w.0));
     }
 
     /// The same children of the same parent.
@@ -109,6 +119,32 @@ fn leave_out(families: &mut [Family], window: Hwnd)
     }
 }
 
+/// Takes windows and the lists of their children out of all lists.
+pub fn take_all_out(families: &mut Vec<Family>, gone: &[Hwnd])
+    requires { IsNonDecreasingBy (λ v. v.0) gone.now }
+    ensures { families.new.items ≡ map (without_those gone.now) (filter (λ f. not (is_gone gone.now f.parent.0)) families.old.items) }
+{
+    families.retain(|f| !is_gone(gone, f.parent().0));
+    leave_all_out(families, gone);
+}
+
+/// Takes windows out of each list.
+fn leave_all_out(families: &mut [Family], gone: &[Hwnd])
+    requires { IsNonDecreasingBy (λ v. v.0) gone.now }
+    ensures { families.new ≡ map (without_those gone.now) families.old }
+{
+    for family in families.iter_mut() {
+        family.take_all_out(gone);
+    }
+}
+
+/// Whether a window of this number is among those that go, whose numbers rise.
+pub fn is_gone(gone: &[Hwnd], window: u32) -> bool
+    ensures { IsNonDecreasingBy (λ v. v.0) gone.now → (result ≡ is_gone gone.now window) }
+{
+    gone.binary_search_by_key(&window, |v| v.0).is_ok()
+}
+
 /// The same families.
 pub fn copy(alloc: Global, families: &[Family]) -> Result<Vec<Family>, AllocError>
     ensures { IfOk result (λ v. v.items ≡ families.now) }
@@ -118,6 +154,21 @@ pub fn copy(alloc: Global, families: &[Family]) -> Result<Vec<Family>, AllocErro
         all.push(family.copy(alloc)?)?;
     }
     Ok(all)
+}
+
+/// The siblings with a new window at this place.
+pub fn with_new(
+    alloc: Global,
+    siblings: &[Hwnd],
+    at: usize,
+    window: Hwnd,
+) -> Result<Vec<Hwnd>, AllocError>
+    requires { at ≤ length siblings.now }
+    ensures { IfOk result (λ v. v.items ≡ insert siblings.now at window) }
+{
+    let mut list = Vec::from_slice(alloc, siblings)?;
+    list.insert(at, window)?;
+    Ok(list)
 }
 
 /// The siblings with the window taken out and put where it belongs.

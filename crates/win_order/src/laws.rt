@@ -4,13 +4,15 @@
 //! `Order` keeps it. An age is any number for each window that is smaller for an owner than for what it
 //! owns, as the window's own number is.
 
-ghost use Rattle.std.specs.Prelude.{◌≡◌, ℕ, Bool, true, List, map};
+ghost use Rattle.std.specs.Prelude.{◌≡◌, ℕ, Bool, true, IsTrue, List, map};
 ghost use Rattle.std.specs.List.{list_all};
 ghost use Rattle.std.specs.List.Sorted.{IsPermutation};
 ghost use Rattle.win_order.specs.declared.top_level.TopLevel.{TopLevel};
 ghost use Rattle.win_num.specs.declared.message.Hwnd.{Hwnd};
-ghost use Rattle.win_order.specs.declared.standings.Standing.{Standing};
-ghost use Rattle.win_order.specs.Layers.{settled};
+ghost use Rattle.win_order.specs.Standing.{Standing};
+ghost use Rattle.win_order.specs.declared.after.After.{After};
+ghost use Rattle.win_order.specs.Kept.{IsKept, age_in, top_levels};
+ghost use Rattle.win_order.specs.Layers.{Layers, IsNew, IsPlace, MayGo, empty, has_none, inserted, placed, removed, removed_those, settled, stands};
 ghost use Rattle.win_order.specs.Standings.{top_level};
 ghost use Rattle.win_order.specs.Mending.{mended};
 ghost use Rattle.win_order.specs.Mended.{IsMended, AreOwned, goes_along, staying};
@@ -50,4 +52,33 @@ pub fn removal_keeps_a_mended_list()
 pub fn the_top_level_windows_are_mended()
     ensures moved { (ss : List Standing) (ws : List Hwnd) → IsPermutation ws (settled ss 0 ws) }
     ensures mended { (age : ℕ → ℕ) (ss : List Standing) (ws : List Hwnd) → AreOwned age (map (top_level ss) ws) → IsMended (map (top_level ss) (settled ss 0 ws)) }
+{}
+
+/// An order in which no window stands keeps what every order keeps: owners and parents are older windows
+/// that stand, owners and what they own are top-level windows, each window is once in the list of its
+/// parent and in no other, and the top-level windows are mended.
+pub fn an_empty_order_is_kept()
+    ensures { IsKept empty }
+{}
+
+/// A new window leaves what every order keeps.
+pub fn insertion_keeps_the_order()
+    ensures { (w p owner : Hwnd) (topmost : Bool) (z : Layers) → IsKept z → IsNew w.0 p.0 owner.0 z → IsKept (inserted w p owner topmost z) }
+{}
+
+/// A window that is put elsewhere leaves what every order keeps.
+pub fn placing_keeps_the_order()
+    ensures { (w : Hwnd) (after : After) (z : Layers) → IsKept z → IsPlace w.0 after z → IsKept (placed w after z) }
+{}
+
+/// Windows that are taken out, one or several at once, leave what every order keeps.
+pub fn removal_keeps_the_order()
+    ensures one { (w : ℕ) (z : Layers) → IsKept z → IsTrue (stands w z) → IsTrue (has_none w z) → IsKept (removed w z) }
+    ensures several { (gone : List Hwnd) (z : Layers) → IsKept z → MayGo gone z → IsKept (removed_those gone z) }
+{}
+
+/// What every order keeps has the premises of `mending_mends`, by the place of each window among all,
+/// counted from the oldest, as its age.
+pub fn kept_orders_meet_the_premises()
+    ensures { (z : Layers) → IsKept z → AreOwned (age_in z.standings) (top_levels z) }
 {}

@@ -1,14 +1,17 @@
 //! The order of all windows.
 
-ghost use Rattle.std.specs.Prelude.{◌≡◌, map, IsTrue, IfOk, OnOk, OnErr};
+ghost use Rattle.std.specs.Prelude.{◌≡◌, ◌≤◌, true, false, not, map, length, IsTrue, IfOk, OnOk, OnErr};
+ghost use Rattle.std.specs.List.Sorted.{IsNonDecreasingBy, IsPartitionPoint};
+ghost use Rattle.win_order.specs.Entries.{goes_low};
+ghost use Rattle.win_order.specs.Mended.{is_parted};
 ghost use Rattle.win_order.specs.Families.{windows_of};
-ghost use Rattle.win_order.specs.Standings.{top_level};
-ghost use Rattle.win_order.specs.Layers.{empty, inserted, placed, removed, siblings_of, IsNew, IsPlace, stands, has_none, settled, relisted};
+ghost use Rattle.win_order.specs.Standings.{is_topmost, top_level};
+ghost use Rattle.win_order.specs.Layers.{empty, inserted, placed, removed, siblings_of, IsNew, IsPlace, MayGo, removed_those, stands, has_none, settled, relisted};
 
 use crate::after::After;
 use crate::families::{self, Family};
 use crate::mending::mended;
-use crate::standings::{self, Standing};
+use crate::standings::{Known, Standings};
 use crate::top_level::TopLevel;
 use std::alloc::{AllocError, Global};
 use std::marker::Model;
@@ -18,16 +21,19 @@ use win_num::Hwnd;
 /// window, the newest first, and for each parent the list of its children from the bottom to the top.
 #[derive(Drop)]
 pub struct Order {
-    standings: Vec<Standing>,
+    standings: Standings,
     families: Vec<Family>,
 }
 
 impl Model for Order {
+    ghost use Rattle.win_order.specs.Kept.{IsKept};
     ghost use Rattle.win_order.specs.Layers.{Layers};
 
     ghost Value = { Layers };
 
-    ghost view = { λ o. record { standings = o.standings.items; families = o.families.items } };
+    ghost view = { λ o. record { standings = o.standings; families = o.families.items } };
+
+    ghost invariant = { λ o. IsKept (record { standings = o.standings; families = o.families.items }) };
 }
 
 impl Order {
@@ -36,7 +42,7 @@ impl Order {
         ensures { result ≡ empty }
     {
         Order {
-            standings: Vec::new(alloc),
+            standings: Standings::new(alloc),
             families: Vec::new(alloc),
         }
     }
@@ -57,23 +63,20 @@ impl Order {
         ensures ok { OnOk result (self.new ≡ inserted w parent owner topmost self.old) }
         ensures err { OnErr result (self.new ≡ self.old) }
     {
-        let newest = Standing {
-            window: w,
+        let new = Known {
             parent,
             owner,
             topmost,
         };
-        let standings = standings::with_newest(alloc, newest, &self.standings)?;
-        relist(
-            alloc,
-            &mut self.families,
-            &standings,
-            newest.parent,
-            w,
-            After::Top,
-        )?;
-        self.standings = standings;
-        Ok(())
+        let siblings = families::windows_of(&self.families, parent);
+        let at = new_place(&self.standings, siblings, new);
+        let windows = families::with_new(alloc, siblings, at, w)?;
+        self.standings.insert(w, new)?;
+        let listed = families::set_windows(&mut self.families, parent, windows);
+        if listed.is_err() {
+            self.standings.forget_newest();
+        }
+        listed
     }
 
     /// A window that stands is taken out of its siblings and put where `after` says, which names a
@@ -84,8 +87,8 @@ impl Order {
         ensures ok { OnOk result (self.new ≡ placed w after self.old) }
         ensures err { OnErr result (self.new ≡ self.old) }
     {
-        let standings = standings::pinned(alloc, &self.standings, w, after)?;
-        let parent = standings::parent_of(&self.standings, w);
+        let standings = self.standings.pinned(w, after)?;
+        let parent = self.standings.parent_of(w);
         relist(alloc, &mut self.families, &standings, parent, w, after)?;
         self.standings = standings;
         Ok(())
@@ -96,7 +99,7 @@ impl Order {
         ensures { IfOk result (λ o. o ≡ self.now) }
     {
         Ok(Order {
-            standings: Vec::from_slice(alloc, &self.standings)?,
+            standings: self.standings.copy()?,
             families: families::copy(alloc, &self.families)?,
         })
     }
@@ -108,8 +111,19 @@ impl Order {
         requires last { IsTrue (has_none w.0 self.old) }
         ensures { self.new ≡ removed w.0 self.old }
     {
-        self.standings.retain(|s| s.window != w);
+        self.standings.remove(w);
         families::take_out(&mut self.families, w);
+    }
+
+    /// Windows that stand are taken out at once, with rising numbers, where each window that has one of
+    /// them as its parent or owner is one of them too. The others keep their order. Takes no memory.
+    pub fn remove_all(&mut self, gone: &[Hwnd])
+        requires rising { IsNonDecreasingBy (λ v. v.0) gone.now }
+        requires go { MayGo gone.now self.old }
+        ensures { self.new ≡ removed_those gone.now self.old }
+    {
+        self.standings.remove_all(gone);
+        families::take_all_out(&mut self.families, gone);
     }
 
     /// The children of the parent, or for 0 the top-level windows, from the bottom to the top.
@@ -120,11 +134,25 @@ impl Order {
     }
 }
 
+/// How many of the siblings stand below a new window: all, or for a top-level window that isn't topmost
+/// those that aren't topmost.
+fn new_place(standings: &Standings, siblings: &[Hwnd], new: Known) -> usize
+    requires { (new.parent.0 ≡ 0) → (is_parted (map (top_level standings.now) siblings.now) ≡ true) }
+    ensures within { result ≤ length siblings.now }
+    ensures high { (goes_low standings.now new ≡ false) → (result ≡ length siblings.now) }
+    ensures low { (goes_low standings.now new ≡ true) → IsPartitionPoint (λ w. not (is_topmost standings.now w.0) ≡ true) (λ w. not (is_topmost standings.now w.0) ≡ false) siblings.now result }
+{
+    if new.parent != Hwnd(0) || new.topmost || standings.is_topmost(new.owner) {
+        return siblings.len();
+    }
+    siblings.partition_point(|w| !standings.is_topmost(*w))
+}
+
 /// Puts a window of this parent where it belongs among its siblings.
 fn relist(
     alloc: Global,
     families: &mut Vec<Family>,
-    standings: &[Standing],
+    standings: &Standings,
     parent: Hwnd,
     window: Hwnd,
     after: After,
@@ -140,7 +168,7 @@ fn relist(
 /// The siblings, mended where they are the top-level windows.
 fn settled(
     alloc: Global,
-    standings: &[Standing],
+    standings: &Standings,
     parent: Hwnd,
     windows: Vec<Hwnd>,
 ) -> Result<Vec<Hwnd>, AllocError>
@@ -156,14 +184,14 @@ fn settled(
 /// The windows as mending sees them.
 fn top_levels(
     alloc: Global,
-    standings: &[Standing],
+    standings: &Standings,
     windows: &[Hwnd],
 ) -> Result<Vec<TopLevel>, AllocError>
     ensures { IfOk result (λ v. v.items ≡ map (top_level standings.now) windows.now) }
 {
     windows
         .iter()
-        .map(|w| standings::top_level(standings, *w))
+        .map(|w| standings.top_level(*w))
         .collect(alloc)
 }
 
