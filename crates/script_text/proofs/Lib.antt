@@ -5,3 +5,4 @@ pub mod Counting
 pub mod PartsAgain
 pub mod TreeNesting
 pub mod TreeNames
+pub mod NestedTrees

@@ -15,10 +15,10 @@ use Rattle.script_text.specs.TreeLimits.{depth, row_depth, is_of_procedure, is_r
 use Rattle.script_text.proofs.BuildLemmas.{stays_none}
 
 -- what stands open
-abbrev nest : List Kind → ℕ → ℕ → Nest
+abbrev pub nest : List Kind → ℕ → ℕ → Nest
 nest ks i j = record { kinds = ks; procedures = i; threads = j }
 
-in_two : (o : Option Nest) (xs ys : List Line) → nested_all o (xs ++ ys) ≡ nested_all (nested_all o xs) ys
+pub in_two : (o : Option Nest) (xs ys : List Line) → nested_all o (xs ++ ys) ≡ nested_all (nested_all o xs) ys
 in_two o [] ys = refl
 in_two o (x ∷ xs) ys = in_two (nested_on o x) xs ys
 
