@@ -1,4 +1,10 @@
 pub mod Geometry
-pub mod Gains
-pub mod Sweep
+pub mod Lists
+pub mod Pixels
 pub mod Sets
+pub mod Spans
+pub mod RowSweep
+pub mod Rows
+pub mod Unique
+pub mod BandSweep
+pub mod Shapes

@@ -1,2 +1,4 @@
+pub mod Bands
+pub mod Columns
 pub mod Pieces
 pub mod Regions

@@ -1,6 +1,6 @@
 -- Sets of pixels as lists of rectangles.
-use Rattle.std.specs.Prelude.{if◌then◌else◌, ℕ, ◌≡◌, ◌≤◌, Bool, true, false, not, ℤ, pos, negsuc, ◌-ℤ◌, ◌<ℤ◌, List, count_by, All}
-use Rattle.std.specs.List.{list_any}
+use Rattle.std.specs.Prelude.{if◌then◌else◌, ℕ, ◌≡◌, ◌≤◌, ◌⊎◌, Bool, true, false, not, ℤ, pos, negsuc, ◌-ℤ◌, ◌≤ℤ◌, ◌<ℤ◌, List, count_by, All}
+use Rattle.std.specs.List.{AllPairs, list_any}
 use Rattle.win_num.specs.declared.shapes.Point.{Point}
 use Rattle.win_num.specs.declared.shapes.Rect.{Rect}
 use Rattle.win_num.specs.PixelSets.{Box, box, has_pixel}
@@ -66,7 +66,17 @@ IsSameSet rs ss = (p : Point) → region_has rs p ≡ region_has ss p
 abbrev pub is_in_one : Bool → Bool → Bool
 is_in_one a b = if a then not b else b
 
--- what is kept of a region: its rectangles have pixels and share none
-pub record IsRegion (rs : List Rect) : Type 0 where
-  pub disjoint : IsDisjoint rs
+-- a rectangle lies above another one, or left of it in the same rows and not touching it
+abbrev pub IsBefore : Rect → Rect → Type 0
+IsBefore r s = (r.b ≤ℤ s.t) ⊎ ((r.t ≡ s.t) × (r.b ≡ s.b) × (r.r <ℤ s.l))
+
+-- two rows have the same pixels
+abbrev pub SameRows : (Point → Bool) → ℤ → ℤ → Type 0
+SameRows has y z = (x : ℤ) → has (record { x = x; y = y }) ≡ has (record { x = x; y = z })
+
+-- the list is in bands: each rectangle has a pixel, comes before those after it in the list, and the row
+-- below it differs from its last row
+pub record IsBanded (rs : List Rect) : Type 0 where
   pub filled : All IsFilled rs
+  pub apart : AllPairs IsBefore rs
+  pub merged : All (λ r. ¬ (SameRows (region_has rs) (r.b -ℤ pos 1) r.b)) rs

@@ -1,9 +1,12 @@
-//! Sets of pixels of the plane, as lists of rectangles (Microsoft, Regions).
+//! Sets of pixels of the plane, as lists of rectangles in bands (Microsoft, Regions).
 #![tactic(auto)]
 
+mod bands;
+mod columns;
 mod covering;
-mod lists;
+mod law;
 mod pieces;
 mod region;
 
+pub use law::one_list_in_bands;
 pub use region::Region;

@@ -4,11 +4,13 @@ ghost use Rattle.std.specs.Prelude.{◌≡◌, ◌↔◌, ◌≤◌, [], false, 
 ghost use Rattle.win_num.specs.declared.shapes.Point.{Point as Pixel};
 ghost use Rattle.win_num.specs.PixelSets.{box, has_pixel};
 ghost use Rattle.win_num.specs.Rects.{box_in};
-ghost use Rattle.band_region.specs.Regions.{region_has, is_in_one, moved_back, StaysInPlane, IsDisjoint, IsFilled, IsEmpty, IsOneRectangle, IsLeastAround, IsSameSet};
+ghost use Rattle.band_region.specs.Columns.{kept};
+ghost use Rattle.band_region.specs.Regions.{region_has, is_in_one, moved_back, StaysInPlane, IsDisjoint, IsFilled, IsBanded, IsEmpty, IsOneRectangle, IsLeastAround, IsSameSet};
 
-use crate::covering::{covers, covers_all, least_around, rect_at};
-use crate::lists::{moved_all, rest_of, shared};
-use crate::pieces::{known_rect, push_filled};
+use crate::bands::mixed;
+use crate::columns::Mix;
+use crate::covering::{least_around, rect_at};
+use crate::pieces::{known_rect, moved_all};
 use std::alloc::{AllocError, Global};
 use std::marker::Model;
 use win_num::{Point, Rect};
@@ -22,13 +24,13 @@ pub struct Region {
 impl Model for Region {
     ghost use Rattle.std.specs.Prelude.{List};
     ghost use Rattle.win_num.specs.declared.shapes.Rect.{Rect};
-    ghost use Rattle.band_region.specs.Regions.{IsRegion};
+    ghost use Rattle.band_region.specs.Regions.{IsBanded};
 
     ghost Value = { List Rect };
 
     ghost view = { λ a. a.rects.items };
 
-    ghost invariant = { λ a. IsRegion a.rects.items };
+    ghost invariant = { λ a. IsBanded a.rects.items };
 }
 
 impl Region {
@@ -46,7 +48,9 @@ impl Region {
         ensures { IfOk result (λ x. (p : Pixel) → region_has x p ≡ has_pixel (box_in r) p) }
     {
         let mut rects = Vec::new(alloc);
-        push_filled(&mut rects, r.l(), r.t(), r.r(), r.b())?;
+        if r.l() < r.r() && r.t() < r.b() {
+            rects.push(r)?;
+        }
         Ok(Region { rects })
     }
 
@@ -54,17 +58,14 @@ impl Region {
     pub fn and(&self, alloc: Global, o: &Region) -> Result<Region, AllocError>
         ensures { IfOk result (λ x. (p : Pixel) → region_has x p ≡ (region_has self.now p && region_has o.now p)) }
     {
-        let rects = shared(alloc, self.rects.as_slice(), o.rects.as_slice())?;
-        Ok(Region { rects })
+        self.mixed(alloc, o, Mix::And)
     }
 
     /// The pixels that one of the regions has, or both (Microsoft, CombineRgn function, RGN_OR).
     pub fn or(&self, alloc: Global, o: &Region) -> Result<Region, AllocError>
         ensures { IfOk result (λ x. (p : Pixel) → region_has x p ≡ (region_has self.now p || region_has o.now p)) }
     {
-        let mut rects = rest_of(alloc, o.rects.as_slice(), self.rects.as_slice())?;
-        rects.extend_from_slice(self.rects.as_slice())?;
-        Ok(Region { rects })
+        self.mixed(alloc, o, Mix::Or)
     }
 
     /// The pixels that one of the regions has and the other hasn't (Microsoft, CombineRgn function,
@@ -72,10 +73,7 @@ impl Region {
     pub fn xor(&self, alloc: Global, o: &Region) -> Result<Region, AllocError>
         ensures { IfOk result (λ x. (p : Pixel) → region_has x p ≡ is_in_one (region_has self.now p) (region_has o.now p)) }
     {
-        let mut rects = rest_of(alloc, self.rects.as_slice(), o.rects.as_slice())?;
-        let others = rest_of(alloc, o.rects.as_slice(), self.rects.as_slice())?;
-        rects.extend_from_slice(others.as_slice())?;
-        Ok(Region { rects })
+        self.mixed(alloc, o, Mix::Xor)
     }
 
     /// The pixels that the region has and the other one hasn't (Microsoft, CombineRgn function,
@@ -83,7 +81,14 @@ impl Region {
     pub fn diff(&self, alloc: Global, o: &Region) -> Result<Region, AllocError>
         ensures { IfOk result (λ x. (p : Pixel) → region_has x p ≡ (region_has self.now p && not (region_has o.now p))) }
     {
-        let rects = rest_of(alloc, self.rects.as_slice(), o.rects.as_slice())?;
+        self.mixed(alloc, o, Mix::Diff)
+    }
+
+    /// The pixels that are kept of both regions.
+    fn mixed(&self, alloc: Global, o: &Region, mix: Mix) -> Result<Region, AllocError>
+        ensures { IfOk result (λ x. (p : Pixel) → region_has x p ≡ kept mix (region_has self.now p) (region_has o.now p)) }
+    {
+        let rects = mixed(alloc, self.rects.as_slice(), o.rects.as_slice(), mix)?;
         Ok(Region { rects })
     }
 
@@ -119,13 +124,10 @@ impl Region {
         ensures least { 1 ≤ result }
         ensures most { result ≤ 3 }
     {
-        let Some((first, others)) = self.rects.as_slice().split_first() else {
-            return 1;
-        };
-        if covers(self.rects.as_slice(), least_around(*first, others)) {
-            2
-        } else {
-            3
+        match self.rects.len() {
+            0 => 1,
+            1 => 2,
+            _ => 3,
         }
     }
 
@@ -141,9 +143,12 @@ impl Region {
         }
     }
 
-    /// The region's rectangles. Each has a pixel, and no two share one.
+    /// The region's rectangles, in bands from top to bottom, each from left to right. This is the one
+    /// list in bands of its pixels: rows that are the same and touch are one band, and rectangles of a
+    /// band don't touch.
     pub fn rects(&self) -> &[Rect]
         ensures value { result.now ≡ self.now }
+        ensures bands { IsBanded result.now }
         ensures disjoint { IsDisjoint result.now }
         ensures filled { All IsFilled result.now }
     {
@@ -154,8 +159,7 @@ impl Region {
     pub fn same(&self, o: &Region) -> bool
         ensures { IsTrue result ↔ IsSameSet self.now o.now }
     {
-        let within = covers_all(o.rects.as_slice(), self.rects.as_slice());
-        within && covers_all(self.rects.as_slice(), o.rects.as_slice())
+        self.rects == o.rects
     }
 }
 

@@ -2,7 +2,7 @@
 //! its children.
 #![tactic(auto)]
 
-ghost use Rattle.std.specs.Prelude.{◌≡◌, ◌&&◌, not, IfOk};
+ghost use Rattle.std.specs.Prelude.{◌≡◌, ◌&&◌, IfOk};
 ghost use Rattle.win_num.specs.declared.shapes.Point.{Point};
 ghost use Rattle.band_region.specs.Regions.{region_has};
 ghost use Rattle.clip_region.specs.Clipping.{is_owned};
@@ -14,16 +14,21 @@ use win_num::Rect;
 #[cfg(test)]
 mod tests;
 
-/// The pixels of the region that none of the rectangles has.
-fn without(alloc: Global, whole: Region, covers: &[Rect]) -> Result<Region, AllocError>
-    ensures { IfOk result (λ x. (p : Point) → region_has x p ≡ (region_has whole p && not (region_has covers.now p))) }
+/// The pixels of the region that a rectangle has too: those of each half of the list, united.
+fn covered(alloc: Global, whole: &Region, covers: &[Rect]) -> Result<Region, AllocError>
+    ensures { IfOk result (λ x. (p : Point) → region_has x p ≡ (region_has whole.now p && region_has covers.now p)) }
 {
-    let mut rest = whole;
-    for cover in covers {
-        let hidden = Region::of_rect(alloc, *cover)?;
-        rest = rest.diff(alloc, &hidden)?;
+    let Some((first, others)) = covers.split_first() else {
+        return Ok(Region::empty(alloc));
+    };
+    if others.is_empty() {
+        let cover = Region::of_rect(alloc, *first)?;
+        return whole.and(alloc, &cover);
     }
-    Ok(rest)
+    let (front, back) = covers.split_at(covers.len() / 2);
+    let one = covered(alloc, whole, front)?;
+    let other = covered(alloc, whole, back)?;
+    one.or(alloc, &other)
 }
 
 /// The pixels of the screen and the window's own rectangle that neither a rectangle above it nor a
@@ -41,6 +46,8 @@ pub fn owned(
     let screen_pixels = Region::of_rect(alloc, screen)?;
     let own_pixels = Region::of_rect(alloc, own)?;
     let on_screen = screen_pixels.and(alloc, &own_pixels)?;
-    let uncovered = without(alloc, on_screen, above)?;
-    without(alloc, uncovered, children)
+    let hidden = covered(alloc, &on_screen, above)?;
+    let lent = covered(alloc, &on_screen, children)?;
+    let uncovered = on_screen.diff(alloc, &hidden)?;
+    uncovered.diff(alloc, &lent)
 }

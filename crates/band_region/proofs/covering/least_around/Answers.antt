@@ -1,5 +1,5 @@
 use Rattle.std.proofs.Common.{◌<◌, length, arith}
-use Rattle.band_region.proofs.Sweep.{spans-start, spans-more, spans-end}
+use Rattle.band_region.proofs.Pixels.{spans-start, spans-more, spans-end}
 use Rattle.band_region.proofs.covering.least_around.Goals as goal
 
 pub loop-other-init : goal.loop-other-init

@@ -1,5 +1,5 @@
 use Rattle.std.proofs.Common.{take}
-use Rattle.band_region.proofs.Sweep.{Spans}
+use Rattle.band_region.proofs.Pixels.{Spans}
 use Rattle.band_region.proofs.covering.least_around.Given as goal
 
 abbrev pub invariant-loop-other : goal.invariant-loop-other

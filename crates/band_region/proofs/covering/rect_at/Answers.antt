@@ -1,5 +1,5 @@
 use Rattle.std.proofs.Common.{◌<◌, length, arith}
-use Rattle.band_region.proofs.Sweep.{found_at, unseen_more}
+use Rattle.band_region.proofs.Pixels.{found_at, unseen_more}
 use Rattle.band_region.proofs.covering.rect_at.Goals as goal
 
 pub returns-then-has-clause-some : goal.returns-then-has-clause-some

@@ -1,7 +1,7 @@
 use Rattle.std.proofs.Common.{FitsSigned, w32}
 use Rattle.std.proofs.lemmas.Int.{to_z-of_z}
 use Rattle.band_region.proofs.Geometry.{good_rect}
-use Rattle.band_region.proofs.Gains.{ok_from}
+use Rattle.band_region.proofs.Pixels.{ok_from}
 use Rattle.band_region.proofs.pieces.known_rect.Goals as goal
 
 pub unwrap-requires : goal.unwrap-requires
