@@ -133,6 +133,8 @@ module _ (ps : List Part) (h : AllByRecursion IsPart ps) where
   statement_made_fits names.Doom = tt
   statement_made_fits names.Unmake = tt
   statement_made_fits names.Drop = tt
+  statement_made_fits names.Place = tt
+  statement_made_fits names.Show = tt
   statement_made_fits names.NextTop = (o 0, tt)
   statement_made_fits names.IsWindow = (o 0, tt)
   statement_made_fits names.Parent = (o 0, tt)

@@ -188,6 +188,8 @@ pub fn made_statement(name: CallName, parts: &[Part]) -> Option<CallStatement>
         CallName::Doom => None,
         CallName::Unmake => None,
         CallName::Drop => None,
+        CallName::Place => None,
+        CallName::Show => None,
         CallName::NextTop => Some(CallStatement::NextTop(operand_in(parts, 0))),
         CallName::IsWindow => Some(CallStatement::IsWindow(operand_in(parts, 0))),
         CallName::Parent => Some(CallStatement::Parent(operand_in(parts, 0))),
