@@ -11,7 +11,7 @@ ghost use Rattle.user_model.specs.Ready.{ReadyMsg, arrives, departs, ready};
 ghost use Rattle.user_model.specs.Legal.{IsLawful};
 ghost use Rattle.user_laws.specs.Words.{IsIn, IsLastSaid, IsAddedForGood};
 ghost use Rattle.user_laws.specs.Looks.{gives_look};
-ghost use Rattle.user_laws.specs.Stands.{makes_window, drops_it, IsForItsThread, LeadsTo, RisesByNumber};
+ghost use Rattle.user_laws.specs.Stands.{makes_window, drops_it, IsForItsThread, LeadsTo, RisesByNumber, RisesByPlace};
 
 /// The live windows are exactly those that some unrefused entry made and no later one dropped, by a drop of theirs or of
 /// what they stand under, or by the end of their thread (Microsoft, DestroyWindow function).
@@ -44,7 +44,9 @@ pub fn kin_is_a_chain()
 
 /// What a thread has ready is exactly the sends to it that some unrefused entry began and no later one entered or
 /// answered, and the results of its callback sends that some unrefused entry answered and no later one handed over; all of
-/// it goes where the thread ends (Microsoft, SendMessage and SendMessageCallback functions).
+/// it goes where the thread ends. It stands in order of place, the results of one entry in order of their sends' numbers
+/// (Microsoft, SendMessage and SendMessageCallback functions).
 pub fn ready_until_served()
-    ensures { (past : List Entry) (t : ℕ) (r : ReadyMsg) → IsIn r (ready past t) ↔ IsAddedForGood (arrives t) (departs t) past r }
+    ensures values { (past : List Entry) (t : ℕ) (r : ReadyMsg) → IsIn r (ready past t) ↔ IsAddedForGood (arrives t) (departs t) past r }
+    ensures rising { (setup : Setup) (past : List Entry) (t : ℕ) → IsLawful setup past → RisesByPlace (ready past t) }
 {}
