@@ -1,0 +1,60 @@
+//! The lines of worked examples.
+
+use call_table::{Field, Value, Values, call_form, call_named, call_of_parts};
+use user_model::Call;
+use win_num::Thread;
+
+/// What a line asks for.
+#[derive(Drop)]
+pub enum Line {
+    /// Nothing: it is empty, or begins with `#`.
+    Comment,
+    /// A new machine with so many threads.
+    Machine(u8),
+    /// Whether an actor has no call to make now.
+    Barred(Thread),
+    /// A call of an actor.
+    Call(Thread, Call),
+}
+
+impl Line {
+    /// What a line asks for. None comes where it is none of these.
+    pub fn parse(line: &str) -> Option<Line> {
+        if line.is_empty() || line.starts_with('#') {
+            return Some(Line::Comment);
+        }
+        let (first, rest) = line.split_once(' ')?;
+        match first {
+            "machine" => Some(Line::Machine(rest.parse().ok()?)),
+            "barred" => Some(Line::Barred(Thread(rest.parse().ok()?))),
+            _ => Some(Line::Call(Thread(first.parse().ok()?), call_of(rest)?)),
+        }
+    }
+}
+
+/// The call of its word and its fields.
+fn call_of(text: &str) -> Option<Call> {
+    let mut words = text.split(' ');
+    let name = call_named(words.next()?.as_bytes())?;
+    let mut values = Values::new();
+    for field in call_form(name).fields {
+        let value = value_of(*field, words.next()?)?;
+        values.try_push(value).ok()?;
+    }
+    if words.next().is_some() {
+        return None;
+    }
+    call_of_parts(name, &values)
+}
+
+/// The value that a word gives in a field of a call.
+fn value_of(field: Field, word: &str) -> Option<Value> {
+    match field {
+        Field::Number => Some(Value::Number(word.parse().ok()?)),
+        Field::Message => Some(Value::Message(word.parse().ok()?)),
+        Field::Signed => Some(Value::Signed(word.parse().ok()?)),
+        Field::Name => Some(Value::Name(word.parse().ok()?)),
+        Field::Procedure => Some(Value::Procedure(word.parse().ok()?)),
+        _ => None,
+    }
+}
