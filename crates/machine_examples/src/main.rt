@@ -4,45 +4,53 @@
 //! written as they are.
 #![tactic(auto)]
 
+ghost use Rattle.std.specs.Prelude.{◌≡◌, ◌&&◌, nat_le};
+
 mod lines;
 mod told;
 
 use lines::Line;
-use std::alloc::{AllocError, Global};
+use std::alloc::Global;
 use std::io::{BufRead, BufReader};
 use told::Told;
 use user_core::User;
 use user_model::{Machine, Setup};
 
-/// A machine with so many threads and a small screen. None comes exactly where it would have none, or more than 15.
-fn machine_of(alloc: Global, threads: u8) -> Option<Result<User, AllocError>> {
-    if threads == 0 || threads > 15 {
-        return None;
+/// Whether there are machines with so many threads.
+fn is_count(threads: u8) -> bool
+    ensures { result ≡ nat_le 1 threads && nat_le threads 15 }
+{
+    1 <= threads && threads <= 15
+}
+
+/// Does what a line asks for, and writes it again with the answer.
+fn run_line(rt: &impl Print, alloc: Global, machine: &mut User, line: &str) -> anyhow::Result<()> {
+    match Line::parse(line) {
+        Some(Line::Comment) => println!(rt; "{line}")?,
+        Some(Line::Machine(threads)) if is_count(threads) => {
+            *machine = User::new(alloc, Setup::new(threads, 8, 4))?;
+            println!(rt; "{line}")?;
+        }
+        Some(Line::Barred(actor)) => println!(rt; "{line} = {}", machine.barred(actor))?,
+        Some(Line::Call(actor, call)) => {
+            let answer = machine.step(actor, call)?;
+            println!(rt; "{line} = {}", Told(answer))?;
+        }
+        Some(Line::Machine(_)) | None => anyhow::bail!("no call: {line}"),
     }
-    Some(User::new(alloc, Setup::new(threads, 8, 4)))
+    Ok(())
+}
+
+/// Does what the lines of standard input ask for.
+fn run(rt: &HostRuntime, alloc: Global, machine: &mut User) -> anyhow::Result<()> {
+    for line in BufReader::new(alloc, rt.reader())?.lines(alloc) {
+        run_line(rt, alloc, machine, &line?)?;
+    }
+    Ok(())
 }
 
 fn main(rt: HostRuntime) -> anyhow::Result<()> {
     let alloc = rt.alloc();
     let mut machine = User::new(alloc, Setup::new(1, 8, 4))?;
-    for line in BufReader::new(alloc, rt.reader())?.lines(alloc) {
-        let line = line?;
-        match Line::parse(&line) {
-            Some(Line::Comment) => println!(rt; "{line}")?,
-            Some(Line::Machine(threads)) => match machine_of(alloc, threads) {
-                Some(new) => {
-                    machine = new?;
-                    println!(rt; "{line}")?;
-                }
-                None => anyhow::bail!("no machine: {line}"),
-            },
-            Some(Line::Barred(actor)) => println!(rt; "{line} = {}", machine.barred(actor))?,
-            Some(Line::Call(actor, call)) => {
-                let answer = machine.step(actor, call)?;
-                println!(rt; "{line} = {}", Told(answer))?;
-            }
-            None => anyhow::bail!("no call: {line}"),
-        }
-    }
-    Ok(())
+    run(&rt, alloc, &mut machine)
 }
