@@ -1,6 +1,6 @@
 -- A refused entry changes nothing, and posts leave in posted order.
 use Rattle.std.proofs.Common.{◌≡◌, ◌≢◌, ◌≤◌, ◌<◌, ℕ, suc, Bool, true, false, cond, eqb, List, [], ◌∷◌, length, Option, Some, None, refl, sym, ap, ◌∙◌, subst, arith}
-use Rattle.std.specs.Prelude.{nat_le, find}
+use Rattle.std.specs.Prelude.{◌+◌, nat_le, nat_lt, find}
 use Rattle.std.specs.List.{AllByRecursion}
 use Rattle.std.proofs.lemmas.Bool.{false≢true, eqb-true}
 use Rattle.std.proofs.lemmas.Bool.Decides.{nat_tests}
@@ -8,14 +8,15 @@ use Rattle.win_num.specs.declared.message.Thread.{Thread}
 use Rattle.win_num.specs.declared.message.Filter.{Filter}
 use Rattle.win_num.specs.declared.code.Code.TheVariants.{Full}
 use Rattle.user_model.specs.declared.call.Call.{Call}
+use Rattle.user_model.specs.declared.call.Call.TheVariants.{Tick, Advance}
 use Rattle.user_model.specs.declared.entry.Answer.{Answer}
-use Rattle.user_model.specs.declared.entry.Answer.TheVariants.{Refused}
+use Rattle.user_model.specs.declared.entry.Answer.TheVariants.{Refused, Value}
 use Rattle.user_model.specs.declared.entry.Entry.{Entry}
 use Rattle.user_model.specs.declared.entry.Setup.{Setup}
 use Rattle.user_model.specs.Past.{Past, is_full, is_refused, is_refusal}
 use Rattle.user_model.specs.Posts.{PostedMsg, first_post, passes, posted}
 use Rattle.user_model.specs.Next.{is_empty, next_quit}
-use Rattle.user_model.specs.Refusals.{refuse}
+use Rattle.user_model.specs.Refusals.{refuse, invalid_parameter}
 use Rattle.user_model.specs.Replies.{thread_reply}
 use Rattle.user_model.specs.Idle.{reply, clock_row}
 use Rattle.user_model.specs.Legal.{IsLawful}
@@ -72,6 +73,18 @@ same_reply setup past e is room who call thread = by_actor (eqb who 0) refl
         ∙ ap (λ b. refuse b Full (thread_reply setup (e ∷ past) who call)) (room ∙ sym (fewer (length past) room))
         ∙ ap (refuse (is_full past) Full) (thread_same setup past e.who e.call e.answer is who call)
         ∙ sym (ap (λ b. refuse (is_full past) Full (cond b (clock_row setup past call) (thread_reply setup past who call))) at)
+
+-- a row of the clock is the same, but that of advance
+clock_row_same : (setup : Setup) (past : Past) (e : Entry) → is_refused e ≡ true → (call : Call) → call ≢ Advance → clock_row setup (e ∷ past) call ≡ clock_row setup past call
+clock_row_same setup past e is (Tick ms) other = ap (λ n. refuse (nat_lt 4294967295 ms) invalid_parameter (Value (n + ms))) (changes_nothing past e is).same_clock
+clock_row_same setup past e is Advance other = absurd (other refl)
+clock_row_same setup past e is _ other = refl
+
+-- the clock's next reply is the same, but that to advance
+pub same_clock_reply : (setup : Setup) (past : Past) (e : Entry) → is_refused e ≡ true → is_full (e ∷ past) ≡ false → (call : Call) → call ≢ Advance → reply setup (e ∷ past) 0 call ≡ reply setup past 0 call
+unfolding reply
+same_clock_reply setup past e is room call other =
+    ap (λ b. refuse b Full (clock_row setup (e ∷ past) call)) (room ∙ sym (fewer (length past) room)) ∙ ap (refuse (is_full past) Full) (clock_row_same setup past e is call other)
 
 all_above : (p : PostedMsg → Bool) (n m : ℕ) (xs : List PostedMsg) → m ≤ n → AllByRecursion (λ x. n < x.number) xs → AllByRecursion (λ x. p x ≡ true → m ≤ x.number) xs
 all_above p n m [] low above = tt

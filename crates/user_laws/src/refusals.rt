@@ -4,6 +4,7 @@ ghost use Rattle.std.specs.Prelude.{◌≡◌, ◌≢◌, ◌≤◌, ℕ, true, 
 ghost use Rattle.std.specs.List.{AllByRecursion};
 ghost use Rattle.win_num.specs.declared.message.Filter.{Filter};
 ghost use Rattle.user_model.specs.declared.call.Call.{Call};
+ghost use Rattle.user_model.specs.declared.call.Call.TheVariants.{Advance};
 ghost use Rattle.user_model.specs.declared.entry.Answer.{Answer};
 ghost use Rattle.user_model.specs.declared.entry.Entry.{Entry};
 ghost use Rattle.user_model.specs.declared.entry.Setup.{Setup};
@@ -15,10 +16,12 @@ ghost use Rattle.user_model.specs.Legal.{IsLawful};
 ghost use Rattle.user_laws.specs.Kept.{ChangesNothing};
 
 /// A refused entry changes nothing: after it every value that the definitions keep is the one before it, so as
-/// long as there is room each call of a thread is answered as before it.
+/// long as there is room each call of a thread is answered as before it, and so is each of the clock's but `advance`, which looks at
+/// whether the thread waits still: it doesn't, once it has made another call.
 pub fn refusals_change_nothing()
     ensures values { (past : List Entry) (e : Entry) → is_refused e ≡ true → ChangesNothing past e }
     ensures replies { (setup : Setup) (past : List Entry) (e : Entry) → is_refused e ≡ true → is_full (e ∷ past) ≡ false → (who : ℕ) (call : Call) → who ≢ 0 → reply setup (e ∷ past) who call ≡ reply setup past who call }
+    ensures clock { (setup : Setup) (past : List Entry) (e : Entry) → is_refused e ≡ true → is_full (e ∷ past) ≡ false → (call : Call) → call ≢ Advance → reply setup (e ∷ past) 0 call ≡ reply setup past 0 call }
 {}
 
 /// Posts leave in posted order within a filter: no post that stands and passes has a lesser number than the one
