@@ -5,7 +5,7 @@ use Rattle.win_num.specs.declared.message.Thread.{Thread}
 use Rattle.win_num.specs.declared.send.Cause.{Cause}
 use Rattle.win_num.specs.declared.shapes.Point.{Point}
 use Rattle.win_class.specs.ClassTable.{ClassTable, unregister_refusal}
-use Rattle.win_tree.specs.Windows.{Windows}
+use Rattle.win_rows.specs.Windows.{Windows}
 use Rattle.win_tree.specs.Kin.{doom_refusal, drop_refusal}
 use Rattle.user_model.specs.declared.call.Call.{Call}
 use Rattle.user_model.specs.declared.call.Call.TheVariants as calls

@@ -8,8 +8,8 @@ use Rattle.win_num.specs.declared.message.Filter.{Filter}
 use Rattle.win_num.specs.Numbers.{passes_range}
 use Rattle.win_num.specs.declared.names.TheConstants.{NO_WINDOW, WM_QUIT}
 use Rattle.post_queue.specs.Queue.{Posted, pair_of}
-use Rattle.win_tree.specs.declared.window.Window.{Window as KeptWindow}
-use Rattle.win_tree.specs.Windows as kept
+use Rattle.win_rows.specs.declared.window.Window.{Window as KeptWindow}
+use Rattle.win_rows.specs.Windows as kept
 use Rattle.win_tree.specs.Kin as kept_kin
 use Rattle.user_model.specs.declared.call.Call.{Call}
 use Rattle.user_model.specs.declared.call.Call.TheVariants.{Post, PostThread, PostQuit, Drop}

@@ -1,7 +1,7 @@
 -- The windows of a table that an entry drops.
 use Rattle.std.proofs.Common.{◌≡◌, ℕ, eqb, List, ◌∷◌, map, Option, Some, None, false, refl, ap, ◌∙◌, sym}
 use Rattle.std.specs.Prelude.{◌||◌, ◌&&◌, option_map, unwrap_or, is_some}
-use Rattle.win_tree.specs.declared.window.Window.{Window as KeptWindow}
+use Rattle.win_rows.specs.declared.window.Window.{Window as KeptWindow}
 use Rattle.win_tree.specs.Kin as kept_kin
 use Rattle.user_model.specs.declared.call.Call.TheVariants as calls
 use Rattle.user_model.specs.declared.entry.Answer.TheVariants as answers

@@ -3,8 +3,8 @@ use Rattle.std.proofs.Common.{◌≡◌, ℕ, eqb, Bool, true, false, not, cond,
 use Rattle.std.specs.Prelude.{filter, ◌||◌, ◌&&◌}
 use Rattle.std.specs.List.{list_any}
 use Rattle.std.proofs.lemmas.Bool.Decides.{nat_tests, eqb_tells}
-use Rattle.win_tree.specs.declared.window.Window.{Window}
-use Rattle.win_tree.specs.Windows.{is_live}
+use Rattle.win_rows.specs.declared.window.Window.{Window}
+use Rattle.win_rows.specs.Windows.{is_live}
 use Rattle.win_tree.specs.Kin.{is_kin}
 use Rattle.post_queue.specs.Queue.{Posted, queue}
 use Rattle.core_state.specs.Changes.{without_windows}

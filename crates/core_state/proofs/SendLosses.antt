@@ -1,6 +1,6 @@
 -- The sends to windows that go are lost.
 use Rattle.std.proofs.Common.{◌≡◌, ℕ, Bool, false, List, ◌∷◌, map}
-use Rattle.win_tree.specs.declared.window.Window.{Window as KeptWindow}
+use Rattle.win_rows.specs.declared.window.Window.{Window as KeptWindow}
 use Rattle.user_model.specs.declared.call.Call.TheVariants as calls
 use Rattle.user_model.specs.declared.entry.Answer.TheVariants as answers
 use Rattle.user_model.specs.declared.entry.Entry.{Entry}

@@ -10,7 +10,7 @@ use Rattle.win_num.specs.declared.send.Cause.{Cause}
 use Rattle.win_num.specs.declared.send.Kind.{Kind}
 use Rattle.win_num.specs.declared.send.Kind.TheVariants.{Wait as WaitKind, Timeout as WithTimeout, Notify, Callback as WithCallback}
 use Rattle.win_num.specs.declared.send.Frame.TheVariants.{Await as AwaitFrame}
-use Rattle.win_tree.specs.declared.window.Window.{Window as KeptWindow}
+use Rattle.win_rows.specs.declared.window.Window.{Window as KeptWindow}
 use Rattle.user_model.specs.declared.call.Call.{Call}
 use Rattle.user_model.specs.declared.call.Call.TheVariants as calls
 use Rattle.user_model.specs.declared.entry.Answer.{Answer}

@@ -1,8 +1,8 @@
 -- The stories of sends follow the past.
 use Rattle.std.proofs.Common.{◌≡◌, ℕ, false, List, ◌∷◌, map, refl, ap, ◌∙◌}
 use Rattle.win_num.specs.declared.message.Thread.{Thread}
-use Rattle.win_tree.specs.declared.window.Window.{Window as KeptWindow}
-use Rattle.win_tree.specs.Windows.{Windows}
+use Rattle.win_rows.specs.declared.window.Window.{Window as KeptWindow}
+use Rattle.win_rows.specs.Windows.{Windows}
 use Rattle.user_model.specs.declared.call.Call.{Call}
 use Rattle.user_model.specs.declared.call.Call.TheVariants as calls
 use Rattle.user_model.specs.declared.entry.Answer.{Answer}

@@ -2,8 +2,8 @@
 use Rattle.std.specs.Prelude.{if◌then◌else◌, ℕ, ◌≤◌, ◌==◌, ◌&&◌, ◌||◌, Bool, List, map, filter, Option, Some, None, IsTrue}
 use Rattle.win_num.specs.declared.message.Msg.{Msg}
 use Rattle.win_num.specs.declared.shapes.Point.{Point}
-use Rattle.win_tree.specs.declared.window.Window.{Window}
-use Rattle.win_tree.specs.Windows.{is_live}
+use Rattle.win_rows.specs.declared.window.Window.{Window}
+use Rattle.win_rows.specs.Windows.{is_live}
 use Rattle.win_tree.specs.Kin.{is_kin}
 use Rattle.user_model.specs.declared.call.Call.{Call}
 use Rattle.user_model.specs.declared.call.Call.TheVariants.{PostQuit, Drop}

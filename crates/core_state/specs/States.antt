@@ -5,7 +5,7 @@ use Rattle.user_model.specs.Past.{Past}
 use Rattle.user_model.specs.Places.{clock}
 use Rattle.user_model.specs.Posts.{posts}
 use Rattle.user_model.specs.Legal.{IsLawful}
-use Rattle.win_tree.specs.Windows.{Windows}
+use Rattle.win_rows.specs.Windows.{Windows}
 use Rattle.win_class.specs.ClassTable.{ClassTable}
 use Rattle.send_state.specs.Parts.{SendParts}
 use Rattle.send_state.specs.Standing.{PartsStand}

@@ -2,7 +2,7 @@
 
 ghost use Rattle.std.specs.Prelude.{◌≡◌, ◌&&◌, ◌==◌, ◌≤◌, OnOk, OnErr, true};
 ghost use Rattle.win_num.specs.declared.send.Kind.{Kind};
-ghost use Rattle.win_tree.specs.Windows.{is_live};
+ghost use Rattle.win_rows.specs.Windows.{is_live};
 ghost use Rattle.send_frames.specs.Book.{IsThread};
 ghost use Rattle.send_state.specs.Parts.{lost_count};
 ghost use Rattle.send_state.specs.Stories.{EachStory, noted_loss};

@@ -1,3 +1,6 @@
+pub mod Chains
 pub mod Finding
+pub mod Indexes
+pub mod Purges
 pub mod QueueLemmas
-pub mod SlotLemmas
+pub mod Walks

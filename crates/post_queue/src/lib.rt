@@ -1,6 +1,7 @@
 //! The messages posted to a thread, in posted order, with a count of the messages that are read.
 #![tactic(auto)]
 
+mod chain;
 mod posts;
 mod sealed;
 mod slot;

@@ -1,17 +1,14 @@
 //! The queue of posted messages.
 
-ghost use Rattle.std.specs.Prelude.{ℕ, Bool, not, filter, remove, slice_index_or, find, option_map, ◌≡◌, ◌↔◌, ◌+◌, ◌<◌, [], ◌∷◌, ◌++◌, ◌==◌, ◌&&◌, nat_lt, count_by, position, Some, All, OnOk, OnErr, IfErr, ◌⊎◌, length};
+ghost use Rattle.std.specs.Prelude.{ℕ, Bool, not, filter, find, option_map, ◌≡◌, ◌↔◌, ◌<◌, [], ◌∷◌, ◌++◌, All, OnOk, OnErr, IfErr, ◌⊎◌, length};
 ghost use Rattle.win_num.specs.declared.message.Hwnd.{Hwnd};
 ghost use Rattle.win_num.specs.declared.message.Msg.{Msg};
 ghost use Rattle.std.specs.Fn.{FnReturnsAt};
-ghost use Rattle.post_queue.specs.Slots.{posted_in};
 ghost use Rattle.post_queue.specs.Queue.{FindsFirst, count_above, count_for, message_of, pair_of, post_of, queue, without_number, without_window};
 
-use crate::sealed::Sealed;
-use crate::slot::Slot;
+use crate::chain::{Chain, clear, counted, first_in, no_messages, purge, push, take};
 use crate::steps::Steps;
 use std::alloc::Global;
-use std::collections::VecDeque;
 use std::marker::Model;
 use std::sync::ledger::Ledger;
 use win_num::{Code, Fault, Hwnd, Msg};
@@ -20,71 +17,19 @@ use win_num::{Code, Fault, Hwnd, Msg};
 /// see the limit and the list of the messages with their numbers.
 #[derive(Drop)]
 pub struct Posts {
-    slots: VecDeque<Slot>,
+    chain: Chain,
     limit: u32,
 }
 
 impl Model for Posts {
     ghost use Rattle.post_queue.specs.Queue.{Queue, queue};
-    ghost use Rattle.post_queue.specs.Slots.{IsSound, posted_in};
+    ghost use Rattle.post_queue.specs.Chains.{IsSound, posted_in};
 
     ghost Value = { Queue };
 
-    ghost view = { λ p. queue p.limit (posted_in p.slots.items) };
+    ghost view = { λ p. queue p.limit (posted_in p.chain) };
 
-    ghost invariant = { λ p. IsSound p.slots.items p.limit };
-}
-
-/// The first message that passes, with its number, read from the front.
-fn first_in<F: Fn(&Msg) -> bool, L: Ledger>(
-    slots: &VecDeque<Slot>,
-    pass: F,
-    steps: &mut Steps<L>,
-) -> Option<(u32, Msg)>
-    requires { F.IsAlwaysCallable pass }
-    ensures { FindsFirst (FnReturnsAt F.Fn pass) (posted_in slots.now.items) result steps.old steps.new }
-{
-    for i in 0..slots.len() {
-        let slot = &slots[i];
-        let msg = slot.sealed.read(steps);
-        if pass(&msg) {
-            return Some((slot.number, msg));
-        }
-    }
-    None
-}
-
-/// The message at a place, taken out.
-fn taken_from(slots: &mut VecDeque<Slot>, place: usize) -> Slot
-    requires { place < length slots.old.items }
-    ensures value { result ≡ slice_index_or slots.old.items place result }
-    ensures items { slots.new.items ≡ remove slots.old.items place }
-{
-    slots.remove(place).unwrap()
-}
-
-/// The place of the message with the number.
-fn place_of(slots: &VecDeque<Slot>, number: u32) -> Option<usize>
-    ensures { result ≡ position (λ s. s.number == number) slots.now.items }
-{
-    slots.iter().position(|slot| slot.number == number)
-}
-
-/// How many messages are for the window.
-fn count_in(slots: &VecDeque<Slot>, w: Hwnd) -> usize
-    ensures { result ≡ count_by (λ s. s.hwnd.0 == w.0) slots.now.items }
-{
-    slots.iter().filter(|slot| slot.hwnd.0 == w.0).count()
-}
-
-/// How many messages are for the window and have a number above `look`.
-fn count_after(slots: &VecDeque<Slot>, w: Hwnd, look: u32) -> usize
-    ensures { result ≡ count_by (λ s. (s.hwnd.0 == w.0) && nat_lt look s.number) slots.now.items }
-{
-    slots
-        .iter()
-        .filter(|slot| slot.hwnd.0 == w.0 && look < slot.number)
-        .count()
+    ghost invariant = { λ p. IsSound p.chain p.limit };
 }
 
 impl Posts {
@@ -93,7 +38,7 @@ impl Posts {
         ensures { result ≡ queue limit [] }
     {
         Posts {
-            slots: VecDeque::new(alloc),
+            chain: no_messages(alloc),
             limit,
         }
     }
@@ -108,15 +53,10 @@ impl Posts {
         ensures refused { IfErr result (λ fault. (fault ≡ Fault.Refused (Code.Win 1816)) ⊎ (fault ≡ Fault.Memory)) }
         ensures err { OnErr result (self.new ≡ self.old) }
     {
-        if self.slots.len() == self.limit as usize {
+        if self.len() == self.limit {
             return Err(Fault::Refused(Code::Win(1816)));
         }
-        let slot = Slot {
-            number,
-            hwnd: msg.hwnd,
-            sealed: Sealed::new(msg),
-        };
-        match self.slots.push_back(slot) {
+        match push(&mut self.chain, number, msg) {
             Ok(()) => {}
             Err(_) => return Err(Fault::Memory),
         }
@@ -136,7 +76,7 @@ impl Posts {
         // where `pass` computes a test
         ensures found { (test : Msg → Bool) → ((m : Msg) (b : Bool) → FnReturnsAt F.Fn pass m b → b ≡ test m) → result ≡ option_map pair_of (find (λ p. test p.msg) self.now.posted) }
     {
-        first_in(&self.slots, pass, steps)
+        first_in(&self.chain, pass, steps)
     }
 
     /// Takes out the message with the number. None comes exactly where the queue has no such message.
@@ -144,10 +84,7 @@ impl Posts {
         ensures message { result ≡ message_of self.old.posted number }
         ensures rest { self.new ≡ queue self.old.limit (without_number self.old.posted number) }
     {
-        match place_of(&self.slots, number) {
-            Some(place) => Some(taken_from(&mut self.slots, place).sealed.into_msg()),
-            None => None,
-        }
+        take(&mut self.chain, number)
     }
 
     /// Takes out the messages for the window, and answers how many they were, and how many of them have a
@@ -157,10 +94,9 @@ impl Posts {
         ensures fresh { result.1 ≡ count_above self.old.posted w.0 look }
         ensures rest { self.new ≡ queue self.old.limit (without_window self.old.posted w.0) }
     {
-        let count = count_in(&self.slots, w) as u32;
-        let fresh = count_after(&self.slots, w, look) as u32;
-        self.slots.retain(|slot| slot.hwnd.0 != w.0);
-        (count, fresh)
+        let counts = counted(&self.chain, w, look);
+        purge(&mut self.chain, |window| window.0 == w.0);
+        counts
     }
 
     /// Takes out the messages whose window goes: those for which `goes` answers true.
@@ -168,20 +104,20 @@ impl Posts {
         requires { F.IsAlwaysCallable goes }
         ensures { (test : ℕ → Bool) → ((w : Hwnd) (b : Bool) → F.post goes w b → b ≡ test w.0) → self.new ≡ queue self.old.limit (filter (λ p. not (test p.msg.hwnd.0)) self.old.posted) }
     {
-        self.slots.retain(|slot| !goes(slot.hwnd));
+        purge(&mut self.chain, goes);
     }
 
     /// Takes all messages out.
     pub fn clear(&mut self)
         ensures { self.new ≡ queue self.old.limit [] }
     {
-        self.slots.clear();
+        clear(&mut self.chain);
     }
 
     /// How many messages the queue holds.
     pub fn len(&self) -> u32
         ensures { result ≡ length self.now.posted }
     {
-        self.slots.len() as u32
+        self.chain.index.len() as u32
     }
 }

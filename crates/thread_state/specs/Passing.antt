@@ -5,8 +5,8 @@ use Rattle.win_num.specs.declared.message.Filter.{Filter}
 use Rattle.win_num.specs.Numbers.{passes_range}
 use Rattle.win_num.specs.declared.names.TheConstants.{NO_WINDOW, WM_QUIT}
 use Rattle.post_queue.specs.Queue.{Posted}
-use Rattle.win_tree.specs.declared.window.Window.{Window}
-use Rattle.win_tree.specs.Windows.{is_live}
+use Rattle.win_rows.specs.declared.window.Window.{Window}
+use Rattle.win_rows.specs.Windows.{is_live}
 use Rattle.win_tree.specs.Kin.{is_below}
 
 -- whether a filter's window lets a window pass, among these

@@ -2,8 +2,8 @@
 use Rattle.std.proofs.Common.{◌≡◌, ◌∙◌, inl, inr, ℕ, suc, zero, List, [], ◌∷◌, Bool, true, false, not, ◌&&◌, eqb, map, filter, find, refl, sym, ap, subst}
 use Rattle.std.specs.List.{list_any, AllByRecursion}
 use Rattle.std.proofs.lemmas.Bool.{cases_Bool, eqb-true, eq-eqb, or_parts}
-use Rattle.win_tree.specs.declared.window.Window.{Window}
-use Rattle.win_tree.specs.Windows.{window_of, up, marked_also, marked_if}
+use Rattle.win_rows.specs.declared.window.Window.{Window}
+use Rattle.win_rows.specs.Windows.{window_of, up, marked_also, marked_if}
 use Rattle.win_tree.specs.Kin.{above, kin_within, is_kin, is_alone, is_under, doomed, doomed_if, dropped}
 use Rattle.win_tree.proofs.Drops.{agree}
 

@@ -4,12 +4,12 @@ use Rattle.std.specs.List.{list_any}
 use Rattle.std.proofs.lemmas.Bool.{cases_Bool, eqb-true, eq-eqb}
 use Rattle.std.proofs.lemmas.Map.Views.{any-filter_same}
 use Rattle.win_num.specs.declared.message.Hwnd.{Hwnd}
-use Rattle.win_tree.specs.declared.window.Window.{Window}
+use Rattle.win_rows.specs.declared.window.Window.{Window}
 use Rattle.std.specs.List.Sorted.{IsNonDecreasingBy}
-use Rattle.win_tree.specs.Windows.{IsOrdered, number_of}
-use Rattle.win_tree.specs.Index.{has}
+use Rattle.win_rows.specs.Windows.{IsOrdered, number_of}
+use Rattle.win_rows.specs.Index.{has}
 use Rattle.win_tree.proofs.Ordered.{ordered_filter}
-use Rattle.win_tree.proofs.Rising.{RisesBy, rises}
+use Rattle.win_rows.proofs.Rising.{RisesBy, rises}
 
 -- the numbers of the windows that stay are the numbers that stay
 pub map-filter : (p : ℕ → Bool) (ws : List Window) → filter (λ v. p v.0) (map number_of ws) ≡ map number_of (filter (λ x. p x.number.0) ws)

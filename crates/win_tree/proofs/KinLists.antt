@@ -1,5 +1,5 @@
 -- The kin of a window, found in one pass by rising number.
-use Rattle.std.proofs.Common.{◌≡◌, ◌∙◌, inl, inr, ℕ, ◌+◌, ◌<◌, ◌≤◌, suc, zero, List, [], ◌∷◌, ◌++◌, length, get_or, take, cond, map, filter, find, Bool, true, false, ◌&&◌, ◌||◌, eqb, Option, Some, None, append-nil, refl, sym, ap, subst, arith}
+use Rattle.std.proofs.Common.{◌≡◌, ◌∙◌, inl, inr, ℕ, ◌+◌, ◌<◌, ◌≤◌, suc, zero, List, [], ◌∷◌, ◌++◌, length, get_or, take, cond, map, filter, find, Bool, true, false, not, ◌&&◌, ◌||◌, eqb, Option, Some, None, append-nil, refl, sym, ap, subst, arith}
 use Rattle.std.specs.List.{list_any, AllByRecursion}
 use Rattle.std.specs.List.Sorted.{IsNonDecreasingBy}
 use Rattle.std.proofs.lemmas.Bool.{cases_Bool, eqb-true, eq-eqb, ne_eqb, or_parts}
@@ -7,14 +7,14 @@ use Rattle.std.proofs.lemmas.List.{take_more, map-append}
 use Rattle.std.proofs.lemmas.List.Elements.{filter-append}
 use Rattle.std.proofs.lemmas.Map.Views.{any-filter_same}
 use Rattle.win_num.specs.declared.message.Hwnd.{Hwnd}
-use Rattle.win_tree.specs.declared.window.Window.{Window}
-use Rattle.win_tree.specs.Windows.{IsOrdered, number_of, window_of, up, marked_also}
+use Rattle.win_rows.specs.declared.window.Window.{Window}
+use Rattle.win_rows.specs.Windows.{IsOrdered, number_of, window_of, up, marked_also}
 use Rattle.win_tree.specs.Kin.{above, kin_within, is_kin, kin_of, is_more, with_marked, doomed, doomed_if}
-use Rattle.win_tree.proofs.Alls.{all_so}
+use Rattle.win_rows.proofs.Alls.{all_so}
 use Rattle.win_tree.proofs.Alone.{self_kin}
 use Rattle.win_tree.proofs.Drops.{map-filter, some_rise, or-true, true-or}
-use Rattle.win_tree.proofs.Indexed.{found_at}
-use Rattle.win_tree.proofs.Ones.{rising}
+use Rattle.win_rows.proofs.Indexed.{found_at}
+use Rattle.win_rows.proofs.Ones.{rising}
 use Rattle.win_tree.proofs.Ordered.{below_last}
 
 -- what stands above a window is older
@@ -181,3 +181,17 @@ kin_marked ws w kin so =
     ∙ map_alike (λ x. marked_also (list_any (λ (v : Hwnd). eqb v.0 x.number.0) (kin_of ws ws w)) x) (doomed_if ws w) ws
     (all_so (λ x. list_any (λ (v : Hwnd). eqb v.0 x.number.0) (kin_of ws ws w) ≡ is_kin ws w x.number.0) (λ x. marked_also (list_any (λ (v : Hwnd). eqb v.0 x.number.0) (kin_of ws ws w)) x ≡ doomed_if ws w x)
     (λ x h. ap (λ (b : Bool). marked_also b x) h) ws (in_kin ws w))
+
+-- taking the numbers of the kin out
+pub kin_taken : (ws : List Window) (w : ℕ) (kin numbers : List Hwnd) → kin ≡ kin_of ws ws w → numbers ≡ map number_of ws → filter (λ v. not (list_any (λ (u : Hwnd). eqb u.0 v.0) kin)) numbers ≡ filter (λ v. not (is_kin ws w v.0)) numbers
+kin_taken ws w kin numbers so same =
+    ap (filter (λ v. not (list_any (λ (u : Hwnd). eqb u.0 v.0) kin))) same
+    ∙ ap (λ (vs : List Hwnd). filter (λ v. not (list_any (λ (u : Hwnd). eqb u.0 v.0) vs)) (map number_of ws)) so
+    ∙ agree_at ws (in_kin ws w)
+    ∙ ap (filter (λ v. not (is_kin ws w v.0))) (sym same)
+  where
+    agree_at : (us : List Window) → AllByRecursion (λ x. list_any (λ (v : Hwnd). eqb v.0 x.number.0) (kin_of ws ws w) ≡ is_kin ws w x.number.0) us → filter (λ v. not (list_any (λ (u : Hwnd). eqb u.0 v.0) (kin_of ws ws w))) (map number_of us) ≡ filter (λ v. not (is_kin ws w v.0)) (map number_of us)
+    agree_at [] h = refl
+    agree_at (x ∷ us) h =
+        ap (λ b. cond (not b) (x.number ∷ filter (λ v. not (list_any (λ (u : Hwnd). eqb u.0 v.0) (kin_of ws ws w))) (map number_of us)) (filter (λ v. not (list_any (λ (u : Hwnd). eqb u.0 v.0) (kin_of ws ws w))) (map number_of us))) h.0
+        ∙ ap (λ (vs : List Hwnd). cond (not (is_kin ws w x.number.0)) (x.number ∷ vs) vs) (agree_at us h.1)

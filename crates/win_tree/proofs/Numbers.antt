@@ -3,11 +3,11 @@ use Rattle.std.proofs.Common.{◌≡◌, ◌∙◌, inl, inr, ℕ, List, [], ◌
 use Rattle.std.proofs.lemmas.Bool.{cases_Bool}
 use Rattle.win_num.specs.declared.message.Hwnd.{Hwnd}
 use Rattle.win_num.specs.declared.shapes.Rect.{Rect}
-use Rattle.win_tree.specs.declared.row.Unmade.{Unmade}
-use Rattle.win_tree.specs.declared.row.Unmade.TheVariants.{Tell, Last, Gone, NotDoomed}
-use Rattle.win_tree.specs.declared.window.Window.{Window}
-use Rattle.win_tree.specs.Windows.{number_of, told_if, ended_if, set_if}
-use Rattle.win_tree.specs.Destruction.{given}
+use Rattle.win_rows.specs.declared.row.Unmade.{Unmade}
+use Rattle.win_rows.specs.declared.row.Unmade.TheVariants.{Tell, Last, Gone, NotDoomed}
+use Rattle.win_rows.specs.declared.window.Window.{Window}
+use Rattle.win_rows.specs.Windows.{number_of, told_if, ended_if, set_if}
+use Rattle.win_rows.specs.Destruction.{given}
 
 -- windows that keep their numbers
 pub same_numbers : (f : Window → Window) → ((x : Window) → number_of (f x) ≡ number_of x) → (ws : List Window) → map number_of (map f ws) ≡ map number_of ws

@@ -5,13 +5,13 @@ use Rattle.std.proofs.lemmas.List.{map-append}
 use Rattle.win_num.specs.declared.message.Hwnd.{Hwnd}
 use Rattle.win_num.specs.declared.shapes.Rect.{Rect}
 use Rattle.win_num.specs.declared.code.Code.TheVariants.{Win}
-use Rattle.win_tree.specs.declared.row.WindowRow.{WindowRow}
-use Rattle.win_tree.specs.declared.row.Unmade.{Unmade}
-use Rattle.win_tree.specs.declared.row.Unmade.TheVariants.{Tell, Last, Gone, NotDoomed}
-use Rattle.win_tree.specs.declared.window.Window.{Window}
-use Rattle.win_tree.specs.Windows.{Windows, IsOrdered, made, window_of, is_live, number_of, up, told_if, ended_if, set_if}
+use Rattle.win_rows.specs.declared.row.WindowRow.{WindowRow}
+use Rattle.win_rows.specs.declared.row.Unmade.{Unmade}
+use Rattle.win_rows.specs.declared.row.Unmade.TheVariants.{Tell, Last, Gone, NotDoomed}
+use Rattle.win_rows.specs.declared.window.Window.{Window}
+use Rattle.win_rows.specs.Windows.{Windows, IsOrdered, made, window_of, is_live, number_of, up, told_if, ended_if, set_if}
 use Rattle.win_tree.specs.Kin.{parent_of, top_within, is_bad, refusal, settled}
-use Rattle.win_tree.specs.Destruction.{given}
+use Rattle.win_rows.specs.Destruction.{given}
 
 -- the bound below is no greater than the last number
 pub below_last : (from last : ℕ) (ws : List Window) → IsOrdered from last ws → from ≤ last

@@ -5,18 +5,18 @@ use Rattle.std.proofs.lemmas.Bool.{cases_Bool, eqb-true}
 use Rattle.std.proofs.lemmas.List.{map-append, length-map}
 use Rattle.win_num.specs.declared.message.Hwnd.{Hwnd}
 use Rattle.win_num.specs.declared.shapes.Rect.{Rect}
-use Rattle.win_tree.specs.declared.row.Unmade.{Unmade}
-use Rattle.win_tree.specs.declared.row.Unmade.TheVariants.{Tell, Last, Gone, NotDoomed}
+use Rattle.win_rows.specs.declared.row.Unmade.{Unmade}
+use Rattle.win_rows.specs.declared.row.Unmade.TheVariants.{Tell, Last, Gone, NotDoomed}
 use Rattle.win_tree.specs.declared.plan.Plan.{Plan}
-use Rattle.win_tree.specs.declared.window.Window.{Window}
-use Rattle.win_tree.specs.Windows.{number_of, window_of, is_live, is_told, is_ended, up, told_if, ended_if, set_if, IsOrdered}
+use Rattle.win_rows.specs.declared.window.Window.{Window}
+use Rattle.win_rows.specs.Windows.{number_of, window_of, is_live, is_told, is_ended, up, told_if, ended_if, set_if, IsOrdered}
 use Rattle.win_tree.specs.Kin.{doomed_if, is_alone}
-use Rattle.win_tree.specs.Destruction.{Step, told, ended, children_of, owned_by, preorder, postorder, destruction, destruction_of, is_left, answer_of, given, next_step, unmade}
+use Rattle.win_rows.specs.Destruction.{Step, told, ended, children_of, owned_by, preorder, postorder, destruction, destruction_of, is_left, answer_of, given, next_step, unmade}
 use Rattle.win_tree.specs.Plans.{is_given, is_open, IsReached, HasOlderOwner, IsPlan, EachPlan}
-use Rattle.win_tree.proofs.Alls.{all_so, all_filter, all_append, all_flat, all_map, all_set, filter_alike}
+use Rattle.win_rows.proofs.Alls.{all_so, all_filter, all_append, all_flat, all_map, all_set, filter_alike}
 use Rattle.win_tree.proofs.Alone.{none_under}
-use Rattle.win_tree.proofs.Leaves.{IsYoungest, is_other, order_left, found_still, found_none}
-use Rattle.win_tree.proofs.Ones.{number_is}
+use Rattle.win_rows.proofs.Leaves.{IsYoungest, is_other, order_left, found_still, found_none}
+use Rattle.win_rows.proofs.Ones.{number_is}
 use Rattle.win_tree.proofs.ThreadDrops.{IsFound, all_found}
 
 -- a change that keeps whose child and owned window each is, and what was given

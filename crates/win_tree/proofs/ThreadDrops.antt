@@ -3,8 +3,8 @@ use Rattle.std.proofs.Common.{◌≡◌, ◌∙◌, ℕ, ◌<◌, List, [], ◌�
 use Rattle.std.specs.List.{AllByRecursion}
 use Rattle.std.proofs.lemmas.Bool.{eq-eqb, ne_eqb}
 use Rattle.win_num.specs.declared.message.Hwnd.{Hwnd}
-use Rattle.win_tree.specs.declared.window.Window.{Window}
-use Rattle.win_tree.specs.Windows.{IsOrdered, number_of, window_of}
+use Rattle.win_rows.specs.declared.window.Window.{Window}
+use Rattle.win_rows.specs.Windows.{IsOrdered, number_of, window_of}
 use Rattle.win_tree.specs.Kin.{is_of_other, without_thread}
 
 -- numbers above this, each found among these

@@ -1,7 +1,7 @@
 -- Walks up, one step after another.
 use Rattle.std.proofs.Common.{◌≡◌, ◌∙◌, ℕ, ◌+◌, ◌-◌, ◌<◌, suc, List, eqb, true, false, refl, sym, ap, arith}
 use Rattle.win_num.specs.declared.message.Hwnd.{Hwnd}
-use Rattle.win_tree.specs.declared.window.Window.{Window}
+use Rattle.win_rows.specs.declared.window.Window.{Window}
 use Rattle.win_tree.specs.Kin.{above, parent_of, kin_within, below_within, top_within}
 
 -- one step less is left

@@ -8,9 +8,9 @@ use Rattle.win_num.specs.declared.code.Fault.{Fault}
 use Rattle.win_num.specs.declared.code.Fault.TheVariants.{Refused, Memory}
 use Rattle.win_num.specs.declared.code.Code.TheVariants.{Win, Full}
 use Rattle.win_num.specs.declared.names.TheConstants.{WS_CHILD}
-use Rattle.win_tree.specs.declared.row.WindowRow.{WindowRow}
-use Rattle.win_tree.specs.declared.window.Window.{Window}
-use Rattle.win_tree.specs.Windows.{Windows, nobody, made, number_of, window_of, is_live, is_marked, is_ended, up, marked_also}
+use Rattle.win_rows.specs.declared.row.WindowRow.{WindowRow}
+use Rattle.win_rows.specs.declared.window.Window.{Window}
+use Rattle.win_rows.specs.Windows.{Windows, nobody, made, number_of, window_of, is_live, is_marked, is_ended, up, marked_also}
 
 -- what the window stands under or is owned by, or 0
 abbrev pub above : List Window → ℕ → Hwnd

@@ -1,7 +1,2 @@
-pub mod Destruction
-pub mod Index
 pub mod Kin
-pub mod Links
-pub mod Parts
 pub mod Plans
-pub mod Windows

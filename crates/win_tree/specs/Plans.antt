@@ -2,12 +2,12 @@
 use Rattle.std.specs.Prelude.{◌≡◌, ℕ, ◌<◌, ◌≤◌, Bool, true, false, not, ◌||◌, List, map, length, Some, slice_index_or}
 use Rattle.std.specs.List.{filter, AllByRecursion}
 use Rattle.win_num.specs.declared.message.Hwnd.{Hwnd}
-use Rattle.win_tree.specs.declared.row.Unmade.{Unmade}
-use Rattle.win_tree.specs.declared.row.Unmade.TheVariants.{Tell, Last, Gone, NotDoomed}
+use Rattle.win_rows.specs.declared.row.Unmade.{Unmade}
+use Rattle.win_rows.specs.declared.row.Unmade.TheVariants.{Tell, Last, Gone, NotDoomed}
 use Rattle.win_tree.specs.declared.plan.Plan.{Plan}
-use Rattle.win_tree.specs.declared.window.Window.{Window}
-use Rattle.win_tree.specs.Windows.{window_of, is_live, is_told, is_ended}
-use Rattle.win_tree.specs.Destruction.{answer_of, destruction_of}
+use Rattle.win_rows.specs.declared.window.Window.{Window}
+use Rattle.win_rows.specs.Windows.{window_of, is_live, is_told, is_ended}
+use Rattle.win_rows.specs.Destruction.{answer_of, destruction_of}
 
 -- whether the step is of a live window
 abbrev pub is_open : List Window → Unmade → Bool

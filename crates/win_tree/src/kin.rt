@@ -1,15 +1,14 @@
 //! Walks up from a window.
 
-ghost use Rattle.std.specs.Prelude.{◌≡◌, ℕ, IfSome};
+ghost use Rattle.std.specs.Prelude.{◌≡◌, ℕ, not, map, filter, IfSome};
 ghost use Rattle.std.specs.List.{list_any};
 ghost use Rattle.std.specs.List.Sorted.{IsNonDecreasingBy};
-ghost use Rattle.win_tree.specs.Windows.{IsOrdered};
+ghost use Rattle.win_rows.specs.Windows.{IsOrdered, number_of};
 ghost use Rattle.win_tree.specs.Kin.{above, parent_of, is_kin, is_below, top_of, is_alone, is_under, is_more, kin_of};
 
-use crate::rows::{Rows, has};
-use crate::window::Window;
 use std::alloc::Global;
 use win_num::Hwnd;
+use win_rows::{Rows, Window, has_number};
 
 /// What the window stands under or is owned by, or 0.
 fn above(windows: &Rows, w: Hwnd) -> Hwnd
@@ -101,13 +100,26 @@ pub fn kin_numbers(alloc: Global, windows: &Rows, w: Hwnd) -> Option<Vec<Hwnd>>
     Some(kin)
 }
 
+/// Takes the numbers of the window and its kin out of those of the live windows. Without memory for the
+/// list of the kin it walks up from each window.
+pub fn take_kin(alloc: Global, windows: &Rows, w: Hwnd, numbers: &mut Vec<Hwnd>)
+    requires ordered { (last : ℕ) × IsOrdered 15 last windows.now }
+    requires numbers { numbers.old.items ≡ map number_of windows.now }
+    ensures { numbers.new.items ≡ filter (λ v. not (is_kin windows.now w.0 v.0)) numbers.old.items }
+{
+    match kin_numbers(alloc, windows, w) {
+        Some(kin) => numbers.retain(|v| !has_number(&kin, *v)),
+        None => numbers.retain(|v| !is_kin(windows, w, *v)),
+    }
+}
+
 /// Whether x is w, or stands directly under w or one of these.
 fn is_more(kin: &[Hwnd], w: Hwnd, x: &Window) -> bool
     requires { IsNonDecreasingBy (λ v. v.0) kin.now }
     ensures { result ≡ is_more kin.now w.0 x.now }
 {
     let up = x.up();
-    x.number == w || up == w || has(kin, up)
+    x.number == w || up == w || has_number(kin, up)
 }
 
 /// Whether nothing stands directly below the window or is owned by it.

@@ -2,18 +2,12 @@
 //! in which order a window and all that goes with it are destroyed.
 #![tactic(auto)]
 
-mod destruction;
 mod kin;
-mod links;
-mod order;
 mod plan;
-mod row;
-mod rows;
 #[cfg(test)]
 mod tests;
 mod tree;
-mod window;
 
-pub use row::{Unmade, WindowRow};
 pub use tree::Tree;
 pub use win_num::{Code, Fault, Hwnd, Rect, Thread};
+pub use win_rows::{Unmade, WindowRow};

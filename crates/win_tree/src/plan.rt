@@ -1,17 +1,14 @@
 //! The order of a destruction that was begun, and how far it has come.
 
 ghost use Rattle.std.specs.Prelude.{◌≡◌, ◌==◌, ℕ, not, ◌||◌, ◌∷◌, [], map, filter, slice_index_or, Some, IfSome};
-ghost use Rattle.win_tree.specs.Destruction.{answer_of, destruction_of};
+ghost use Rattle.win_rows.specs.Destruction.{answer_of, destruction_of};
 ghost use Rattle.win_tree.specs.Plans.{is_given, AllGiven, IsReached, HasPlan, IsPlan};
-ghost use Rattle.win_tree.specs.Windows.{IsOrdered, is_ended, is_live, is_told, window_of};
+ghost use Rattle.win_rows.specs.Windows.{IsOrdered, is_ended, is_live, is_told, window_of};
 
 use crate::kin::is_alone;
-use crate::order::{put_step, steps_of};
-use crate::row::Unmade;
-use crate::rows::Rows;
-use crate::window::Window;
 use std::alloc::Global;
 use win_num::Hwnd;
+use win_rows::{Rows, Unmade, Window, put_step, steps_of};
 
 /// The steps of a window's destruction in their order. Those before the next were given.
 #[derive(Drop)]

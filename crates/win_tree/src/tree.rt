@@ -3,20 +3,17 @@
 ghost use Rattle.std.specs.Prelude.{◌≡◌, ℕ, ◌+◌, ◌<◌, ◌++◌, ◌∷◌, [], List, length, map, not, IsTrue, IfOk, OnOk, OnErr, MatchResult, Option, Some, None, IfNone, IfSome, ◌^◌, ◌==◌, option_copied, option_map};
 ghost use Rattle.std.specs.List.{filter, list_any};
 ghost use Rattle.std.specs.List.Sorted.{IsNonDecreasingBy};
-ghost use Rattle.win_tree.specs.Windows.{IsOrdered, no_windows, number_of, window_of, is_live, is_marked, is_ended, told_if, ended_if, set_if, next_top, up, marked_if};
+ghost use Rattle.win_rows.specs.Windows.{IsOrdered, no_windows, number_of, window_of, is_live, is_marked, is_ended, told_if, ended_if, set_if, next_top, up, marked_if, RisesFrom};
 ghost use Rattle.win_tree.specs.Kin.{with_marked, IsFaultFor, is_bad, refusal, next_number, settled, with_window, doomed, doom_refusal, dropped, drop_refusal, is_below, is_alone, is_kin, is_of_other, without_thread, has_class};
-ghost use Rattle.win_tree.specs.Destruction.{unmade, given, next_step};
+ghost use Rattle.win_rows.specs.Destruction.{unmade, given, next_step};
 
-use crate::destruction::first_left;
-use crate::kin::{is_alone, is_below, is_kin, kin_numbers, top_of};
+use crate::kin::{is_alone, is_below, is_kin, kin_numbers, take_kin, top_of};
 use crate::plan::{Plan, begun, forget, plan_of, planned, reached};
-use crate::row::{Unmade, WindowRow};
-use crate::rows::{Rows, has};
-use crate::window::Window;
 use std::alloc::{AllocError, Global};
 use std::marker::Model;
 use win_num::names::WS_CHILD;
 use win_num::{Code, Fault, Hwnd, Rect, Thread};
+use win_rows::{Rows, Unmade, Window, WindowRow, first_left, has_number};
 
 /// How many windows may be live.
 const LIVE: usize = 1024;
@@ -41,7 +38,7 @@ pub struct Tree {
 
 impl Model for Tree {
     ghost use Rattle.std.specs.Prelude.{◌≡◌, map};
-    ghost use Rattle.win_tree.specs.Windows.{IsOrdered, Windows, number_of};
+    ghost use Rattle.win_rows.specs.Windows.{IsOrdered, Windows, number_of};
     ghost use Rattle.win_tree.specs.Plans.{EachPlan};
 
     ghost Value = { Windows };
@@ -213,7 +210,8 @@ impl Tree {
 
     /// Takes out a window that `Last` was answered for, with all that stands below it or is owned by it,
     /// by however many steps. `Win(1400)` comes exactly where it isn't live, else `Win(87)` where `Last`
-    /// didn't give it; both change nothing. Takes no memory.
+    /// didn't give it; both change nothing. Takes memory for a list of the kin where there is some, and
+    /// goes on without where not.
     pub fn drop_one(&mut self, w: Hwnd) -> Result<(), Code>
         ensures ok { OnOk result (self.new ≡ record self.old { live = dropped self.old.live w.0 }) }
         ensures cause { MatchResult result (λ _. drop_refusal self.old.live w.0 ≡ None) (λ code. drop_refusal self.old.live w.0 ≡ Some code) }
@@ -255,8 +253,8 @@ impl Tree {
     fn drop_each(&mut self, w: Hwnd)
         ensures { self.new ≡ record self.old { live = dropped self.old.live w.0 } }
     {
-        let rows = &self.rows;
-        self.numbers.retain(|v| !is_kin(rows, w, *v));
+        let alloc = *self.numbers.allocator();
+        take_kin(alloc, &self.rows, w, &mut self.numbers);
         self.rows.keep(&self.numbers);
         self.plans.clear();
     }
@@ -363,9 +361,11 @@ impl Tree {
 
 /// The first step of x's destruction that wasn't given.
 fn searched(windows: &Rows, x: &Window) -> Unmade
+    requires live { window_of windows.now x.now.number.0 ≡ Some x.now }
+    requires rising { RisesFrom 0 windows.now }
     ensures { result ≡ next_step windows.now x.now }
 {
-    match first_left(windows, x, windows.len()) {
+    match first_left(windows, x) {
         Some(step) => step,
         None => Unmade::Last(x.number),
     }
@@ -438,7 +438,7 @@ fn mark_these(windows: &mut Rows, kin: &[Hwnd])
 {
     for i in 0..windows.len() {
         let x = *windows.at(i);
-        let also = has(kin, x.number);
+        let also = has_number(kin, x.number);
         windows.put(i, x.marked_also(also));
     }
 }

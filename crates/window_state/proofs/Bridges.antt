@@ -4,8 +4,8 @@ use Rattle.std.specs.Prelude.{◌&&◌, ◌||◌, filter, find, option_map, unwr
 use Rattle.std.specs.List.{list_any}
 use Rattle.std.proofs.Math.Dec.{ltb}
 use Rattle.win_num.specs.declared.message.Hwnd.{Hwnd}
-use Rattle.win_tree.specs.declared.window.Window.{Window as KeptWindow}
-use Rattle.win_tree.specs.Windows as kept
+use Rattle.win_rows.specs.declared.window.Window.{Window as KeptWindow}
+use Rattle.win_rows.specs.Windows as kept
 use Rattle.win_tree.specs.Kin as kept_kin
 use Rattle.user_model.specs.Windows.{Window, find_window, up, above, parent_in, kin_within, is_kin, below_within, is_below, top_within, top_of}
 use Rattle.window_state.specs.Trees.{as_made}

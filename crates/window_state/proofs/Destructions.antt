@@ -3,8 +3,8 @@ use Rattle.std.proofs.Common.{◌≡◌, ℕ, zero, suc, Bool, true, false, not,
 use Rattle.std.specs.Prelude.{find, option_map}
 use Rattle.std.specs.List.{AllByRecursion, flat_map}
 use Rattle.std.proofs.lemmas.List.{map-append}
-use Rattle.win_tree.specs.declared.window.Window.{Window as KeptWindow}
-use Rattle.win_tree.specs.Destruction as kept
+use Rattle.win_rows.specs.declared.window.Window.{Window as KeptWindow}
+use Rattle.win_rows.specs.Destruction as kept
 use Rattle.user_model.specs.Past.{Past}
 use Rattle.user_model.specs.Windows.{Window}
 use Rattle.user_model.specs.Destruction.{Step, told, ended, told_step, ended_step, owned_by, children_of, preorder, postorder, destruction, was_given}

@@ -11,10 +11,10 @@ use Rattle.win_num.specs.Rects.{box_in}
 use Rattle.win_num.specs.declared.shapes.Rect.{Rect}
 use Rattle.win_num.specs.declared.names.TheConstants.{SWP_NOMOVE, SWP_NOSIZE, WS_VISIBLE}
 use Rattle.win_num.specs.declared.message.Thread.{Thread}
-use Rattle.win_tree.specs.declared.row.WindowRow.{WindowRow}
-use Rattle.win_tree.specs.declared.window.Window.{Window as KeptWindow}
-use Rattle.win_tree.specs.Windows.{Windows, set_if}
-use Rattle.win_tree.specs.Windows as kept
+use Rattle.win_rows.specs.declared.row.WindowRow.{WindowRow}
+use Rattle.win_rows.specs.declared.window.Window.{Window as KeptWindow}
+use Rattle.win_rows.specs.Windows.{Windows, set_if}
+use Rattle.win_rows.specs.Windows as kept
 use Rattle.user_model.specs.declared.call.Call.{Call}
 use Rattle.user_model.specs.declared.call.Call.TheVariants as calls
 use Rattle.user_model.specs.declared.entry.Answer.TheVariants as answers

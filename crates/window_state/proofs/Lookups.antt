@@ -1,11 +1,11 @@
 -- What a look-up in the table of windows finds.
 use Rattle.std.proofs.Common.{◌≡◌, ℕ, Bool, false, List, Option, Some, None, refl, ap, sym}
 use Rattle.std.specs.Prelude.{is_some, option_map, unwrap_or}
-use Rattle.win_tree.specs.declared.window.Window.{Window}
-use Rattle.win_tree.specs.declared.row.WindowRow.{WindowRow}
+use Rattle.win_rows.specs.declared.window.Window.{Window}
+use Rattle.win_rows.specs.declared.row.WindowRow.{WindowRow}
 use Rattle.win_num.specs.declared.message.Hwnd.{Hwnd}
 use Rattle.win_num.specs.declared.names.TheConstants.{WS_VISIBLE}
-use Rattle.win_tree.specs.Windows.{nobody, number_of, window_of, is_marked, is_ended}
+use Rattle.win_rows.specs.Windows.{nobody, number_of, window_of, is_marked, is_ended}
 use Rattle.win_tree.specs.Kin.{parent_of}
 use Rattle.user_model.specs.Windows.{has_flag}
 use Rattle.window_state.specs.Placings.{shown_in}

@@ -3,7 +3,7 @@ use Rattle.std.proofs.Common.{◌≡◌, ℕ, zero, suc, ◌+◌, ◌*◌, ◌^�
 use Rattle.std.specs.Prelude.{◌&&◌, ◌||◌, bit_and, ℤ, map}
 use Rattle.std.specs.List.{AllByRecursion}
 use Rattle.std.proofs.lemmas.Bool.Decides.{nat_tests}
-use Rattle.win_tree.specs.declared.window.Window.{Window as KeptWindow}
+use Rattle.win_rows.specs.declared.window.Window.{Window as KeptWindow}
 use Rattle.std.proofs.lemmas.Bool.{eqb-true, eq-eqb, ne_eqb, eqb-false, true≢false, leb-false, and_right}
 use Rattle.std.proofs.Math.Dec.{leb}
 use Rattle.std.specs.Int.{bit_at}
@@ -15,9 +15,9 @@ use Rattle.win_num.specs.declared.names.TheConstants.{WS_CHILD}
 use Rattle.win_num.specs.declared.message.Hwnd.{Hwnd}
 use Rattle.win_num.specs.declared.message.Thread.{Thread}
 use Rattle.win_num.specs.declared.code.Code.TheVariants.{Win, Full}
-use Rattle.win_tree.specs.declared.row.WindowRow.{WindowRow}
-use Rattle.win_tree.specs.Windows.{Windows, made, nobody}
-use Rattle.win_tree.specs.Windows as kept
+use Rattle.win_rows.specs.declared.row.WindowRow.{WindowRow}
+use Rattle.win_rows.specs.Windows.{Windows, made, nobody}
+use Rattle.win_rows.specs.Windows as kept
 use Rattle.win_tree.specs.Kin.{with_window, settled, next_number, refusal, is_bad, makes_child, doom_refusal, drop_refusal}
 use Rattle.win_tree.specs.Kin as kept_kin
 use Rattle.user_model.specs.declared.call.Call.TheVariants as calls

@@ -11,8 +11,8 @@ use Rattle.win_num.specs.PixelSets.{box, is_bad_rect}
 use Rattle.win_num.specs.declared.shapes.BadRect.{BadRect}
 use Rattle.win_num.specs.declared.shapes.Rect.{Rect}
 use Rattle.win_num.specs.Rects.{box_in}
-use Rattle.win_tree.specs.declared.row.WindowRow.{WindowRow}
-use Rattle.win_tree.specs.Windows.{Windows}
+use Rattle.win_rows.specs.declared.row.WindowRow.{WindowRow}
+use Rattle.win_rows.specs.Windows.{Windows}
 use Rattle.win_tree.specs.Kin.{with_window}
 use Rattle.user_model.specs.declared.call.Call.TheVariants.{NewWindow}
 use Rattle.window_state.specs.Effects.{IsMadeBy, IsRowOf}

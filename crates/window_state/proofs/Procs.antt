@@ -3,9 +3,9 @@ use Rattle.std.proofs.Common.{◌≡◌, ℕ, List, map, Option, Some, None, ref
 use Rattle.std.specs.Prelude.{option_map, unwrap_or}
 use Rattle.win_class.specs.declared.classes.Class.{Class as KeptClass}
 use Rattle.win_class.specs.ClassTable.{ClassTable, class_in}
-use Rattle.win_tree.specs.declared.window.Window.{Window as KeptWindow}
-use Rattle.win_tree.specs.declared.row.WindowRow.{WindowRow}
-use Rattle.win_tree.specs.Windows as kept
+use Rattle.win_rows.specs.declared.window.Window.{Window as KeptWindow}
+use Rattle.win_rows.specs.declared.row.WindowRow.{WindowRow}
+use Rattle.win_rows.specs.Windows as kept
 use Rattle.user_model.specs.Past.{Past}
 use Rattle.user_model.specs.Windows.{Window, find_window, live}
 use Rattle.user_model.specs.Classes.{Class, class, proc_of}

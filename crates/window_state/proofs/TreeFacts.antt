@@ -6,13 +6,13 @@ use Rattle.std.proofs.Math.Dec.{ltb}
 use Rattle.std.proofs.lemmas.Bool.{eqb-true, false≢true, true≢false, and_right}
 use Rattle.std.proofs.lemmas.List.{length-map}
 use Rattle.win_num.specs.declared.message.Hwnd.{Hwnd}
-use Rattle.win_tree.specs.declared.row.Unmade.{Unmade}
-use Rattle.win_tree.specs.declared.row.Unmade.TheVariants as unmade_as
-use Rattle.win_tree.specs.declared.window.Window.{Window as KeptWindow}
-use Rattle.win_tree.specs.Windows.{Windows, no_windows}
-use Rattle.win_tree.specs.Windows as kept
+use Rattle.win_rows.specs.declared.row.Unmade.{Unmade}
+use Rattle.win_rows.specs.declared.row.Unmade.TheVariants as unmade_as
+use Rattle.win_rows.specs.declared.window.Window.{Window as KeptWindow}
+use Rattle.win_rows.specs.Windows.{Windows, no_windows}
+use Rattle.win_rows.specs.Windows as kept
 use Rattle.win_tree.specs.Kin as kept_kin
-use Rattle.win_tree.specs.Destruction as kept_steps
+use Rattle.win_rows.specs.Destruction as kept_steps
 use Rattle.user_model.specs.declared.entry.Answer.{Answer}
 use Rattle.user_model.specs.declared.entry.Answer.TheVariants as answers
 use Rattle.user_model.specs.declared.entry.Setup.{Setup}

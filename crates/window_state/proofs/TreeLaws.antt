@@ -6,12 +6,12 @@ use Rattle.std.proofs.lemmas.Bool.{cases_Bool, eqb-true, eq-eqb, ne_eqb, eqb-fal
 use Rattle.std.proofs.lemmas.List.{append-nil}
 use Rattle.win_num.specs.declared.message.Hwnd.{Hwnd}
 use Rattle.win_num.specs.declared.message.Thread.{Thread}
-use Rattle.win_tree.specs.declared.row.Unmade.TheVariants as unmade_as
-use Rattle.win_tree.specs.declared.window.Window.{Window as KeptWindow}
-use Rattle.win_tree.specs.Windows.{Windows, made, told_if, ended_if}
+use Rattle.win_rows.specs.declared.row.Unmade.TheVariants as unmade_as
+use Rattle.win_rows.specs.declared.window.Window.{Window as KeptWindow}
+use Rattle.win_rows.specs.Windows.{Windows, made, told_if, ended_if}
 use Rattle.win_tree.specs.Kin.{doomed, doomed_if, dropped, without_thread}
 use Rattle.win_tree.specs.Kin as kept_kin
-use Rattle.win_tree.specs.Destruction.{given}
+use Rattle.win_rows.specs.Destruction.{given}
 use Rattle.user_model.specs.declared.call.Call.{Call}
 use Rattle.user_model.specs.declared.call.Call.TheVariants as calls
 use Rattle.user_model.specs.declared.entry.Answer.{Answer}

@@ -8,8 +8,8 @@ use Rattle.win_num.specs.PixelSets.{is_bad_rect, is_far}
 use Rattle.win_num.specs.declared.names.TheConstants.{WS_CHILD, WS_EX_TOPMOST, WS_POPUP}
 use Rattle.win_num.specs.declared.message.Hwnd.{Hwnd}
 use Rattle.win_num.specs.declared.message.Thread.{Thread}
-use Rattle.win_tree.specs.Windows.{Windows}
-use Rattle.win_tree.specs.Windows as kept
+use Rattle.win_rows.specs.Windows.{Windows}
+use Rattle.win_rows.specs.Windows as kept
 use Rattle.user_model.specs.declared.call.Call.{Call}
 use Rattle.user_model.specs.declared.call.Call.TheVariants as calls
 use Rattle.user_model.specs.declared.entry.Answer.{Answer}

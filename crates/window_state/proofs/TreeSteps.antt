@@ -5,10 +5,10 @@ use Rattle.std.proofs.lemmas.Bool.{true≢false}
 use Rattle.win_num.specs.PixelSets.{box}
 use Rattle.win_num.specs.declared.message.Hwnd.{Hwnd}
 use Rattle.win_num.specs.declared.message.Thread.{Thread}
-use Rattle.win_tree.specs.declared.row.Unmade.{Unmade}
-use Rattle.win_tree.specs.declared.row.Unmade.TheVariants as unmade_as
-use Rattle.win_tree.specs.Windows.{Windows}
-use Rattle.win_tree.specs.Destruction.{unmade, given}
+use Rattle.win_rows.specs.declared.row.Unmade.{Unmade}
+use Rattle.win_rows.specs.declared.row.Unmade.TheVariants as unmade_as
+use Rattle.win_rows.specs.Windows.{Windows}
+use Rattle.win_rows.specs.Destruction.{unmade, given}
 use Rattle.user_model.specs.declared.call.Call.{Call}
 use Rattle.user_model.specs.declared.call.Call.TheVariants as calls
 use Rattle.user_model.specs.declared.entry.Answer.{Answer}

@@ -5,11 +5,11 @@ use Rattle.win_num.specs.Rects.{box_in}
 use Rattle.win_num.specs.PixelSets.{box}
 use Rattle.win_num.specs.declared.names.TheConstants.{WS_CHILD}
 use Rattle.win_class.specs.ClassTable.{ClassTable, with_class, with_message, without_class}
-use Rattle.win_tree.specs.declared.row.WindowRow.{WindowRow}
-use Rattle.win_tree.specs.declared.window.Window.{Window as KeptWindow}
-use Rattle.win_tree.specs.Windows.{Windows, window_of, set_if}
+use Rattle.win_rows.specs.declared.row.WindowRow.{WindowRow}
+use Rattle.win_rows.specs.declared.window.Window.{Window as KeptWindow}
+use Rattle.win_rows.specs.Windows.{Windows, window_of, set_if}
 use Rattle.win_tree.specs.Kin.{with_window, doomed, dropped, without_thread}
-use Rattle.win_tree.specs.Destruction.{unmade, given}
+use Rattle.win_rows.specs.Destruction.{unmade, given}
 use Rattle.user_model.specs.declared.call.Call.{Call}
 use Rattle.user_model.specs.declared.call.Call.TheVariants.{Register, Message, Unregister, NewWindow, Doom, Unmake, Drop, Place, Show}
 use Rattle.user_model.specs.declared.entry.Answer.{Answer}

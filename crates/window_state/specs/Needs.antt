@@ -4,9 +4,9 @@ use Rattle.win_num.specs.PixelSets.{is_bad_rect}
 use Rattle.win_num.specs.declared.code.Fault.{Fault}
 use Rattle.win_num.specs.declared.code.Fault.TheVariants.{Refused, Memory}
 use Rattle.win_class.specs.ClassTable.{ClassTable, register_refusal, message_refusal}
-use Rattle.win_tree.specs.declared.row.WindowRow.{WindowRow}
-use Rattle.win_tree.specs.declared.window.Window.{Window}
-use Rattle.win_tree.specs.Windows.{Windows, is_live, window_of}
+use Rattle.win_rows.specs.declared.row.WindowRow.{WindowRow}
+use Rattle.win_rows.specs.declared.window.Window.{Window}
+use Rattle.win_rows.specs.Windows.{Windows, is_live, window_of}
 use Rattle.win_tree.specs.Kin.{refusal}
 use Rattle.user_model.specs.declared.call.Call.{Call}
 use Rattle.user_model.specs.declared.call.Call.TheVariants.{Register, Message, NewWindow, Unmake, Place, Show}

@@ -1,8 +1,8 @@
 -- Placings and looks of the code as the definitions have them.
 use Rattle.std.specs.Prelude.{ℕ, ℤ, Bool, false, List, Some, None}
 use Rattle.win_num.specs.declared.names.TheConstants.{WS_VISIBLE}
-use Rattle.win_tree.specs.declared.window.Window.{Window}
-use Rattle.win_tree.specs.Windows.{window_of}
+use Rattle.win_rows.specs.declared.window.Window.{Window}
+use Rattle.win_rows.specs.Windows.{window_of}
 use Rattle.win_num.specs.PixelSets.{Box, box}
 use Rattle.win_num.specs.Rects.{box_in}
 use Rattle.user_model.specs.Windows.{has_flag}

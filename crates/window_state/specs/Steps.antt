@@ -1,9 +1,9 @@
 -- Steps of a destruction as answers.
 use Rattle.std.specs.Prelude.{if◌then◌else◌, ℕ, ◌==◌, Some, None}
 use Rattle.win_num.specs.declared.message.Hwnd.{Hwnd}
-use Rattle.win_tree.specs.declared.row.Unmade.{Unmade}
-use Rattle.win_tree.specs.declared.row.Unmade.TheVariants as steps
-use Rattle.win_tree.specs.declared.row.WindowRow.{WindowRow}
+use Rattle.win_rows.specs.declared.row.Unmade.{Unmade}
+use Rattle.win_rows.specs.declared.row.Unmade.TheVariants as steps
+use Rattle.win_rows.specs.declared.row.WindowRow.{WindowRow}
 use Rattle.user_model.specs.declared.entry.Answer.{Answer}
 use Rattle.user_model.specs.declared.entry.Answer.TheVariants.{Tell, Last, Gone}
 use Rattle.user_model.specs.Past.{Past}

@@ -1,7 +1,7 @@
 //! What is looked up in the table of windows.
 
 ghost use Rattle.std.specs.Prelude.{◌≡◌, ◌==◌, ◌||◌, IsTrue};
-ghost use Rattle.win_tree.specs.Windows.{is_live};
+ghost use Rattle.win_rows.specs.Windows.{is_live};
 ghost use Rattle.win_tree.specs.Kin.{parent_of};
 ghost use Rattle.window_state.specs.Steps.{told_of, up_of};
 ghost use Rattle.window_state.specs.Trees.{thread_in};

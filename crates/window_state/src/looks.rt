@@ -4,7 +4,7 @@ ghost use Rattle.std.specs.Prelude.{◌≡◌, ◌&&◌, FitsSigned, not, ◌+�
 ghost use Rattle.std.specs.Int.{w32};
 ghost use Rattle.win_num.specs.PixelSets.{box, same_int};
 ghost use Rattle.win_num.specs.Rects.{box_in};
-ghost use Rattle.win_tree.specs.Windows.{is_live, window_of};
+ghost use Rattle.win_rows.specs.Windows.{is_live, window_of};
 ghost use Rattle.user_model.specs.Looks.{corner_and_size, moved_by, pinned_by, placed, shown, shown_look, styled_by};
 ghost use Rattle.user_model.specs.Refusals.{is_no_rect, is_outside};
 ghost use Rattle.user_model.specs.Windows.{has_flag};

@@ -1,7 +1,7 @@
 use Rattle.std.proofs.Common.{◌≡◌, ◌<◌, ◌∙◌, ◌++◌, ◌∷◌, [], List, length, false, eqb, sym, ap, arith, rules, tests}
 use Rattle.std.proofs.lemmas.List.{take_all}
 use Rattle.win_num.specs.declared.message.Hwnd.{Hwnd}
-use Rattle.win_tree.specs.declared.window.Window.{Window}
+use Rattle.win_rows.specs.declared.window.Window.{Window}
 use Rattle.win_tree.specs.Kin.{is_more, kin_of}
 use Rattle.win_tree.proofs.KinLists.{kin_put, kin_passed, kin_rise}
 use Rattle.win_tree.proofs.kin.kin_numbers.Goals as goal

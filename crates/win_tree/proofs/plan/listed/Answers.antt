@@ -1,7 +1,8 @@
 use Rattle.std.proofs.Common.{◌≡◌, ◌∙◌, true, rules, tests}
 use Rattle.win_tree.specs.Kin.{is_alone}
-use Rattle.win_tree.proofs.Listing.{so_some, alone_order}
-use Rattle.win_tree.proofs.Ones.{number_is}
+use Rattle.win_rows.proofs.Listing.{so_some}
+use Rattle.win_tree.proofs.AloneSteps.{alone_order}
+use Rattle.win_rows.proofs.Ones.{number_is}
 use Rattle.win_tree.proofs.plan.listed.Goals as goal
 
 pub returns-then-is_alone : goal.returns-then-is_alone

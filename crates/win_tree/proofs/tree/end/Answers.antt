@@ -1,6 +1,6 @@
 use Rattle.std.proofs.Common.{◌∙◌, set, sym, ap}
-use Rattle.win_tree.specs.Windows.{ended_if}
-use Rattle.win_tree.proofs.Ones.{map_one, map_none, ended_other}
+use Rattle.win_rows.specs.Windows.{ended_if}
+use Rattle.win_rows.proofs.Ones.{map_one, map_none, ended_other}
 use Rattle.win_tree.proofs.tree.end.Goals as goal
 
 pub returns-in-Some : goal.returns-in-Some

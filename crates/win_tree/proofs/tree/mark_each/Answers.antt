@@ -1,5 +1,5 @@
 use Rattle.std.proofs.Common.{◌∙◌, Bool, ap, arith}
-use Rattle.win_tree.specs.Windows.{marked_also}
+use Rattle.win_rows.specs.Windows.{marked_also}
 use Rattle.win_tree.proofs.Marking.{one_more}
 use Rattle.win_tree.proofs.tree.mark_each.Goals as goal
 

@@ -1,6 +1,6 @@
 use Rattle.std.proofs.Common.{◌∙◌, set, sym, ap}
-use Rattle.win_tree.specs.Windows.{set_if}
-use Rattle.win_tree.proofs.Ones.{map_one, map_none, set_other}
+use Rattle.win_rows.specs.Windows.{set_if}
+use Rattle.win_rows.proofs.Ones.{map_one, map_none, set_other}
 use Rattle.win_tree.proofs.tree.set_row.Goals as goal
 
 pub returns-in-Some : goal.returns-in-Some

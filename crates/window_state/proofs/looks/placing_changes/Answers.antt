@@ -1,6 +1,6 @@
 use Rattle.std.proofs.Common.{ap, sym, ◌∙◌}
 use Rattle.std.specs.Prelude.{Option, Some, None}
-use Rattle.win_tree.specs.declared.window.Window.{Window}
+use Rattle.win_rows.specs.declared.window.Window.{Window}
 use Rattle.user_model.specs.Looks.{placed}
 use Rattle.user_model.specs.ReplyWindows.{changes_told}
 use Rattle.window_state.specs.Trees.{look_in}

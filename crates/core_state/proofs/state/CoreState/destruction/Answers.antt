@@ -2,7 +2,7 @@ use Rattle.std.proofs.Common.{◌≡◌, true, false, reverse, subst, ap, sym, �
 use Rattle.user_model.specs.Past.{Past}
 use Rattle.std.specs.Prelude.{is_some}
 use Rattle.std.proofs.lemmas.Bool.{false≢true}
-use Rattle.win_tree.specs.Destruction.{unmade}
+use Rattle.win_rows.specs.Destruction.{unmade}
 use Rattle.user_model.specs.Windows.{is_live}
 use Rattle.user_model.specs.Destruction.{is_marked}
 use Rattle.core_state.specs.States.{Seen}

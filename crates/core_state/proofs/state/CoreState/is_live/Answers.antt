@@ -1,7 +1,7 @@
 use Rattle.std.proofs.Common.{reverse, ap, sym, ◌∙◌}
 use Rattle.user_model.specs.Past.{Past}
 use Rattle.std.specs.Prelude.{is_some}
-use Rattle.win_tree.specs.Windows.{window_of}
+use Rattle.win_rows.specs.Windows.{window_of}
 use Rattle.user_model.specs.Windows.{is_live}
 use Rattle.core_state.specs.States.{Seen}
 use Rattle.window_state.proofs.Lookups.{number_found}

@@ -1,7 +1,7 @@
 use Rattle.std.proofs.Common.{reverse, ap, ◌∙◌}
 use Rattle.user_model.specs.Past.{Past}
 use Rattle.std.specs.Prelude.{◌&&◌}
-use Rattle.win_tree.specs.Windows as kept
+use Rattle.win_rows.specs.Windows as kept
 use Rattle.user_model.specs.Windows.{is_live}
 use Rattle.user_model.specs.Destruction.{is_marked}
 use Rattle.core_state.specs.States.{Seen}

@@ -3,7 +3,7 @@ use Rattle.user_model.specs.Past.{Past}
 use Rattle.user_model.specs.Windows.{is_live}
 use Rattle.user_model.specs.Looks.{look, placed}
 use Rattle.user_model.specs.ReplyWindows.{changes_told}
-use Rattle.win_tree.specs.Windows as kept
+use Rattle.win_rows.specs.Windows as kept
 use Rattle.core_state.specs.States.{Seen}
 use Rattle.window_state.specs.Placings.{box_of}
 use Rattle.window_state.proofs.LookSteps.{changes_at, places_fit}

@@ -1,7 +1,7 @@
 use Rattle.std.proofs.Common.{reverse, ap, ◌∙◌}
 use Rattle.user_model.specs.Past.{Past}
 use Rattle.user_model.specs.Classes.{proc_of}
-use Rattle.win_tree.specs.Windows.{window_of}
+use Rattle.win_rows.specs.Windows.{window_of}
 use Rattle.core_state.specs.States.{Seen}
 use Rattle.window_state.proofs.Procs.{no_proc, unfound}
 use Rattle.core_state.proofs.state.CoreState.proc_of.Goals as goal

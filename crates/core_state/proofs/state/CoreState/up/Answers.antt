@@ -1,8 +1,8 @@
 use Rattle.std.proofs.Common.{Option, Some, ℕ, reverse, ap, sym, ◌∙◌}
 use Rattle.std.specs.Prelude.{option_map}
 use Rattle.win_num.specs.declared.message.Hwnd.{Hwnd}
-use Rattle.win_tree.specs.declared.window.Window.{Window}
-use Rattle.win_tree.specs.Windows.{window_of}
+use Rattle.win_rows.specs.declared.window.Window.{Window}
+use Rattle.win_rows.specs.Windows.{window_of}
 use Rattle.user_model.specs.Past.{Past}
 use Rattle.user_model.specs.Windows.{up, window}
 use Rattle.core_state.specs.States.{Seen}

@@ -1,6 +1,6 @@
 use Rattle.std.proofs.Common.{◌≡◌, ◌+◌, ◌≤◌, None, subst, sym, arith, rules, tests}
-use Rattle.win_tree.specs.declared.window.Window.{Window}
-use Rattle.win_tree.specs.Windows.{Windows, up, made}
+use Rattle.win_rows.specs.declared.window.Window.{Window}
+use Rattle.win_rows.specs.Windows.{Windows, up, made}
 use Rattle.win_tree.specs.Kin.{refusal, settled}
 use Rattle.win_tree.proofs.Ordered.{new_older, owner_older}
 use Rattle.win_tree.proofs.tree.Tree.add.Goals as goal

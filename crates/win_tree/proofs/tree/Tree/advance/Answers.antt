@@ -2,7 +2,7 @@ use Rattle.std.proofs.Common.{◌≡◌, ◌∙◌, List, sym, subst}
 use Rattle.std.proofs.lemmas.List.{get_or_default}
 use Rattle.win_tree.specs.declared.plan.Plan.{Plan}
 use Rattle.win_tree.specs.Plans.{HasPlan, IsPlan, IsReached}
-use Rattle.win_tree.proofs.Alls.{all_at}
+use Rattle.win_rows.proofs.Alls.{all_at}
 use Rattle.win_tree.proofs.Planned.{plans_changed, plan_further}
 use Rattle.win_tree.proofs.tree.Tree.advance.Goals as goal
 

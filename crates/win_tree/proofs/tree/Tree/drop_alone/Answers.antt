@@ -1,12 +1,12 @@
 use Rattle.std.proofs.Common.{◌≡◌, subst, ◌∙◌, true, not, eqb, refl, ap, sym, map, filter, List, remove, rules, tests}
 use Rattle.win_num.specs.declared.message.Hwnd.{Hwnd}
-use Rattle.win_tree.specs.declared.window.Window.{Window}
-use Rattle.win_tree.specs.Windows.{Windows, IsOrdered, number_of}
+use Rattle.win_rows.specs.declared.window.Window.{Window}
+use Rattle.win_rows.specs.Windows.{Windows, IsOrdered, number_of}
 use Rattle.win_tree.specs.Kin.{is_alone}
 use Rattle.win_tree.proofs.Ordered.{ordered_filter}
-use Rattle.win_tree.proofs.Indexed.{map-remove}
+use Rattle.win_rows.proofs.Indexed.{map-remove}
 use Rattle.win_tree.proofs.Alone.{alone_dropped}
-use Rattle.win_tree.proofs.Ones.{filter_one, filter_none}
+use Rattle.win_rows.proofs.Ones.{filter_one, filter_none}
 use Rattle.win_tree.specs.Plans.{EachPlan}
 use Rattle.win_tree.specs.declared.plan.Plan.{Plan}
 use Rattle.win_tree.proofs.Planned.{plans_left}

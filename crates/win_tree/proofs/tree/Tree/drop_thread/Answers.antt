@@ -1,16 +1,16 @@
 use Rattle.std.proofs.Common.{◌≡◌, ◌∙◌, List, subst, filter, map, not, eqb, ap, refl, sym, rules, tests}
 use Rattle.std.proofs.lemmas.Fn.{filter_same}
 use Rattle.win_num.specs.declared.message.Hwnd.{Hwnd}
-use Rattle.win_tree.specs.declared.window.Window.{Window}
-use Rattle.win_tree.specs.Windows.{IsOrdered, number_of}
+use Rattle.win_rows.specs.declared.window.Window.{Window}
+use Rattle.win_rows.specs.Windows.{IsOrdered, number_of}
 use Rattle.win_tree.specs.Kin.{is_of_other, without_thread}
-use Rattle.win_tree.specs.Index.{has}
+use Rattle.win_rows.specs.Index.{has}
 use Rattle.win_tree.proofs.Ordered.{ordered_filter}
 use Rattle.win_tree.proofs.Drops.{kept_windows, some_rise}
 use Rattle.win_tree.proofs.ThreadDrops.{numbers_left, windows_left}
 use Rattle.std.specs.List.{AllByRecursion}
 use Rattle.win_tree.specs.Plans.{EachPlan, HasOlderOwner}
-use Rattle.win_tree.proofs.Alls.{all_filter}
+use Rattle.win_rows.proofs.Alls.{all_filter}
 use Rattle.win_tree.proofs.Planned.{no_plans}
 use Rattle.win_tree.proofs.tree.Tree.drop_thread.Goals as goal
 

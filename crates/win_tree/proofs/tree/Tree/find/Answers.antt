@@ -1,9 +1,9 @@
 use Rattle.std.proofs.Common.{◌≡◌, ◌∙◌, inl, inr, Option, None, Some, is_some, false, option_map, refl, sym, ap, arith}
 use Rattle.std.proofs.lemmas.Bool.{cases_Bool}
-use Rattle.win_tree.specs.declared.window.Window.{Window}
-use Rattle.win_tree.specs.Windows.{Windows, window_of, is_live, number_of}
+use Rattle.win_rows.specs.declared.window.Window.{Window}
+use Rattle.win_rows.specs.Windows.{Windows, window_of, is_live, number_of}
 use Rattle.win_tree.proofs.Ordered.{live_small}
-use Rattle.win_tree.proofs.Ones.{number_is}
+use Rattle.win_rows.proofs.Ones.{number_is}
 use Rattle.win_tree.proofs.tree.Tree.find.Goals as goal
 
 none_if : (o : Option Window) → is_some o ≡ false → None ≡ option_map number_of o

@@ -1,11 +1,11 @@
-use Rattle.std.proofs.Common.{◌≡◌, ◌∙◌, List, Some, true, sym, ap, subst, rules, tests}
+use Rattle.std.proofs.Common.{◌≡◌, ◌∙◌, List, Some, true, sym, ap, subst, rules, tests, arith}
 use Rattle.win_num.specs.declared.message.Hwnd.{Hwnd}
 use Rattle.win_tree.specs.declared.plan.Plan.{Plan}
-use Rattle.win_tree.specs.Windows.{Windows, window_of}
-use Rattle.win_tree.specs.Destruction.{unmade}
+use Rattle.win_rows.specs.Windows.{Windows, window_of}
+use Rattle.win_rows.specs.Destruction.{unmade}
 use Rattle.win_tree.specs.Plans.{HasPlan, IsPlan}
-use Rattle.win_tree.proofs.Alls.{all_at}
-use Rattle.win_tree.proofs.Ones.{number_is}
+use Rattle.win_rows.proofs.Alls.{all_at}
+use Rattle.win_rows.proofs.Ones.{number_is, rising}
 use Rattle.win_tree.proofs.Planned.{planned_step, unmade_marked, same_hwnd}
 use Rattle.win_tree.proofs.tree.Tree.next_step.Goals as goal
 
@@ -27,3 +27,13 @@ returns-in-Some-plan_of c =
     ∙ sym (planned_step c.self.inside.last ws p x c.planned.ensures.0 c.self.invariant.1 plan there number c.planned.ensures.1)
     ∙ sym (unmade_marked ws w.0 x found marked)
     ∙ ap (λ (t : Windows). unmade t.live w.0) c.self.view_is
+
+pub searched-requires : goal.searched-requires
+searched-requires c =
+    let ws = c.self.inside.rows in
+    let x = c.in-Some.x.now in
+    let found : window_of ws c.args.w.0 ≡ Some x = sym c.in-Some.ensures in
+    record {
+      live = ap (window_of ws) (number_is ws c.args.w.0 x found) ∙ found;
+      rising = rising 0 15 c.self.inside.last ws (omega arith) c.self.invariant.1;
+    }

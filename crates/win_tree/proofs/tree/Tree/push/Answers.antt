@@ -1,10 +1,10 @@
 use Rattle.std.proofs.Common.{◌≡◌, ◌<◌, ◌∷◌, ◌++◌, [], subst, sym, arith, rules, tests}
-use Rattle.win_tree.specs.Windows.{Windows}
+use Rattle.win_rows.specs.Windows.{Windows}
 use Rattle.win_tree.proofs.Ordered.{ordered_more, put_last}
-use Rattle.win_tree.proofs.Ones.{rising}
+use Rattle.win_rows.proofs.Ones.{rising}
 use Rattle.std.specs.List.{AllByRecursion}
 use Rattle.win_tree.specs.Plans.{EachPlan, HasOlderOwner}
-use Rattle.win_tree.proofs.Alls.{all_append}
+use Rattle.win_rows.proofs.Alls.{all_append}
 use Rattle.win_tree.proofs.Planned.{no_plans}
 use Rattle.win_tree.proofs.tree.Tree.push.Goals as goal
 

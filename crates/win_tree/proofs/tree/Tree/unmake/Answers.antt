@@ -1,6 +1,6 @@
 use Rattle.std.proofs.Common.{List, subst, ◌∙◌, map, sym, ap}
-use Rattle.win_tree.specs.declared.window.Window.{Window}
-use Rattle.win_tree.specs.Windows.{IsOrdered, number_of}
+use Rattle.win_rows.specs.declared.window.Window.{Window}
+use Rattle.win_rows.specs.Windows.{IsOrdered, number_of}
 use Rattle.win_tree.proofs.Ordered.{ordered_given}
 use Rattle.win_tree.proofs.Numbers.{given_numbers}
 use Rattle.win_tree.specs.Plans.{EachPlan}

@@ -1,0 +1,71 @@
+use Rattle.std.proofs.Common.{◌≡◌, ◌≢◌, ◌∙◌, ◌≤◌, ◌++◌, ◌∷◌, [], ℕ, List, Option, Some, None, sym, ap, subst, refl}
+use Rattle.slab.specs.Slab.{Slab, get}
+use Rattle.post_queue.specs.declared.slot.Slot.{Slot}
+use Rattle.post_queue.specs.Queue.{post_of}
+use Rattle.post_queue.specs.Chains.{posted_of, posted_at, first_key, last_key, above_all, Linked, IsAfterChanged, IsChangedAt}
+use Rattle.post_queue.proofs.Chains.{pushed, pushed_posted}
+use Rattle.post_queue.proofs.Indexes.{appended, below_all, first_more, last_more, linked_same, posted_same}
+use Rattle.post_queue.proofs.chain.push.Goals as goal
+
+pub returns-in_err-reserve-clause-chain : goal.returns-in_err-reserve-clause-chain
+returns-in_err-reserve-clause-chain c = record {
+  linked = linked_same c.args.chain.now.slots c.reserve.new.self c.args.chain.now.index.entries c.args.chain.now.index.entries c.reserve.ensures.rest_kept refl c.requires.chain.linked;
+  first = c.requires.chain.first;
+  last = c.requires.chain.last;
+}
+
+pub returns-in_default-clause-chain : goal.returns-in_default-clause-chain
+returns-in_default-clause-chain c = record {
+  linked = linked_same c.args.chain.now.slots c.reserve.new.self c.args.chain.now.index.entries c.insert.new.self.entries c.reserve.ensures.rest_kept c.in_default.ensures.err c.requires.chain.linked;
+  first = c.requires.chain.first ∙ ap (λ (es : List (ℕ × ℕ)). first_key es None) (sym c.in_default.ensures.err);
+  last = c.requires.chain.last ∙ ap (last_key None) (sym c.in_default.ensures.err);
+}
+
+pub returns-in_default-clause-err : goal.returns-in_default-clause-err
+returns-in_default-clause-err c = posted_same c.args.chain.now.slots c.reserve.new.self c.args.chain.now.index.entries c.insert.new.self.entries c.reserve.ensures.rest_kept c.in_default.ensures.err
+
+module _ (s s1 s2 s3 : Slab Slot) (es es' : List (ℕ × ℕ)) (n key key' : ℕ) (first last first' : Option ℕ) (y : Slot) (kept : s1 ≡ record s { capacity = s1.capacity }) (linked : Linked (get s) None 0 es None) (is_first : first ≡ first_key es None) (is_last : last ≡ last_key None es) (low : above_all 0 es ≤ n) (same_key : key' ≡ key) (vacant : get s1 key ≡ None) (put : get s2 key' ≡ Some y) (others : (c : ℕ) → c ≢ key' → get s2 c ≡ get s1 c) (number : y.number ≡ n) (is_before : y.before ≡ last) (is_after : y.after ≡ None) (changed : IsChangedAt last (IsAfterChanged (Some key)) (get s2) (get s3)) (entries : es' ≡ es ++ (n, key) ∷ []) where
+  before : Slab Slot → ℕ → Option Slot
+  before t = get t
+
+  was : (c : ℕ) → get s1 c ≡ get s c
+  was c = ap (λ (t : Slab Slot). get t c) kept
+
+  free : get s key ≡ None
+  free = sym (was key) ∙ vacant
+
+  there : get s2 key ≡ Some y
+  there = ap (get s2) (sym same_key) ∙ put
+
+  rest : (c : ℕ) → c ≢ key → get s2 c ≡ get s c
+  rest c differs = others c (λ same. differs (same ∙ same_key)) ∙ was c
+
+  after : IsChangedAt (last_key None es) (IsAfterChanged (Some key)) (get s2) (get s3)
+  after = subst (λ (o : Option ℕ). IsChangedAt o (IsAfterChanged (Some key)) (get s2) (get s3)) is_last changed
+
+  more_linked : Linked (get s3) None 0 es' None
+  more_linked = subst (λ (ds : List (ℕ × ℕ)). Linked (get s3) None 0 ds None) (sym entries) (pushed (get s) (get s2) (get s3) es n key y linked low free there rest number (is_before ∙ is_last) is_after after)
+
+  more_posted : posted_at (get s3) es' ≡ posted_at (get s) es ++ posted_of y ∷ []
+  more_posted = ap (posted_at (get s3)) entries ∙ pushed_posted (get s) (get s2) (get s3) es n key y linked low free there rest number (is_before ∙ is_last) is_after after
+
+pub returns-clause-chain : goal.returns-clause-chain
+returns-clause-chain c =
+    let s = c.args.chain.now.slots in
+    let es = c.args.chain.now.index.entries in
+    let low : above_all 0 es ≤ c.args.number = below_all (get s) c.args.number es c.requires.chain.linked c.requires.above in
+    let entries : c.insert.new.self.entries ≡ es ++ (c.args.number, c.vacant_key-key.result) ∷ [] = c.in-Ok.ensures.entries ∙ appended (get s) c.args.number c.vacant_key-key.result None 0 es None c.requires.chain.linked low in
+    record {
+      linked = more_linked s c.reserve.new.self c.insert_reserved.new.self c.set_after.new.slots es c.insert.new.self.entries c.args.number c.vacant_key-key.result c.insert_reserved.result c.args.chain.now.first c.args.chain.now.last c.or-chain.result _ c.reserve.ensures.rest_kept c.requires.chain.linked c.requires.chain.first c.requires.chain.last low (c.insert_reserved.ensures.key ∙ sym c.vacant_key-key.ensures.value) c.vacant_key-key.ensures.vacant c.insert_reserved.ensures.updates.changed c.insert_reserved.ensures.updates.others refl refl refl c.set_after.ensures entries;
+      first = c.or-chain.ensures ∙ first_more es c.args.number c.vacant_key-key.result c.args.chain.now.first c.requires.chain.first ∙ ap (λ (ds : List (ℕ × ℕ)). first_key ds None) (sym entries);
+      last = last_more es c.args.number c.vacant_key-key.result ∙ ap (last_key None) (sym entries);
+    }
+
+pub returns-clause-ok : goal.returns-clause-ok
+returns-clause-ok c =
+    let s = c.args.chain.now.slots in
+    let es = c.args.chain.now.index.entries in
+    let low : above_all 0 es ≤ c.args.number = below_all (get s) c.args.number es c.requires.chain.linked c.requires.above in
+    let entries : c.insert.new.self.entries ≡ es ++ (c.args.number, c.vacant_key-key.result) ∷ [] = c.in-Ok.ensures.entries ∙ appended (get s) c.args.number c.vacant_key-key.result None 0 es None c.requires.chain.linked low in
+    more_posted s c.reserve.new.self c.insert_reserved.new.self c.set_after.new.slots es c.insert.new.self.entries c.args.number c.vacant_key-key.result c.insert_reserved.result c.args.chain.now.first c.args.chain.now.last c.or-chain.result _ c.reserve.ensures.rest_kept c.requires.chain.linked c.requires.chain.first c.requires.chain.last low (c.insert_reserved.ensures.key ∙ sym c.vacant_key-key.ensures.value) c.vacant_key-key.ensures.vacant c.insert_reserved.ensures.updates.changed c.insert_reserved.ensures.updates.others refl refl refl c.set_after.ensures entries
+    ∙ ap (λ m. posted_at (get s) es ++ post_of c.args.number m ∷ []) c.new.ensures

@@ -1,0 +1,9 @@
+pub mod Alls
+pub mod Grouping
+pub mod Indexed
+pub mod Leaves
+pub mod Listing
+pub mod Ones
+pub mod Rising
+pub mod Searches
+pub mod Tours

@@ -1,5 +1,0 @@
-use Rattle.win_tree.specs.Links.{AreEmpty}
-use Rattle.win_tree.proofs.links.no_groups.Given as goal
-
-abbrev pub invariant-groups : goal.invariant-groups
-invariant-groups l = AreEmpty l.counter l.groups.items

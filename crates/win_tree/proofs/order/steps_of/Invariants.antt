@@ -1,8 +1,0 @@
-use Rattle.std.proofs.Common.{◌≡◌, ◌++◌, map, reverse}
-use Rattle.std.specs.List.{flat_map}
-use Rattle.win_tree.specs.Destruction.{answer_of, destruction_of}
-use Rattle.win_tree.specs.Parts.{part_steps}
-use Rattle.win_tree.proofs.order.steps_of.Given as goal
-
-abbrev pub invariant-lists : goal.invariant-lists
-invariant-lists l = flat_map (part_steps l.rows) l.parts.items ++ reverse l.steps.items ≡ map answer_of (destruction_of l.rows l.x)

@@ -1,5 +1,0 @@
-use Rattle.win_tree.specs.Index.{IsFreed}
-use Rattle.win_tree.proofs.rows.free_others.Given as goal
-
-abbrev pub invariant-loop-p : goal.invariant-loop-p
-invariant-loop-p l = IsFreed l.numbers l.places l.p-index l.initial.slab l.slab
