@@ -27,3 +27,4 @@ pub mod Stories
 pub mod Tellers
 pub mod Threads
 pub mod Windows
+pub mod ZOrder

@@ -1,6 +1,7 @@
 pub mod ClassTables
 pub mod Effects
 pub mod Needs
+pub mod Orders
 pub mod Placings
 pub mod Steps
 pub mod Trees
