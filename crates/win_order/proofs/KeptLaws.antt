@@ -13,7 +13,7 @@ use Rattle.win_order.specs.Standing.{Standing}
 use Rattle.win_order.specs.declared.top_level.TopLevel.{TopLevel}
 use Rattle.win_order.specs.Families.{place_in, put, windows_of, with_windows, without}
 use Rattle.win_order.specs.Kept.{AllCameNew, IsKept, age_in, is_child, times, top_levels}
-use Rattle.win_order.specs.Layers.{IsNew, IsPlace, Layers, MayGo, empty, has_none, inserted, is_gone, placed, relisted, removed, removed_those, settled, stands}
+use Rattle.win_order.specs.Layers.{IsNew, IsPlace, Layers, empty, has_none, inserted, is_gone, kept, may_stay, placed, relisted, removed, settled, stands}
 use Rattle.win_order.specs.Mended.{AreOwned, IsMended, goes_along, has_older_owner, staying}
 use Rattle.win_order.specs.Mending.{has, may_follow}
 use Rattle.win_order.specs.Siblings.{Siblings}
@@ -378,11 +378,5 @@ new_without w ss older there none = new_left (λ v. eqb v w) ss (alone w ss none
 pub removed_kept : (w : ℕ) (z : Layers) → IsKept z → stands w z ≡ true → has_none w z ≡ true → IsKept (removed w z)
 removed_kept w z k there none = cleared_kept (λ v. eqb v w) z (stands_apart_from_nobody w z.standings k.older there) (alone w z.standings none) k
 
-gone_stands : (gone : List Hwnd) (z : Layers) (w : ℕ) → list_all (λ v. stands v.0 z) gone ≡ true → stands w z ≡ false → is_gone gone w ≡ false
-gone_stands [] z w all missing = refl
-gone_stands (v ∷ gone) z w all missing =
-    let first : eqb v.0 w ≡ false = ne_eqb v.0 w (λ e. false≢true (sym missing ∙ (ap (λ n. stands n z) (sym e) ∙ and_left (stands v.0 z) (list_all (λ u. stands u.0 z) gone) all))) in
-    ap (λ b. b || is_gone gone w) first ∙ gone_stands gone z w (and_right (stands v.0 z) (list_all (λ u. stands u.0 z) gone) all) missing
-
-pub removed_those_kept : (gone : List Hwnd) (z : Layers) → IsKept z → MayGo gone z → IsKept (removed_those gone z)
-removed_those_kept gone z k go = cleared_kept (is_gone gone) z (gone_stands gone z 0 go.stand (nobody_stands z.standings k.older)) go.along k
+pub kept_kept : (staying : List Hwnd) (z : Layers) → IsKept z → may_stay staying z.standings ≡ true → IsKept (kept staying z)
+kept_kept staying z k along = cleared_kept (is_gone staying) z refl along k
