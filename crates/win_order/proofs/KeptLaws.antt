@@ -273,7 +273,7 @@ lone_child_by s ss fresh w q true is differs ih =
 lone_child_by s ss fresh w q false is differs ih = rw is (ih (ap (λ (h : Hwnd). eqb h.0 q) (sym (parent_next s ss w is)) ∙ differs))
 
 -- a window has one parent
-lone_child : (ss : List Standing) → AllCameNew ss → (w q : ℕ) → eqb (parent_of ss w).0 q ≡ false → is_child w q ss ≡ false
+pub lone_child : (ss : List Standing) → AllCameNew ss → (w q : ℕ) → eqb (parent_of ss w).0 q ≡ false → is_child w q ss ≡ false
 lone_child [] n w q differs = refl
 lone_child (s ∷ ss) n w q differs = lone_child_by s ss n.0.fresh w q (eqb s.window.0 w) refl differs (lone_child ss n.1 w q)
 

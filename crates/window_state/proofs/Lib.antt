@@ -7,6 +7,8 @@ pub mod LookSteps
 pub mod NewWindows
 pub mod Outcomes
 pub mod Procs
+pub mod Reversed
+pub mod Standings
 pub mod TreeAnswers
 pub mod TreeFacts
 pub mod TreeLaws
