@@ -5,6 +5,7 @@ pub mod Destructions
 pub mod Lookups
 pub mod LookSteps
 pub mod NewWindows
+pub mod OrdersLeft
 pub mod Outcomes
 pub mod Procs
 pub mod Reversed
