@@ -1,8 +1,9 @@
 -- The one walk over all calls: what the answer of a row says of its call.
 use Rattle.std.proofs.Common.{◌≡◌, ℕ, Bool, true, false, not, cond, eqb, List, [], ◌∷◌, length, Option, Some, None, refl, ap, ◌∙◌, sym, subst, inl, inr}
-use Rattle.std.specs.Prelude.{◌&&◌, ◌||◌, ◌⊎◌, unwrap_or, option_map, nat_lt, nat_le}
+use Rattle.std.specs.Prelude.{◌&&◌, ◌||◌, unwrap_or, option_map, nat_lt, nat_le}
 use Rattle.std.proofs.lemmas.Bool.{false≢true}
 use Rattle.win_num.specs.declared.message.Filter.{Filter}
+use Rattle.win_num.specs.declared.message.Hwnd.{Hwnd}
 use Rattle.win_num.specs.declared.send.SendId.{SendId}
 use Rattle.win_num.specs.declared.send.Cause.TheVariants.{Timeout as ByTimeout}
 use Rattle.win_num.specs.declared.send.Kind.{Kind}
@@ -12,7 +13,7 @@ use Rattle.win_num.specs.declared.send.Frame.TheVariants.{Entered, Inside as Ins
 use Rattle.win_num.specs.declared.code.Code.{Code}
 use Rattle.win_num.specs.declared.code.Code.TheVariants.{Full}
 use Rattle.user_model.specs.declared.call.Call.{Call}
-use Rattle.user_model.specs.declared.call.Call.TheVariants.{Peek, Get, Post, PostThread, PostQuit, Dispatch, Send, SendTimeout, SendNotify, SendCallback, Await, Leave, Reply, InSend, Message, Register, Unregister, NewWindow, Doom, Unmake, Drop, Place, Show, NextTop, IsWindow, Parent, EndThread, Clock, SleepUntil, Yield, Tick, Advance}
+use Rattle.user_model.specs.declared.call.Call.TheVariants.{Peek, Get, Post, PostThread, PostQuit, Dispatch, Send, SendTimeout, SendNotify, SendCallback, Await, Leave, Reply, InSend, Message, Register, Unregister, NewWindow, Doom, Unmake, Drop, Place, Show, Find, AwaitTitle, NextTop, WindowAt, IsWindow, Parent, EndThread, Clock, SleepUntil, Yield, Tick, Advance}
 use Rattle.user_model.specs.declared.entry.Answer.{Answer}
 use Rattle.user_model.specs.declared.entry.Answer.TheVariants as answers
 use Rattle.user_model.specs.declared.entry.Setup.{Setup}
@@ -21,6 +22,7 @@ use Rattle.user_model.specs.Places.{clock}
 use Rattle.user_model.specs.Deeds.{SendParts, parts, parts_of, retrieves, is_serving}
 use Rattle.user_model.specs.Threads.{is_running}
 use Rattle.user_model.specs.Windows.{Window, window, is_live, thread_of}
+use Rattle.user_model.specs.ZOrder.{titled}
 use Rattle.user_model.specs.Destruction.{Step, told, ended, is_marked, next_step}
 use Rattle.user_model.specs.Classes.{proc_of}
 use Rattle.user_model.specs.Filters.{filter_of, is_no_filter_window}
@@ -220,6 +222,10 @@ module _ (setup : Setup) (past : Past) (who : ℕ) where
   step_said w (Some (told v)) = record { says = (w, refl) }
   step_said w (Some (ended v)) = record { says = (w, refl) }
 
+  title_awaited : (title : ℕ) (o : Option Hwnd) → Said setup past who (AwaitTitle title) (elim o as (λ _. Answer) [ None ↦ answers.Wait | Some w ↦ answers.Window w ])
+  title_awaited title None = waits_said setup past who (AwaitTitle title) refl
+  title_awaited title (Some w) = record { says = tt }
+
   unmade : (w : ℕ) (o : Option Window) → Said setup past who (Unmake w) (elim o as (λ _. Answer) [ None ↦ answers.Gone | Some x ↦ unmake_step past who w x ])
   unmade w None = record { says = (w, refl) }
   unmade w (Some x) =
@@ -279,7 +285,10 @@ row_said setup past who (Unmake w) = unmade setup past who w (window past w)
 row_said setup past who (Drop w) = plainly setup past who (Drop w) (row setup past who (Drop w)) (search (plain_behind, plain))
 row_said setup past who (Place w after l t r b flags) = plainly setup past who (Place w after l t r b flags) (row setup past who (Place w after l t r b flags)) (search (plain_behind, plain))
 row_said setup past who (Show w on) = plainly setup past who (Show w on) (row setup past who (Show w on)) (search (plain_behind, plain))
+row_said setup past who (Find title) = record { says = tt }
+row_said setup past who (AwaitTitle title) = title_awaited setup past who title (titled past title)
 row_said setup past who (NextTop w) = record { says = tt }
+row_said setup past who (WindowAt x y) = record { says = tt }
 row_said setup past who (IsWindow w) = record { says = tt }
 row_said setup past who (Parent w) = plainly setup past who (Parent w) (row setup past who (Parent w)) (plain_parent (window past w))
 row_said setup past who EndThread = record { says = refl }

@@ -6,7 +6,7 @@ use Rattle.win_num.specs.declared.send.Kind.{Kind}
 use Rattle.win_num.specs.declared.send.Kind.TheVariants.{Wait, Timeout as WithTimeout, Notify, Callback as WithCallback}
 use Rattle.win_num.specs.declared.names.TheConstants.{PM_REMOVE}
 use Rattle.user_model.specs.declared.call.Call.{Call}
-use Rattle.user_model.specs.declared.call.Call.TheVariants.{Post, PostThread, Peek, Get, PostQuit, Dispatch, Send, SendTimeout, SendNotify, SendCallback, Await, Leave, Reply, InSend, Message, Register, Unregister, NewWindow, Doom, Unmake, Drop, Place, Show, NextTop, IsWindow, Parent, EndThread, Clock, SleepUntil, Yield, Tick, Advance}
+use Rattle.user_model.specs.declared.call.Call.TheVariants.{Post, PostThread, Peek, Get, PostQuit, Dispatch, Send, SendTimeout, SendNotify, SendCallback, Await, Leave, Reply, InSend, Message, Register, Unregister, NewWindow, Doom, Unmake, Drop, Place, Show, Find, AwaitTitle, NextTop, WindowAt, IsWindow, Parent, EndThread, Clock, SleepUntil, Yield, Tick, Advance}
 
 -- a message that a call posts: to the thread of a window, or for window 0 to the caller; or to a thread, without a window
 pub data Posting : Type 0 where
@@ -69,7 +69,10 @@ deed (Unregister name) = doing_else
 deed (Doom w) = doing_else
 deed (Unmake w) = doing_else
 deed (Drop w) = doing_else
+deed (Find title) = doing_else
+deed (AwaitTitle title) = doing_else
 deed (NextTop w) = doing_else
+deed (WindowAt x y) = doing_else
 deed (IsWindow w) = doing_else
 deed (Parent w) = doing_else
 deed EndThread = doing_else

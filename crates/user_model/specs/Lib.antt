@@ -9,6 +9,7 @@ pub mod Looks
 pub mod Machines
 pub mod Next
 pub mod Past
+pub mod Pixels
 pub mod Places
 pub mod Posts
 pub mod Ready

@@ -7,10 +7,10 @@ use Rattle.user_model.specs.declared.entry.Setup.{Setup}
 use Rattle.user_model.specs.declared.entry.Answer.{Answer}
 use Rattle.user_model.specs.declared.entry.Answer.TheVariants.{Okay, Ended, Refused}
 use Rattle.user_model.specs.declared.call.Call.{Call}
-use Rattle.user_model.specs.declared.call.Call.TheVariants.{Peek, Get, Post, PostThread, PostQuit, Dispatch, Send, SendTimeout, SendNotify, SendCallback, Await, Leave, Reply, InSend, Message, Register, Unregister, NewWindow, Doom, Unmake, Drop, Place, Show, NextTop, IsWindow, Parent, EndThread, Clock, SleepUntil, Yield, Tick, Advance}
+use Rattle.user_model.specs.declared.call.Call.TheVariants.{Peek, Get, Post, PostThread, PostQuit, Dispatch, Send, SendTimeout, SendNotify, SendCallback, Await, Leave, Reply, InSend, Message, Register, Unregister, NewWindow, Doom, Unmake, Drop, Place, Show, Find, AwaitTitle, NextTop, WindowAt, IsWindow, Parent, EndThread, Clock, SleepUntil, Yield, Tick, Advance}
 use Rattle.user_model.specs.Past.{Past}
 use Rattle.user_model.specs.ReplyDelivery.{peek_reply, get_reply, post_reply, post_thread_reply}
-use Rattle.user_model.specs.ReplyWindows.{register_reply, unregister_reply, message_reply, new_window_reply, doom_reply, unmake_reply, drop_reply, place_reply, show_reply, next_top_reply, is_window_reply, parent_reply}
+use Rattle.user_model.specs.ReplyWindows.{register_reply, unregister_reply, message_reply, new_window_reply, doom_reply, unmake_reply, drop_reply, place_reply, show_reply, find_reply, await_title_reply, next_top_reply, window_at_reply, is_window_reply, parent_reply}
 use Rattle.user_model.specs.ReplySends.{dispatch_reply, send_reply, send_timeout_reply, send_other_reply, await_reply, leave_reply, reply_reply, in_send_reply}
 use Rattle.user_model.specs.ReplyClock.{clock_reply, sleep_until_reply}
 use Rattle.user_model.specs.Stacks.{top}
@@ -42,7 +42,10 @@ row setup past who (Unmake w) = unmake_reply past who w
 row setup past who (Drop w) = drop_reply past who w
 row setup past who (Place w after l t r b flags) = place_reply past w after l t r b flags
 row setup past who (Show w on) = show_reply past w on
+row setup past who (Find title) = find_reply past title
+row setup past who (AwaitTitle title) = await_title_reply past title
 row setup past who (NextTop w) = next_top_reply past w
+row setup past who (WindowAt x y) = window_at_reply setup past x y
 row setup past who (IsWindow w) = is_window_reply past w
 row setup past who (Parent w) = parent_reply past w
 row setup past who EndThread = Ended

@@ -4,11 +4,14 @@ use Rattle.win_num.specs.declared.message.Hwnd.{Hwnd}
 use Rattle.win_num.specs.declared.code.Code.TheVariants.{Full}
 use Rattle.win_num.specs.declared.names.TheConstants.{SWP_HIDEWINDOW, SWP_NOACTIVATE, SWP_NOMOVE, SWP_NOSIZE, SWP_NOZORDER, SWP_SHOWWINDOW, WS_CHILD, WS_DISABLED, WS_EX_TOPMOST, WS_POPUP, WS_VISIBLE}
 use Rattle.win_num.specs.PixelSets.{Box, box, same_int}
+use Rattle.user_model.specs.declared.entry.Setup.{Setup}
 use Rattle.user_model.specs.declared.entry.Answer.{Answer}
-use Rattle.user_model.specs.declared.entry.Answer.TheVariants.{Okay, Gone, Value, Window as WindowTold, Tell, Last}
+use Rattle.user_model.specs.declared.entry.Answer.TheVariants.{Okay, Wait, Gone, Value, Window as WindowTold, Tell, Last}
 use Rattle.user_model.specs.Past.{Past}
 use Rattle.user_model.specs.Windows.{Window, has_flag, live, window, is_live, thread_of, parent_in, windows_made, up, next_top}
 use Rattle.user_model.specs.Looks.{Look, look, placed, is_shown}
+use Rattle.user_model.specs.ZOrder.{hwnd, titled}
+use Rattle.user_model.specs.Pixels.{point, owner}
 use Rattle.user_model.specs.Destruction.{Step, told, ended, is_marked, was_given, next_step}
 use Rattle.user_model.specs.Classes.{class, classes, registered_count, is_used, message_names, message_number}
 use Rattle.user_model.specs.Refusals.{refuse, if_live, if_own, is_no_rect, has_beyond, invalid_parameter, invalid_window_handle, access_denied, child_without_parent, cannot_find_class, class_already_exists, class_does_not_exist, class_has_windows}
@@ -137,9 +140,21 @@ show_reply past w on = refuse (nat_lt 1 on) invalid_parameter (if_live past w (V
 abbrev pub window_told : ℕ → Answer
 window_told w = WindowTold (record { 0 = w })
 
+-- the highest top-level window of the title, or 0
+abbrev pub find_reply : Past → ℕ → Answer
+find_reply past title = WindowTold (unwrap_or (titled past title) (hwnd 0))
+
+-- the same, and a wait where there is none
+abbrev pub await_title_reply : Past → ℕ → Answer
+await_title_reply past title = elim (titled past title) [ None ↦ Wait | Some w ↦ WindowTold w ]
+
 -- the top-level window of least number above w, or 0
 abbrev pub next_top_reply : Past → ℕ → Answer
 next_top_reply past w = window_told (unwrap_or (option_map (λ x. x.number) (next_top past w)) 0)
+
+-- the window that owns a pixel of the screen, or 0
+abbrev pub window_at_reply : Setup → Past → ℤ → ℤ → Answer
+window_at_reply setup past x y = WindowTold (owner setup past (point x y))
 
 -- 1 for a live window, else 0
 abbrev pub is_window_reply : Past → ℕ → Answer

@@ -1,6 +1,6 @@
 -- The z-order: the lists of siblings, from the bottom to the top.
-use Rattle.std.specs.Prelude.{if◌then◌else◌, ℕ, zero, suc, ◌==◌, Bool, true, false, not, ◌&&◌, ℤ, pos, negsuc, List, [], ◌∷◌, map, reverse, find, Option}
-use Rattle.std.specs.List.{filter, list_any}
+use Rattle.std.specs.Prelude.{if◌then◌else◌, ℕ, zero, suc, ◌==◌, Bool, true, false, not, ◌&&◌, ℤ, pos, negsuc, List, [], ◌∷◌, map, reverse, find, Option, option_map, unwrap_or}
+use Rattle.std.specs.List.{filter}
 use Rattle.win_num.specs.declared.message.Hwnd.{Hwnd}
 use Rattle.win_num.specs.declared.names.TheConstants.{SWP_NOZORDER, WS_EX_TOPMOST}
 use Rattle.win_order.specs.declared.after.After.{After}
@@ -8,12 +8,11 @@ use Rattle.win_order.specs.declared.after.After.TheVariants.{Bottom, Below, Top,
 use Rattle.win_order.specs.Families.{put}
 use Rattle.win_order.specs.Layers.{settled}
 use Rattle.win_order.specs.Standing.{Standing}
-use Rattle.user_model.specs.declared.entry.Entry.{Entry}
 use Rattle.user_model.specs.declared.entry.Answer.{Answer}
 use Rattle.user_model.specs.declared.entry.Answer.TheVariants.{Value, Window as WindowMade}
 use Rattle.user_model.specs.Past.{Past, is_refused}
 use Rattle.user_model.specs.Deeds.{Deed, making, placing, deed}
-use Rattle.user_model.specs.Windows.{Window, has_flag, live, is_live, parent_in}
+use Rattle.user_model.specs.Windows.{Window, has_flag, live, window, is_live, parent_in}
 use Rattle.user_model.specs.Looks.{ex_of}
 
 -- a window of a number
@@ -70,3 +69,11 @@ rearranged past p a _ ws = still_live past ws
 abbrev pub siblings : Past → ℕ → List Hwnd
 siblings [] p = []
 siblings (e ∷ past) p = elim (is_refused e) [ true ↦ siblings past p | false ↦ rearranged (e ∷ past) p e.answer (deed e.call) (siblings past p) ]
+
+-- whether w is a live window of the title
+abbrev pub has_title : Past → ℕ → Hwnd → Bool
+has_title past title w = unwrap_or (option_map (λ x. x.title == title) (window past w.0)) false
+
+-- the highest top-level window of the title
+abbrev pub titled : Past → ℕ → Option Hwnd
+titled past title = find (has_title past title) (reverse (siblings past 0))

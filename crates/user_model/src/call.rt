@@ -68,8 +68,16 @@ pub enum Call {
     Place(u64, i64, i64, i64, i64, i64, u64),
     /// Shows a window (1) or hides it (0) (Microsoft, ShowWindow function).
     Show(u64, u64),
+    /// The highest top-level window of this title, which is a place in the script's list of names
+    /// (Microsoft, FindWindow function).
+    Find(u32),
+    /// The same, but waits until there is one.
+    AwaitTitle(u32),
     /// The top-level window of least number above this one.
     NextTop(u64),
+    /// The window that owns the pixel of the screen at this x and y, counted from its left top corner
+    /// (Microsoft, WindowFromPoint function).
+    WindowAt(i64, i64),
     /// Whether this is a live window (Microsoft, IsWindow function).
     IsWindow(u64),
     /// The window's parent, or its owner (Microsoft, GetParent function).
