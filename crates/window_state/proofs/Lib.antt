@@ -6,6 +6,8 @@ pub mod Lookups
 pub mod LookSteps
 pub mod NewWindows
 pub mod OrdersLeft
+pub mod OrdersMade
+pub mod OrdersPlaced
 pub mod Outcomes
 pub mod Procs
 pub mod Reversed
