@@ -4,7 +4,10 @@ pub mod ClassSteps
 pub mod Destructions
 pub mod Lookups
 pub mod LookSteps
+pub mod Newest
 pub mod NewWindows
+pub mod OrderNeeds
+pub mod OrderSteps
 pub mod OrdersLeft
 pub mod OrdersMade
 pub mod OrdersPlaced

@@ -7,10 +7,12 @@
 
 mod finding;
 mod looks;
+mod ranks;
 mod tables;
 
 pub use finding::{parent_of, step_told, thread_of, up, window_or_none};
 pub use looks::{Edges, Placing, is_shown, placing_changes, relook};
+pub use ranks::{leave, reorder};
 pub use tables::{doom, drop_window, make, name, unmake, unregister};
 
 #[cfg(test)]
