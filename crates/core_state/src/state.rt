@@ -39,6 +39,7 @@ use thread_state::ThreadState;
 use user_model::{Answer, Call, Entry, HISTORY_LIMIT, SendCount, SendStory, Setup};
 use win_class::Classes;
 use win_num::{Cause, Filter, Frame, Hwnd, Msg, Point, SendId, Thread};
+use win_order::Order;
 use win_tree::Tree;
 use window_state::{Placing, is_shown, parent_of, placing_changes, step_told, thread_of, up};
 
@@ -49,6 +50,7 @@ pub struct CoreState {
     /// The entries, the oldest first.
     history: Vec<Entry>,
     tree: Tree,
+    order: Order,
     classes: Classes,
     /// What is kept of each thread, from thread 1 on.
     threads: Vec<ThreadState>,
@@ -70,12 +72,12 @@ impl Model for CoreState {
 
     ghost view = { λ s. record { setup = s.setup; past = reverse s.history.items } };
 
-    ghost invariant = { λ s. Stands s.setup (reverse s.history.items) (parts s.tree s.classes s.threads.items s.post_count s.time s.sends s.tally s.stories.items) };
+    ghost invariant = { λ s. Stands s.setup (reverse s.history.items) (parts s.tree s.order s.classes s.threads.items s.post_count s.time s.sends s.tally s.stories.items) };
 }
 
 impl CoreState {
     /// No entry yet.
-    #[tactic(auto, using(crate::proofs::FreshSends::no_parts_stand))]
+    #[tactic(auto, using(crate::proofs::FreshSends::no_parts_stand, crate::proofs::FreshSends::no_order))]
     pub fn new(alloc: Global, setup: Setup) -> Result<CoreState, AllocError>
         requires { IsSetup setup }
         ensures { IfOk result (λ s. s ≡ record { setup = setup; past = [] }) }
@@ -84,6 +86,7 @@ impl CoreState {
             setup,
             history: Vec::new(alloc),
             tree: Tree::new(alloc),
+            order: Order::new(alloc),
             classes: Classes::new(alloc),
             threads: fresh_threads(alloc, setup.threads)?,
             post_count: 0,
@@ -556,6 +559,7 @@ impl CoreState {
         add_item(
             &mut self.classes,
             &mut self.tree,
+            &mut self.order,
             &mut self.threads,
             &mut self.sends,
             stamp,
@@ -570,7 +574,13 @@ impl CoreState {
             entry,
         );
         note_answer(&mut self.stories, entry.answer, named, place);
-        take_effect(&mut self.classes, &mut self.tree, &mut self.threads, entry);
+        take_effect(
+            &mut self.classes,
+            &mut self.tree,
+            &mut self.order,
+            &mut self.threads,
+            entry,
+        );
         note_entry(&mut self.threads, entry);
         self.post_count = count_after(self.post_count, entry.answer);
         self.time = time_after(self.time, entry);
