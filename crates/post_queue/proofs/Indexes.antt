@@ -1,9 +1,8 @@
 -- The index of linked slots: one number more, and one less.
-use Rattle.std.proofs.Common.{◌≡◌, ◌∙◌, inl, inr, ℕ, ◌<◌, ◌≤◌, suc, List, [], ◌∷◌, ◌++◌, cond, filter, find, true, false, not, eqb, Option, Some, None, append-nil, nat_cmp, Ordering, Less, Equal, Greater, refl, sym, ap, subst, arith}
+use Rattle.std.proofs.Common.{◌≡◌, ◌∙◌, inl, inr, ℕ, ◌<◌, ◌≤◌, suc, List, [], ◌∷◌, ◌++◌, cond, filter, find, true, false, not, eqb, Option, Some, None, append-nil, refl, sym, ap, subst, arith}
 use Rattle.std.specs.Prelude.{All}
 use Rattle.std.specs.List.{AllByRecursion}
-use Rattle.std.specs.Option.{option_or}
-use Rattle.std.proofs.lemmas.Bool.{cases_Bool, eqb-true, eq-eqb, ne_eqb, le-ltb}
+use Rattle.std.proofs.lemmas.Bool.{cases_Bool, eqb-true, eq-eqb, ne_eqb}
 use Rattle.std.proofs.lemmas.List.Elements.{recursion_from_All, All-from_recursion}
 use Rattle.slab.specs.Slab.{Slab, get}
 use Rattle.post_queue.specs.declared.slot.Slot.{Slot}
@@ -95,9 +94,9 @@ module _ (us vs : List (ℕ × ℕ)) (e : ℕ × ℕ) (before after : Option ℕ
       pick (d ∷ ds) a l = end_some after last before (λ none. absurd (cc (sym a ∙ none))) ∙ l ∙ last_append None us (e ∷ d ∷ ds) ∙ sym (last_append None us (d ∷ ds))
 
 -- the ends once one was put last
-pub first_more : (es : List (ℕ × ℕ)) (n k : ℕ) (first : Option ℕ) → first ≡ first_key es None → option_or first (Some k) ≡ first_key (es ++ (n, k) ∷ []) None
-first_more [] n k first is = ap (λ (o : Option ℕ). option_or o (Some k)) is
-first_more (e ∷ es) n k first is = ap (λ (o : Option ℕ). option_or o (Some k)) is
+pub first_more : (es : List (ℕ × ℕ)) (n k : ℕ) (first last : Option ℕ) → first ≡ first_key es None → last ≡ last_key None es → end_left last first (Some k) ≡ first_key (es ++ (n, k) ∷ []) None
+first_more [] n k first last is end = ap (λ (o : Option ℕ). end_left o first (Some k)) end
+first_more (e ∷ es) n k first last is end = end_some last first (Some k) (λ none. last_some e.1 es (sym end ∙ none)) ∙ is
 
 pub last_more : (es : List (ℕ × ℕ)) (n k : ℕ) → Some k ≡ last_key None (es ++ (n, k) ∷ [])
 last_more es n k = sym (last_append None es ((n, k) ∷ []))

@@ -1,5 +1,5 @@
 -- Places with rising numbers: one put last, some swept out, one taken.
-use Rattle.std.proofs.Common.{◌≡◌, ◌≢◌, ◌∙◌, ◌⊎◌, inl, inr, ℕ, ◌<◌, ◌≤◌, ◌+◌, ◌-◌, suc, zero, Bool, true, false, List, [], ◌∷◌, ◌++◌, length, cond, eqb, filter, drop, get_or, set, is_some, Option, Some, None, refl, sym, ap, subst, arith}
+use Rattle.std.proofs.Common.{◌≡◌, ◌∙◌, ◌⊎◌, inl, inr, ℕ, ◌<◌, ◌≤◌, ◌-◌, suc, zero, Bool, true, false, List, [], ◌∷◌, ◌++◌, length, cond, eqb, filter, drop, get_or, set, is_some, Option, Some, None, refl, sym, ap, subst, arith}
 use Rattle.std.specs.Prelude.{All}
 use Rattle.std.specs.List.{AllByRecursion}
 use Rattle.std.specs.List.Sorted.{IsNonDecreasingBy}
@@ -78,6 +78,26 @@ end_below n from (p ∷ ps) le all = elim (option_cases p.key) [
 
 pub swept_below : (n : ℕ) (ps : List Place) → All (λ e. e.0 < n) (kept_in ps) → end_of 0 (filter (λ p. is_some p.key) ps) ≤ n
 swept_below n ps all = end_below n 0 ps (omega arith) (recursion_from_All (λ (e : ℕ × ℕ). e.0 < n) (kept_in ps) all)
+
+pub kept_length : (ps : List Place) → length (kept_in ps) ≤ length ps
+kept_length [] = omega arith
+kept_length (p ∷ ps) = elim (option_cases p.key) [
+  | inl s ↦ omega (arith, ap length (kept_some p ps s.0 s.1), kept_length ps)
+  | inr n ↦ omega (arith, ap length (kept_none p ps n), kept_length ps)
+]
+
+-- where each place has a key
+full_end : (n from : ℕ) (ps : List Place) → length (kept_in ps) ≡ length ps → from ≤ n → AllByRecursion (λ e. e.0 < n) (kept_in ps) → end_of from ps ≤ n
+full_end n from [] full le all = le
+full_end n from (p ∷ ps) full le all = elim (option_cases p.key) [
+  | inl s ↦
+      let both = subst (AllByRecursion (λ (e : ℕ × ℕ). e.0 < n)) (kept_some p ps s.0 s.1) all in
+      full_end n (suc p.number) ps (omega (arith, full, ap length (kept_some p ps s.0 s.1))) (omega (arith, both.0)) both.1
+  | inr none ↦ absurd (omega (arith, full, ap length (kept_none p ps none), kept_length ps))
+]
+
+pub full_below : (n : ℕ) (ps : List Place) → length (kept_in ps) ≡ length ps → All (λ e. e.0 < n) (kept_in ps) → end_of 0 ps ≤ n
+full_below n ps full all = full_end n 0 ps full (omega arith) (recursion_from_All (λ (e : ℕ × ℕ). e.0 < n) (kept_in ps) all)
 
 -- a number that no place has
 pub none_above : (n from : ℕ) (ps : List Place) → n < from → Rises from ps → (key_of n (kept_in ps) ≡ None) × (without_key n (kept_in ps) ≡ kept_in ps)
@@ -187,13 +207,6 @@ numbers_rise from ps h = λ i j d le lt. walk from ps h i j d le lt
     walk from (p ∷ ps) h zero (suc j) d le lt = omega (arith, low (suc p.number) ps j d h.1 (omega (arith, lt)))
     walk from (p ∷ ps) h (suc i) zero d le lt = absurd (omega (arith, le))
     walk from (p ∷ ps) h (suc i) (suc j) d le lt = walk (suc p.number) ps h.1 i j d (omega (arith, le)) (omega (arith, lt))
-
-pub kept_length : (ps : List Place) → length (kept_in ps) ≤ length ps
-kept_length [] = omega arith
-kept_length (p ∷ ps) = elim (option_cases p.key) [
-  | inl s ↦ omega (arith, ap length (kept_some p ps s.0 s.1), kept_length ps)
-  | inr n ↦ omega (arith, ap length (kept_none p ps n), kept_length ps)
-]
 
 -- one number less
 pub one_less : (n k : ℕ) (es : List (ℕ × ℕ)) → key_of n es ≡ Some k → length es ≡ suc (length (without_key n es))

@@ -58,8 +58,7 @@ pub(crate) fn push(chain: &mut Chain, number: u32, msg: Msg) -> Result<(), Alloc
         before: chain.last,
         after: None,
     });
-    set_after(&mut chain.slots, chain.last, Some(key));
-    chain.first = chain.first.or(Some(key));
+    join_after(&mut chain.slots, &mut chain.first, chain.last, Some(key));
     chain.last = Some(key);
     Ok(())
 }
@@ -74,21 +73,9 @@ pub(crate) fn take(chain: &mut Chain, number: u32) -> Option<Msg>
 {
     let key = chain.index.take(number)?;
     let slot = chain.slots.remove(key);
-    set_after(&mut chain.slots, slot.before, slot.after);
-    set_before(&mut chain.slots, slot.after, slot.before);
-    chain.first = end_left(slot.before, chain.first, slot.after);
-    chain.last = end_left(slot.after, chain.last, slot.before);
+    join_after(&mut chain.slots, &mut chain.first, slot.before, slot.after);
+    join_before(&mut chain.slots, &mut chain.last, slot.after, slot.before);
     Some(slot.sealed.into_msg())
-}
-
-/// An end of the chain once a slot has gone, by what stands beside the slot towards this end and the other.
-fn end_left(beside: Option<usize>, end: Option<usize>, other: Option<usize>) -> Option<usize>
-    ensures { result ≡ end_left beside end other }
-{
-    match beside {
-        Some(_) => end,
-        None => other,
-    }
 }
 
 /// Takes all messages out.
@@ -170,6 +157,38 @@ pub(crate) fn purge<F: Fn(Hwnd) -> bool>(chain: &mut Chain, goes: F)
         if goes(window) {
             take(chain, number);
         }
+    }
+}
+
+/// Says which slot comes after the one under this key, or first where there is none.
+fn join_after(
+    slots: &mut Slab<Slot>,
+    first: &mut Option<usize>,
+    at: Option<usize>,
+    after: Option<usize>,
+)
+    ensures slots { IsChangedAt at (IsAfterChanged after) (get slots.old) (get slots.new) }
+    ensures first { first.new ≡ end_left at first.old after }
+{
+    match at {
+        Some(_) => set_after(slots, at, after),
+        None => *first = after,
+    }
+}
+
+/// Says which slot comes before the one under this key, or last where there is none.
+fn join_before(
+    slots: &mut Slab<Slot>,
+    last: &mut Option<usize>,
+    at: Option<usize>,
+    before: Option<usize>,
+)
+    ensures slots { IsChangedAt at (IsBeforeChanged before) (get slots.old) (get slots.new) }
+    ensures last { last.new ≡ end_left at last.old before }
+{
+    match at {
+        Some(_) => set_before(slots, at, before),
+        None => *last = before,
     }
 }
 

@@ -93,14 +93,24 @@ impl Index {
     }
 }
 
-/// Whether a number may be put last: it is above that of the last place, and no more than about half of the
-/// places are without a key.
+/// Whether a number above all that are there may be put last: each place has a key, or the number is above that of
+/// the last place, and no more than about half of the places are without a key.
 fn has_way(places: &VecDeque<Place>, len: usize, number: u32) -> bool
+    requires rises { Rises 0 places.now.items }
+    requires counted { len ≡ length (kept_in places.now.items) }
+    requires above { All (λ e. e.0 < number) (kept_in places.now.items) }
+    ensures { IsTrue result → end_of 0 places.now.items ≤ number }
+{
+    len == places.len() || is_last(places, number) && places.len() / 2 <= len.max(FEW)
+}
+
+/// Whether the number is above that of the last place.
+fn is_last(places: &VecDeque<Place>, number: u32) -> bool
     requires { Rises 0 places.now.items }
     ensures { IsTrue result → end_of 0 places.now.items ≤ number }
 {
     match places.back() {
-        Some(last) => last.number < number && places.len() / 2 <= len.max(FEW),
+        Some(last) => last.number < number,
         None => true,
     }
 }
@@ -108,6 +118,7 @@ fn has_way(places: &VecDeque<Place>, len: usize, number: u32) -> bool
 /// Sweeps out the places without a key, where that has to be done before a number is put last.
 fn make_way(places: &mut VecDeque<Place>, len: usize, number: u32)
     requires rises { Rises 0 places.old.items }
+    requires counted { len ≡ length (kept_in places.old.items) }
     requires above { All (λ e. e.0 < number) (kept_in places.old.items) }
     ensures rises { Rises 0 places.new.items }
     ensures kept { kept_in places.new.items ≡ kept_in places.old.items }

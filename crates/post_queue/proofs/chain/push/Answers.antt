@@ -64,8 +64,8 @@ returns-clause-chain c =
     let low : above_all 0 es ≤ c.args.number = below_all (get s) c.args.number es c.requires.chain.linked c.requires.above in
     let entries : c.push.new.self.entries ≡ es ++ (c.args.number, c.vacant_key-key.result) ∷ [] = c.in_ok-push.ensures.ok in
     record {
-      linked = more_linked s c.reserve.new.self c.insert_reserved.new.self c.set_after.new.slots es c.push.new.self.entries c.args.number c.vacant_key-key.result c.insert_reserved.result c.args.chain.now.first c.args.chain.now.last c.or-chain.result _ c.reserve.ensures.rest_kept c.requires.chain.linked c.requires.chain.first c.requires.chain.last low (c.insert_reserved.ensures.key ∙ sym c.vacant_key-key.ensures.value) c.vacant_key-key.ensures.vacant c.insert_reserved.ensures.updates.changed c.insert_reserved.ensures.updates.others refl refl refl c.set_after.ensures entries;
-      first = c.or-chain.ensures ∙ first_more es c.args.number c.vacant_key-key.result c.args.chain.now.first c.requires.chain.first ∙ ap (λ (ds : List (ℕ × ℕ)). first_key ds None) (sym entries);
+      linked = more_linked s c.reserve.new.self c.insert_reserved.new.self c.join_after.new.slots es c.push.new.self.entries c.args.number c.vacant_key-key.result c.insert_reserved.result c.args.chain.now.first c.args.chain.now.last c.join_after.new.first _ c.reserve.ensures.rest_kept c.requires.chain.linked c.requires.chain.first c.requires.chain.last low (c.insert_reserved.ensures.key ∙ sym c.vacant_key-key.ensures.value) c.vacant_key-key.ensures.vacant c.insert_reserved.ensures.updates.changed c.insert_reserved.ensures.updates.others refl refl refl c.join_after.ensures.slots entries;
+      first = c.join_after.ensures.first ∙ first_more es c.args.number c.vacant_key-key.result c.args.chain.now.first c.args.chain.now.last c.requires.chain.first c.requires.chain.last ∙ ap (λ (ds : List (ℕ × ℕ)). first_key ds None) (sym entries);
       last = last_more es c.args.number c.vacant_key-key.result ∙ ap (last_key None) (sym entries);
     }
 
@@ -75,5 +75,5 @@ returns-clause-ok c =
     let es = c.args.chain.now.index.entries in
     let low : above_all 0 es ≤ c.args.number = below_all (get s) c.args.number es c.requires.chain.linked c.requires.above in
     let entries : c.push.new.self.entries ≡ es ++ (c.args.number, c.vacant_key-key.result) ∷ [] = c.in_ok-push.ensures.ok in
-    more_posted s c.reserve.new.self c.insert_reserved.new.self c.set_after.new.slots es c.push.new.self.entries c.args.number c.vacant_key-key.result c.insert_reserved.result c.args.chain.now.first c.args.chain.now.last c.or-chain.result _ c.reserve.ensures.rest_kept c.requires.chain.linked c.requires.chain.first c.requires.chain.last low (c.insert_reserved.ensures.key ∙ sym c.vacant_key-key.ensures.value) c.vacant_key-key.ensures.vacant c.insert_reserved.ensures.updates.changed c.insert_reserved.ensures.updates.others refl refl refl c.set_after.ensures entries
+    more_posted s c.reserve.new.self c.insert_reserved.new.self c.join_after.new.slots es c.push.new.self.entries c.args.number c.vacant_key-key.result c.insert_reserved.result c.args.chain.now.first c.args.chain.now.last c.join_after.new.first _ c.reserve.ensures.rest_kept c.requires.chain.linked c.requires.chain.first c.requires.chain.last low (c.insert_reserved.ensures.key ∙ sym c.vacant_key-key.ensures.value) c.vacant_key-key.ensures.vacant c.insert_reserved.ensures.updates.changed c.insert_reserved.ensures.updates.others refl refl refl c.join_after.ensures.slots entries
     ∙ ap (λ m. posted_at (get s) es ++ post_of c.args.number m ∷ []) c.new.ensures

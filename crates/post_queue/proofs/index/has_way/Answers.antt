@@ -1,11 +1,10 @@
-use Rattle.std.proofs.Common.{◌≡◌, ◌∙◌, ◌-◌, length, get_or, ap, arith}
-use Rattle.post_queue.specs.declared.index.Place.{Place}
-use Rattle.post_queue.proofs.PlaceLemmas.{end_last}
+use Rattle.std.proofs.Common.{◌≡◌, length, arith}
+use Rattle.post_queue.specs.Places.{kept_in}
+use Rattle.post_queue.proofs.PlaceLemmas.{full_below}
 use Rattle.post_queue.proofs.index.has_way.Goals as goal
 
-pub returns-then-last-number : goal.returns-then-last-number
-returns-then-last-number c = λ few.
+pub returns-then-len : goal.returns-then-len
+returns-then-len c = λ same.
     let ps = c.args.places.now.items in
-    let last = c.in-Some.last.now in
-    let same : last ≡ get_or ps (length ps - 1) last = c.in-Some.ensures.lookup ∙ ap (λ k. get_or ps (k - 1) last) c.args.places.now.ok.0 in
-    end_last c.args.number ps last (omega (arith, ap (λ (p : Place). p.number) same, c.if-last-number.true))
+    let full : length (kept_in ps) ≡ length ps = omega (arith, c.requires.counted, c.if-len.true, c.len.ensures, c.args.places.now.ok.0) in
+    full_below c.args.number ps full c.requires.above

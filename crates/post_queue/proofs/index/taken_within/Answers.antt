@@ -1,4 +1,4 @@
-use Rattle.std.proofs.Common.{◌≡◌, ◌∙◌, None, sym, ap}
+use Rattle.std.proofs.Common.{◌∙◌, sym, ap}
 use Rattle.post_queue.specs.declared.index.Place.{Place}
 use Rattle.post_queue.proofs.PlaceLemmas.{within_taken}
 use Rattle.post_queue.proofs.index.taken_within.Goals as goal

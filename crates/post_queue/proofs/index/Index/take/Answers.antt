@@ -1,5 +1,5 @@
-use Rattle.std.proofs.Common.{◌≡◌, ◌∙◌, length, None, sym, ap, arith}
-use Rattle.post_queue.specs.Places.{kept_in, without_key}
+use Rattle.std.proofs.Common.{◌∙◌, length, sym, ap, arith}
+use Rattle.post_queue.specs.Places.{kept_in}
 use Rattle.post_queue.proofs.PlaceLemmas.{one_less, none_less}
 use Rattle.post_queue.proofs.index.Index.take.Goals as goal
 
