@@ -12,10 +12,11 @@ use Rattle.win_rows.specs.declared.row.WindowRow.{WindowRow}
 use Rattle.win_rows.specs.declared.window.Window.{Window as KeptWindow}
 use Rattle.win_rows.specs.Windows.{Windows, number_of}
 use Rattle.win_order.specs.Kept.{is_child}
-use Rattle.win_order.specs.Layers.{Layers, inserted, kept, placed as put_at, siblings_of}
+use Rattle.win_order.specs.Layers.{Layers, empty, inserted, kept, placed as put_at, siblings_of}
 use Rattle.win_order.specs.Standing.{Standing}
 use Rattle.win_order.proofs.Booleans.{all_one, keep_all}
 use Rattle.win_order.proofs.ChildLaws.{each_child}
+use Rattle.win_order.proofs.KeptLaws.{empty_kept}
 use Rattle.win_order.proofs.StandingLaws.{child_among}
 use Rattle.user_model.specs.declared.call.Call.{Call}
 use Rattle.user_model.specs.declared.call.Call.TheVariants as calls
@@ -122,14 +123,16 @@ pub as_numbers : (past : Past) (t : Windows) → IsTreeAt past t → numbers (li
 as_numbers past t at = ap numbers (sym at.windows) ∙ map_twice as_made (λ (x : Window). hwnd x.number) t.live
 
 -- the order with the windows alone that are live still
+left_past : (setup : Setup) (past : Past) (e : Entry) (z : Layers) → IsLawful setup past → e.answer ≡ reply setup past e.who.0 e.call → is_refused e ≡ false → made_by e.who.0 e.answer e.call (live past) ≡ [] → ((v : ℕ) → is_pinned (e ∷ past) v ≡ is_pinned past v) → ((q : ℕ) → siblings (e ∷ past) q ≡ still_live (e ∷ past) (siblings past q))
+    → IsOrderAt past z → IsOrderAt (e ∷ past) (kept (numbers (live (e ∷ past))) z)
+left_past setup past e z lawful right fine none pins lists at =
+    let same : live (e ∷ past) ≡ filter (λ x. not (drops e (live past) x)) (live past) = live-next e past fine ∙ (ap (λ us. filter (λ x. not (drops e (live past) x)) (live past) ++ us) none ∙ append-nil (filter (λ x. not (drops e (live past) x)) (live past))) in
+    order_left past e (λ x. not (drops e (live past) x)) 15 (15 + length (windows_made past)) same (sound setup past lawful).rising z at (sound setup (e ∷ past) (lawful, right)).under pins lists
+
 left_order : (setup : Setup) (past : Past) (e : Entry) (new : Windows) (z : Layers) → IsLawful setup past → e.answer ≡ reply setup past e.who.0 e.call → is_refused e ≡ false → made_by e.who.0 e.answer e.call (live past) ≡ [] → ((v : ℕ) → is_pinned (e ∷ past) v ≡ is_pinned past v) → ((q : ℕ) → siblings (e ∷ past) q ≡ still_live (e ∷ past) (siblings past q))
     → IsOrderAt past z → IsTreeAt (e ∷ past) new → IsOrderAt (e ∷ past) (kept_by new z)
 left_order setup past e new z lawful right fine none pins lists at tree =
-    let same : live (e ∷ past) ≡ filter (λ x. not (drops e (live past) x)) (live past) = live-next e past fine ∙ (ap (λ us. filter (λ x. not (drops e (live past) x)) (live past) ++ us) none ∙ append-nil (filter (λ x. not (drops e (live past) x)) (live past))) in
-    let rising = (sound setup past lawful).rising in
-    let under = (sound setup (e ∷ past) (lawful, right)).under in
-    subst (λ (ns : List Hwnd). IsOrderAt (e ∷ past) (kept ns z)) (as_numbers (e ∷ past) new tree)
-    (order_left past e (λ x. not (drops e (live past) x)) 15 (15 + length (windows_made past)) same rising z at under pins lists)
+    subst (λ (ns : List Hwnd). IsOrderAt (e ∷ past) (kept ns z)) (as_numbers (e ∷ past) new tree) (left_past setup past e z lawful right fine none pins lists at)
 
 -- with a new window
 entered : (setup : Setup) (past : Past) (t mid : Windows) (z z1 : Layers) (who : Thread) (name title parent style ex : ℕ) (l top r b : ℤ) (w : Hwnd) → IsLawful setup past → IsTreeAt past t → IsOrderAt past z → reply setup past who.0 (calls.NewWindow name title parent style ex l top r b) ≡ answers.Window w
@@ -188,3 +191,21 @@ pub order_after : (setup : Setup) (past : Past) (e : Entry) (t mid new : Windows
     → IsAddedBy e.who.0 e.answer e.call t mid → IsOrderAdded e.answer e.call t mid z z1 → z2 ≡ affected_order e.answer e.call new z1 → IsOrderAt (e ∷ past) z2
 order_after setup past e t mid new z z1 z2 lawful tree after at right made in_order left =
     subst (IsOrderAt (e ∷ past)) (sym left) (follows setup past t mid new z z1 e.who e.answer e.call lawful tree after at right made in_order)
+
+-- an order of each lawful past
+order_step : (setup : Setup) (past : Past) (who : Thread) (a : Answer) (call : Call) (z : Layers) → IsLawful setup past → IsOrderAt past z → a ≡ reply setup past who.0 call → (y : Layers) × IsOrderAt (entry_of who call a ∷ past) y
+order_step setup past who (answers.Window w) (calls.NewWindow name title parent style ex l top r b) z lawful at right = (_, order_made setup past who name title parent style ex l top r b w z lawful (sym right) at)
+order_step setup past who (answers.Value n) (calls.Place w to l top r b flags) z lawful at right = (reordered w to flags z, put_there setup past z who w to l top r b flags n (sym right) at)
+order_step setup past who answers.Okay (calls.Drop v) z lawful at right = (_, left_past setup past (entry_of who (calls.Drop v) answers.Okay) z lawful right refl refl (λ w. refl) (λ q. refl) at)
+order_step setup past who answers.Ended call z lawful at right =
+    let is_end : call ≡ calls.EndThread = end_told setup past who.0 call (by_row setup past who.0 call answers.Ended (sym right) refl).is_row in
+    (_, at_end call is_end right)
+  where
+    at_end : (c : Call) → c ≡ calls.EndThread → answers.Ended ≡ reply setup past who.0 c → IsOrderAt (entry_of who c answers.Ended ∷ past) (kept (numbers (live (entry_of who c answers.Ended ∷ past))) z)
+    at_end calls.EndThread is told = left_past setup past (entry_of who calls.EndThread answers.Ended) z lawful told refl refl (λ w. refl) (λ q. refl) at
+    at_end _ is told = absurd cc
+order_step setup past who a call z lawful at right = (z, order_rest setup past (entry_of who call a) z at right refl)
+
+pub order_of : (setup : Setup) (past : Past) → IsLawful setup past → (z : Layers) × IsOrderAt past z
+order_of setup [] lawful = (empty, record { standings = refl; lists = λ p. refl; kept = empty_kept })
+order_of setup (e ∷ past) lawful = let before = order_of setup past lawful.0 in order_step setup past e.who e.answer e.call before.0 lawful.0 before.1 lawful.1
