@@ -1,12 +1,15 @@
 pub mod Bridges
 pub mod ClassLaws
 pub mod ClassSteps
+pub mod Descents
 pub mod Destructions
 pub mod Lookups
 pub mod LookSteps
 pub mod NewWindows
 pub mod Outcomes
+pub mod PixelOwners
 pub mod Procs
+pub mod TitleLaws
 pub mod TreeAnswers
 pub mod TreeFacts
 pub mod TreeLaws
