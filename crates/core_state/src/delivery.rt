@@ -60,7 +60,10 @@ pub fn posting(tree: &Tree, stamp: Stamp, entry: Entry) -> Option<(u64, Msg)>
         | Call::Drop(..)
         | Call::Place(..)
         | Call::Show(..)
+        | Call::Find(..)
+        | Call::AwaitTitle(..)
         | Call::NextTop(..)
+        | Call::WindowAt(..)
         | Call::IsWindow(..)
         | Call::Parent(..)
         | Call::EndThread

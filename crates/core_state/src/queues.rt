@@ -99,7 +99,10 @@ fn removes(call: Call) -> bool
         | Call::Drop(..)
         | Call::Place(..)
         | Call::Show(..)
+        | Call::Find(..)
+        | Call::AwaitTitle(..)
         | Call::NextTop(..)
+        | Call::WindowAt(..)
         | Call::IsWindow(..)
         | Call::Parent(..)
         | Call::EndThread
