@@ -24,6 +24,10 @@ use Rattle.core_state.specs.Changes.{Change, changed, noted, count_kept, time_ke
 use Rattle.core_state.specs.Deliveries.{adding_in, effect_in}
 use Rattle.window_state.specs.Effects.{IsAddedBy, IsAffected, added_classes, affected_classes}
 use Rattle.window_state.specs.Needs.{FitsLooking, FitsNaming, FitsUnmaking}
+use Rattle.win_order.specs.Layers.{Layers}
+use Rattle.window_state.specs.Orders.{FitsOrder, FitsOrderEffect, IsOrderAdded, affected_order}
+use Rattle.window_state.proofs.OrderNeeds.{fits_order, fits_order_effect}
+use Rattle.window_state.proofs.OrderSteps.{order_after}
 use Rattle.core_state.specs.Needs.{FitsCarrying, FitsAdding, FitsEffect, IsOne}
 use Rattle.thread_state.specs.Threads.{ThreadView, thread_at}
 use Rattle.send_state.specs.Parts.{SendParts}
@@ -86,6 +90,18 @@ effect_by setup past p classes tree threads who _ call st right grown made same 
 pub settling_fits : (setup : Setup) (past : Past) (p : Parts) (e : Entry) (classes : ClassTable) (tree : Windows) (threads : List ThreadView) → Stands setup past p → e.answer ≡ reply setup past e.who.0 e.call → classes ≡ added_classes e.answer e.call p.classes → IsAddedBy e.who.0 e.answer e.call p.tree tree → length threads ≡ length p.threads → FitsEffect classes tree threads e.who.0 e.answer e.call
 settling_fits setup past p e classes tree threads st right grown made same = effect_by setup past p classes tree threads e.who e.answer e.call st right grown made same
 
+-- what it needs of the order
+pub ranking_fits : (setup : Setup) (past : Past) (p : Parts) (e : Entry) → Stands setup past p → e.answer ≡ reply setup past e.who.0 e.call → FitsOrder e.who.0 e.answer e.call p.tree p.order
+ranking_fits setup past p e st right = fits_order setup past p.tree p.order e.who e.answer e.call st.lawful st.tree st.order right
+
+leaving_by : (setup : Setup) (past : Past) (p : Parts) (who : Thread) (a : Answer) (call : Call) (tree : Windows) (order : Layers) → FitsOrderEffect who.0 a call p.tree p.order → IsAddedBy who.0 a call p.tree tree → IsOrderAdded a call p.tree tree p.order order → FitsOrderEffect who.0 a call tree order
+leaving_by setup past p who answers.Okay call tree order fits made ranked = subst (λ (t : Windows). FitsOrderEffect who.0 answers.Okay call t order) (sym made) (subst (FitsOrderEffect who.0 answers.Okay call p.tree) (sym ranked) fits)
+leaving_by setup past p who answers.Ended call tree order fits made ranked = subst (λ (t : Windows). FitsOrderEffect who.0 answers.Ended call t order) (sym made) (subst (FitsOrderEffect who.0 answers.Ended call p.tree) (sym ranked) fits)
+leaving_by setup past p who _ call tree order fits made ranked = tt
+
+pub leaving_fits : (setup : Setup) (past : Past) (p : Parts) (e : Entry) (tree : Windows) (order : Layers) → Stands setup past p → e.answer ≡ reply setup past e.who.0 e.call → IsAddedBy e.who.0 e.answer e.call p.tree tree → IsOrderAdded e.answer e.call p.tree tree p.order order → FitsOrderEffect e.who.0 e.answer e.call tree order
+leaving_fits setup past p e tree order st right made ranked = leaving_by setup past p e.who e.answer e.call tree order (fits_order_effect setup past p.tree p.order e.who e.answer e.call st.lawful st.tree st.order right) made ranked
+
 -- ---- the parts after an entry
 
 -- an answer that makes a window changes nothing else
@@ -147,21 +163,23 @@ tally_step setup past p e place lost tree sends st right here made begun counted
     tally_fits past p.tally lost st.tally st.short (subst (λ n. n ≤ 1024) (sym same) (losses_few setup past e p.sends p.tree.live (st.lawful, right) st.sends st.tree.windows))
 
 -- the parts that were brought up to date stand for the past with the entry
-pub stands_step : (setup : Setup) (past : Past) (p : Parts) (point : Point) (e : Entry) (classes1 classes2 : ClassTable) (tree1 tree2 : Windows) (threads1 threads2 threads3 : List ThreadView) (sends1 sends2 : SendParts) (first : Option Cause) (lost : ℕ) (tally : Tally) (stories1 stories2 stories3 : List SendStory) (place : ℕ)
+pub stands_step : (setup : Setup) (past : Past) (p : Parts) (point : Point) (e : Entry) (classes1 classes2 : ClassTable) (tree1 tree2 : Windows) (order1 order2 : Layers) (threads1 threads2 threads3 : List ThreadView) (sends1 sends2 : SendParts) (first : Option Cause) (lost : ℕ) (tally : Tally) (stories1 stories2 stories3 : List SendStory) (place : ℕ)
     → is_full past ≡ false → e.answer ≡ reply setup past e.who.0 e.call → Stands setup past p → point ≡ cursor past
     → classes1 ≡ added_classes e.answer e.call p.classes → classes2 ≡ affected_classes e.answer e.call classes1
     → IsAddedBy e.who.0 e.answer e.call p.tree tree1 → IsAffected e.who.0 e.answer e.call tree1 tree2
+    → IsOrderAdded e.answer e.call p.tree tree1 p.order order1 → order2 ≡ affected_order e.answer e.call tree2 order1
     → EachBy (λ t. changed t (adding_in p.tree.live p.time point e.who.0 e.answer e.call)) p.threads threads1
     → EachBy (λ t. changed t (effect_in tree1.live e.who.0 e.answer e.call)) threads1 threads2
     → EachBy (λ t. noted t e) threads2 threads3
     → sends1 ≡ added_sends p.tree.live p.time place e.who e.answer e.call p.sends → sends2 ≡ affected_sends tree1.live place e.who.0 e.answer e.call sends1 → place ≡ place_after past
     → first ≡ first_cause p.sends e.who.0 e.answer e.call → lost ≡ losses_by tree1.live place e.who.0 e.answer e.call sends1 → tally ≡ tallied e.answer first lost p.tally
     → stories1 ≡ with_begun e.answer p.stories → EachStory (noted_losses tree1.live place e.who.0 e.answer e.call sends1) stories1 stories2 → EachStory (noted_answer e.answer (named_send p.sends e.who.0 e.answer e.call) place) stories2 stories3
-    → Stands setup (e ∷ past) (parts tree2 classes2 threads3 (count_kept e.answer p.post_count) (time_kept e p.time) sends2 tally stories3)
-stands_step setup past p point e classes1 classes2 tree1 tree2 threads1 threads2 threads3 sends1 sends2 cause lost tally stories1 stories2 stories3 place room right st at grown settled made given first second note begun left here named counted noted_tally story_more story_losses story_answers = record {
+    → Stands setup (e ∷ past) (parts tree2 order2 classes2 threads3 (count_kept e.answer p.post_count) (time_kept e p.time) sends2 tally stories3)
+stands_step setup past p point e classes1 classes2 tree1 tree2 order1 order2 threads1 threads2 threads3 sends1 sends2 cause lost tally stories1 stories2 stories3 place room right st at grown settled made given ranked left_order first second note begun left here named counted noted_tally story_more story_losses story_answers = record {
   lawful = (st.lawful, right);
   short = grind (arith, nat_tests, room);
   tree = tree_after setup past e p.tree tree1 tree2 st.lawful st.tree right made given;
+  order = order_after setup past e p.tree tree1 tree2 p.order order1 order2 st.lawful st.tree (tree_after setup past e p.tree tree1 tree2 st.lawful st.tree right made given) st.order right made ranked left_order;
   classes = settled ∙ ap (affected_classes e.answer e.call) (grown ∙ ap (added_classes e.answer e.call) st.classes) ∙ sym (classes_after setup past e right);
   count = note.same_length ∙ second.same_length ∙ first.same_length ∙ st.count;
   each = record {

@@ -11,6 +11,9 @@ use Rattle.send_variants.specs.Lists.{AreBelow, Entry}
 use Rattle.send_variants.proofs.Entries.{sound-new}
 use Rattle.send_state.specs.Parts.{no_parts, rank}
 use Rattle.send_state.specs.Standing.{PartsStand, item}
+use Rattle.win_order.specs.Layers.{empty}
+use Rattle.win_order.proofs.KeptLaws.{empty_kept}
+use Rattle.window_state.specs.Orders.{IsOrderAt}
 
 no_frames : (n i : ℕ) → get_or (replicate n (let fs : List Frame = [] in fs)) i [] ≡ []
 no_frames zero i = refl
@@ -38,3 +41,7 @@ no_parts_stand setup is = record {
     sound = sound-new setup.threads is.some_thread is.few_threads;
   };
 }
+
+-- no window stands in an order yet
+pub no_order : IsOrderAt [] empty
+no_order = record { standings = refl; lists = λ p. refl; kept = empty_kept }

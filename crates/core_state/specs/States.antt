@@ -15,6 +15,8 @@ use Rattle.user_model.specs.declared.story.SendStory.{SendStory}
 use Rattle.send_state.specs.declared.tally.Tally.{Tally}
 use Rattle.window_state.specs.ClassTables.{classes_at}
 use Rattle.thread_state.specs.Threads.{ThreadView, thread_at}
+use Rattle.win_order.specs.Layers.{Layers}
+use Rattle.window_state.specs.Orders.{IsOrderAt}
 use Rattle.window_state.specs.Trees.{IsTreeAt}
 
 -- its setup and its past
@@ -25,6 +27,7 @@ pub record Seen : Type 0 where
 -- the parts beside the history
 pub record Parts : Type 0 where
   pub tree : Windows
+  pub order : Layers
   pub classes : ClassTable
   pub threads : List ThreadView
   pub post_count : ℕ
@@ -34,8 +37,8 @@ pub record Parts : Type 0 where
   pub stories : List SendStory
 
 -- the parts from their values
-abbrev pub parts : Windows → ClassTable → List ThreadView → ℕ → ℕ → SendParts → Tally → List SendStory → Parts
-parts tree classes threads post_count time sends tally stories = record { tree = tree; classes = classes; threads = threads; post_count = post_count; time = time; sends = sends; tally = tally; stories = stories }
+abbrev pub parts : Windows → Layers → ClassTable → List ThreadView → ℕ → ℕ → SendParts → Tally → List SendStory → Parts
+parts tree order classes threads post_count time sends tally stories = record { tree = tree; order = order; classes = classes; threads = threads; post_count = post_count; time = time; sends = sends; tally = tally; stories = stories }
 
 -- each thread's part is what the past says of the thread
 pub record EachThread (past : Past) (threads : List ThreadView) : Type 0 where
@@ -51,6 +54,7 @@ pub record Stands (setup : Setup) (past : Past) (p : Parts) : Type 0 where
   pub lawful : IsLawful setup past
   pub short : length past ≤ 2097152
   pub tree : IsTreeAt past p.tree
+  pub order : IsOrderAt past p.order
   pub classes : p.classes ≡ classes_at past
   pub count : length p.threads ≡ setup.threads
   pub each : EachThread past p.threads

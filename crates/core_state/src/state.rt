@@ -20,6 +20,8 @@ ghost use Rattle.user_model.specs.Stories.{send_story};
 ghost use Rattle.core_state.specs.Frames.{IsOnTop, wait_end};
 ghost use Rattle.user_model.specs.Windows.{live, window, is_live, parent_in, thread_of, up, next_top};
 ghost use Rattle.user_model.specs.Looks.{look, placed, is_shown};
+ghost use Rattle.user_model.specs.ZOrder.{titled};
+ghost use Rattle.user_model.specs.Pixels.{owner, point};
 ghost use Rattle.user_model.specs.Refusals.{is_no_rect};
 ghost use Rattle.window_state.specs.Placings.{box_of};
 ghost use Rattle.user_model.specs.Destruction.{is_marked, was_given, ended};
@@ -39,8 +41,11 @@ use thread_state::ThreadState;
 use user_model::{Answer, Call, Entry, HISTORY_LIMIT, SendCount, SendStory, Setup};
 use win_class::Classes;
 use win_num::{Cause, Filter, Frame, Hwnd, Msg, Point, SendId, Thread};
+use win_order::Order;
 use win_tree::Tree;
-use window_state::{Placing, is_shown, parent_of, placing_changes, step_told, thread_of, up};
+use window_state::{
+    Placing, is_shown, owner_at, parent_of, placing_changes, step_told, thread_of, titled, up,
+};
 
 /// The history so far, and parts that answer in short time what the definitions say of it.
 #[derive(Drop)]
@@ -49,6 +54,7 @@ pub struct CoreState {
     /// The entries, the oldest first.
     history: Vec<Entry>,
     tree: Tree,
+    order: Order,
     classes: Classes,
     /// What is kept of each thread, from thread 1 on.
     threads: Vec<ThreadState>,
@@ -70,12 +76,12 @@ impl Model for CoreState {
 
     ghost view = { λ s. record { setup = s.setup; past = reverse s.history.items } };
 
-    ghost invariant = { λ s. Stands s.setup (reverse s.history.items) (parts s.tree s.classes s.threads.items s.post_count s.time s.sends s.tally s.stories.items) };
+    ghost invariant = { λ s. Stands s.setup (reverse s.history.items) (parts s.tree s.order s.classes s.threads.items s.post_count s.time s.sends s.tally s.stories.items) };
 }
 
 impl CoreState {
     /// No entry yet.
-    #[tactic(auto, using(crate::proofs::FreshSends::no_parts_stand))]
+    #[tactic(auto, using(crate::proofs::FreshSends::no_parts_stand, crate::proofs::FreshSends::no_order))]
     pub fn new(alloc: Global, setup: Setup) -> Result<CoreState, AllocError>
         requires { IsSetup setup }
         ensures { IfOk result (λ s. s ≡ record { setup = setup; past = [] }) }
@@ -84,6 +90,7 @@ impl CoreState {
             setup,
             history: Vec::new(alloc),
             tree: Tree::new(alloc),
+            order: Order::new(alloc),
             classes: Classes::new(alloc),
             threads: fresh_threads(alloc, setup.threads)?,
             post_count: 0,
@@ -471,6 +478,23 @@ impl CoreState {
         tree.next_top(Hwnd(w as u32))
     }
 
+    /// The highest top-level window of a title, a place in the list of names. None comes exactly where no
+    /// top-level window has it.
+    pub fn titled(&self, title: u32) -> Option<Hwnd>
+        ensures { result ≡ titled self.now.past title }
+    {
+        titled(&self.tree, &self.order, title)
+    }
+
+    /// The window that owns the pixel at x and y, counted from the screen's left top corner, or 0: off the
+    /// screen, and where no visible window has the pixel.
+    pub fn owner_at(&self, x: i64, y: i64) -> Hwnd
+        ensures { result ≡ owner self.now.setup self.now.past (point x y) }
+    {
+        let Setup { width, height, .. } = self.setup;
+        owner_at(&self.tree, &self.order, width, height, x, y)
+    }
+
     /// How many windows are live.
     pub fn window_count(&self) -> usize
         ensures { result ≡ length (live self.now.past) }
@@ -556,6 +580,7 @@ impl CoreState {
         add_item(
             &mut self.classes,
             &mut self.tree,
+            &mut self.order,
             &mut self.threads,
             &mut self.sends,
             stamp,
@@ -570,7 +595,13 @@ impl CoreState {
             entry,
         );
         note_answer(&mut self.stories, entry.answer, named, place);
-        take_effect(&mut self.classes, &mut self.tree, &mut self.threads, entry);
+        take_effect(
+            &mut self.classes,
+            &mut self.tree,
+            &mut self.order,
+            &mut self.threads,
+            entry,
+        );
         note_entry(&mut self.threads, entry);
         self.post_count = count_after(self.post_count, entry.answer);
         self.time = time_after(self.time, entry);

@@ -1,6 +1,7 @@
 pub mod Chains
 pub mod Finding
 pub mod Indexes
+mod PlaceLemmas
 pub mod Purges
 pub mod QueueLemmas
 pub mod Walks

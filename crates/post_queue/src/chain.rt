@@ -7,12 +7,12 @@ ghost use Rattle.slab.specs.Slab.{get};
 ghost use Rattle.post_queue.specs.Queue.{FindsFirst, count_above, count_for, message_of, post_of, without_number};
 ghost use Rattle.post_queue.specs.Chains.{IsAfterChanged, IsBeforeChanged, IsChain, IsChangedAt, end_left, posted_at, posted_in, posted_of};
 
+use crate::index::Index;
 use crate::sealed::Sealed;
 use crate::slot::Slot;
 use crate::steps::Steps;
 use slab::Slab;
 use std::alloc::{AllocError, Global};
-use std::collections::BTreeMap;
 use std::sync::ledger::Ledger;
 use win_num::{Hwnd, Msg};
 
@@ -20,7 +20,7 @@ use win_num::{Hwnd, Msg};
 #[derive(Drop)]
 pub(crate) struct Chain {
     pub(crate) slots: Slab<Slot>,
-    pub(crate) index: BTreeMap<u32, usize>,
+    pub(crate) index: Index,
     /// The key of the first slot.
     pub(crate) first: Option<usize>,
     /// The key of the last slot.
@@ -34,7 +34,7 @@ pub(crate) fn no_messages(alloc: Global) -> Chain
 {
     Chain {
         slots: Slab::new(alloc),
-        index: BTreeMap::new(alloc),
+        index: Index::new(alloc),
         first: None,
         last: None,
     }
@@ -50,9 +50,7 @@ pub(crate) fn push(chain: &mut Chain, number: u32, msg: Msg) -> Result<(), Alloc
 {
     chain.slots.reserve(1)?;
     let key = chain.slots.vacant_key();
-    let Ok(_) = chain.index.insert(number, key) else {
-        return Err(AllocError);
-    };
+    chain.index.push(number, key)?;
     chain.slots.insert_reserved(Slot {
         number,
         hwnd: msg.hwnd,
@@ -60,8 +58,7 @@ pub(crate) fn push(chain: &mut Chain, number: u32, msg: Msg) -> Result<(), Alloc
         before: chain.last,
         after: None,
     });
-    set_after(&mut chain.slots, chain.last, Some(key));
-    chain.first = chain.first.or(Some(key));
+    join_after(&mut chain.slots, &mut chain.first, chain.last, Some(key));
     chain.last = Some(key);
     Ok(())
 }
@@ -74,23 +71,11 @@ pub(crate) fn take(chain: &mut Chain, number: u32) -> Option<Msg>
     ensures rest { posted_in chain.new ≡ without_number (posted_in chain.old) number }
     ensures parts { (us vs : List (ℕ × ℕ)) (key : ℕ) → chain.old.index.entries ≡ us ++ (number, key) ∷ vs → (chain.new.index.entries ≡ us ++ vs) × (posted_at (get chain.new.slots) us ≡ posted_at (get chain.old.slots) us) × (posted_at (get chain.new.slots) vs ≡ posted_at (get chain.old.slots) vs) }
 {
-    let key = chain.index.remove(&number)?;
+    let key = chain.index.take(number)?;
     let slot = chain.slots.remove(key);
-    set_after(&mut chain.slots, slot.before, slot.after);
-    set_before(&mut chain.slots, slot.after, slot.before);
-    chain.first = end_left(slot.before, chain.first, slot.after);
-    chain.last = end_left(slot.after, chain.last, slot.before);
+    join_after(&mut chain.slots, &mut chain.first, slot.before, slot.after);
+    join_before(&mut chain.slots, &mut chain.last, slot.after, slot.before);
     Some(slot.sealed.into_msg())
-}
-
-/// An end of the chain once a slot has gone, by what stands beside the slot towards this end and the other.
-fn end_left(beside: Option<usize>, end: Option<usize>, other: Option<usize>) -> Option<usize>
-    ensures { result ≡ end_left beside end other }
-{
-    match beside {
-        Some(_) => end,
-        None => other,
-    }
 }
 
 /// Takes all messages out.
@@ -172,6 +157,38 @@ pub(crate) fn purge<F: Fn(Hwnd) -> bool>(chain: &mut Chain, goes: F)
         if goes(window) {
             take(chain, number);
         }
+    }
+}
+
+/// Says which slot comes after the one under this key, or first where there is none.
+fn join_after(
+    slots: &mut Slab<Slot>,
+    first: &mut Option<usize>,
+    at: Option<usize>,
+    after: Option<usize>,
+)
+    ensures slots { IsChangedAt at (IsAfterChanged after) (get slots.old) (get slots.new) }
+    ensures first { first.new ≡ end_left at first.old after }
+{
+    match at {
+        Some(_) => set_after(slots, at, after),
+        None => *first = after,
+    }
+}
+
+/// Says which slot comes before the one under this key, or last where there is none.
+fn join_before(
+    slots: &mut Slab<Slot>,
+    last: &mut Option<usize>,
+    at: Option<usize>,
+    before: Option<usize>,
+)
+    ensures slots { IsChangedAt at (IsBeforeChanged before) (get slots.old) (get slots.new) }
+    ensures last { last.new ≡ end_left at last.old before }
+{
+    match at {
+        Some(_) => set_before(slots, at, before),
+        None => *last = before,
     }
 }
 

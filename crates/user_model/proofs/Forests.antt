@@ -249,3 +249,25 @@ top_thread ws h (suc n) w t e = pick (λ u e. top_thread ws h n u t e) (eqb (par
     pick : ((u : ℕ) → thread_in ws u ≡ Some t → thread_in ws (top_within n ws u) ≡ Some t) → (b : Bool) → eqb (parent_in ws w) 0 ≡ b → thread_in ws (elim b as (λ c. ℕ) [ true ↦ w | false ↦ top_within n ws (parent_in ws w) ]) ≡ Some t
     pick rest true q = e
     pick rest false q = rest (parent_in ws w) (next (all_found (IsUnder ws) (λ y. eqb y.number w) ws (found.0) h found.1) q)
+
+-- a parent has a lesser number
+parent_less : (from last : ℕ) (ws : List Window) (w : ℕ) → IsRising from last ws → eqb (parent_in ws w) 0 ≡ false → parent_in ws w < w
+parent_less from last ws w h some = pick (find_window ws w) refl
+  where
+    pick : (o : Option Window) → find_window ws w ≡ o → parent_in ws w < w
+    pick None e = absurd (true≢false (sym (ap (λ (o : Option Window). eqb (unwrap_or (option_map (λ (x : Window). x.parent) o) 0) 0) e) ∙ some))
+    pick (Some x) e =
+        let parent : parent_in ws w ≡ x.parent = ap (λ (o : Option Window). unwrap_or (option_map (λ (y : Window). y.parent) o) 0) e in
+        let over : up x ≡ x.parent = up_parent x (ap (λ p. eqb p 0) (sym parent) ∙ some) in
+        let b = between_found from last ws w x h e in
+        let n = number_found ws w x e in
+        omega (arith, b.older, n, parent, over)
+
+-- the top-level ancestor has no parent
+pub top_has_none : (from last : ℕ) (ws : List Window) → IsRising from last ws → (n w : ℕ) → w ≤ n → parent_in ws (top_within n ws w) ≡ 0
+top_has_none from last ws h zero w le = ap (λ (o : Option Window). unwrap_or (option_map (λ (x : Window). x.parent) o) 0) (none_before from last ws w h (omega (arith, le)))
+top_has_none from last ws h (suc n) w le = pick (top_has_none from last ws h n) (eqb (parent_in ws w) 0) refl
+  where
+    pick : ((u : ℕ) → u ≤ n → parent_in ws (top_within n ws u) ≡ 0) → (b : Bool) → eqb (parent_in ws w) 0 ≡ b → parent_in ws (elim b as (λ c. ℕ) [ true ↦ w | false ↦ top_within n ws (parent_in ws w) ]) ≡ 0
+    pick rest true k = eqb-true (parent_in ws w) 0 k
+    pick rest false k = rest (parent_in ws w) (let l = parent_less from last ws w h k in omega (arith, le, l))

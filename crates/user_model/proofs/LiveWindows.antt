@@ -64,7 +64,7 @@ parent_thread past parent who some good own =
     let both = parent_tests (eqb parent 0) (is_live past parent) (not (is_marked past parent)) (eqb (thread_of past parent) who) some good own in
     live_found (window past parent) who both.0 both.1
 
-new_under : (setup : Setup) (past : Past) (who : Thread) (name title parent style ex : ℕ) (l t r b : ℤ) (w : Hwnd) → AllByRecursion (IsUnder (live past)) (live past) → IsNewWindow setup past who.0 name parent style ex l t r b w → IsUnder (live past) (new_window who name title parent style ex l t r b w (live past))
+pub new_under : (setup : Setup) (past : Past) (who : Thread) (name title parent style ex : ℕ) (l t r b : ℤ) (w : Hwnd) → AllByRecursion (IsUnder (live past)) (live past) → IsNewWindow setup past who.0 name parent style ex l t r b w → IsUnder (live past) (new_window who name title parent style ex l t r b w (live past))
 new_under setup past who name title parent style ex l t r b w h new = by_style (has_flag style WS_CHILD) (eqb parent 0) refl new.some_parent
   where
     zero_top : (p : ℕ) → p ≡ 0 → top_of (live past) p ≡ 0

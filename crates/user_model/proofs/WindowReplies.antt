@@ -167,17 +167,18 @@ message_value setup past who name a e right =
     sym room.1
 
 -- a live window was put at a place: its edges are good
-pub record IsPlaced (past : Past) (w : ℕ) (l t r b : ℤ) : Type 0 where
+pub record IsPlaced (past : Past) (w : ℕ) (after l t r b : ℤ) (flags : ℕ) : Type 0 where
   pub good_edges : is_no_rect l t r b ≡ false
+  pub good_order : (not (has_flag flags SWP_NOZORDER) && (is_live past w && not (is_order past w after))) ≡ false
   pub lives : is_live past w ≡ true
 
-pub place_told : (setup : Setup) (past : Past) (who w : ℕ) (after l t r b : ℤ) (flags n : ℕ) → reply setup past who (calls.Place w after l t r b flags) ≡ answers.Value n → IsPlaced past w l t r b
+pub place_told : (setup : Setup) (past : Past) (who w : ℕ) (after l t r b : ℤ) (flags n : ℕ) → reply setup past who (calls.Place w after l t r b flags) ≡ answers.Value n → IsPlaced past w after l t r b flags
 place_told setup past who w after l t r b flags n e =
     let by = by_call setup past who (calls.Place w after l t r b flags) (answers.Value n) e refl refl in
     let numbers = not_refused (is_no_rect l t r b || is_no_placing flags) invalid_parameter _ (answers.Value n) refl by.is_row in
     let order = not_refused (not (has_flag flags SWP_NOZORDER) && (is_live past w && not (is_order past w after))) invalid_parameter _ (answers.Value n) refl numbers.1 in
     let live = not_refused (not (is_live past w)) invalid_window_handle _ (answers.Value n) refl order.1 in
-    record { good_edges = (or_parts (is_no_rect l t r b) (is_no_placing flags) numbers.0).0; lives = not_false (is_live past w) live.0 }
+    record { good_edges = (or_parts (is_no_rect l t r b) (is_no_placing flags) numbers.0).0; good_order = order.0; lives = not_false (is_live past w) live.0 }
 
 -- a live window was shown or hidden
 pub show_told : (setup : Setup) (past : Past) (who w on n : ℕ) → reply setup past who (calls.Show w on) ≡ answers.Value n → is_live past w ≡ true

@@ -31,13 +31,14 @@ standing past x = record { window = hwnd x.number; parent = hwnd x.parent; owner
 abbrev pub standings : Past → List Standing
 standings past = reverse (map (standing past) (live past))
 
--- where AFTER puts a window among its siblings
+-- where AFTER puts a window among its siblings; other numbers below 0 are refused
 abbrev pub after_of : ℤ → After
 after_of (pos zero) = Top
 after_of (pos (suc zero)) = Bottom
 after_of (pos (suc (suc n))) = Below (hwnd (suc (suc n)))
 after_of (negsuc zero) = Topmost
-after_of (negsuc (suc n)) = NoTopmost
+after_of (negsuc (suc zero)) = NoTopmost
+after_of (negsuc (suc (suc n))) = Top
 
 -- the siblings with a window put where AFTER says; top-level windows are then mended: topmost ones come above all others, and owned
 -- ones above their owners

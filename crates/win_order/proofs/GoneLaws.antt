@@ -9,7 +9,7 @@ use Rattle.std.specs.declared.cmp.Ordering.TheVariants.{Less, Equal, Greater}
 use Rattle.std.proofs.lemmas.Bool.{eqb-true, eqb-false, ltb-true, ltb-false}
 use Rattle.std.proofs.lemmas.List.Folds.{list_any_at, list_any_none}
 use Rattle.win_num.specs.declared.message.Hwnd.{Hwnd}
-use Rattle.win_order.specs.Layers.{is_gone}
+use Rattle.win_order.specs.Layers.{is_among}
 
 abbrev place : Bool → Bool → ℕ
 place less same = ordering_index (cond less Less (cond same Equal Greater))
@@ -52,8 +52,8 @@ none_there gone w i parts = λ k d lt. by k d lt (ltb k i) refl
     by k d lt true below = differs (get_or gone k d).0 w Less (parts.0 k d (omega arith) (ltb-true k i below)) (λ e. cc)
     by k d lt false above = differs (get_or gone k d).0 w Greater (parts.1 k d (ltb-false k i above) lt) (λ e. cc)
 
--- the search finds exactly those that go
-pub gone_search : (gone : List Hwnd) (w : ℕ) (r : Result ℕ ℕ) → IsNonDecreasingBy (λ (v : Hwnd). v.0) gone → IsSearchInRange r (length gone) → IsBinarySearchResult (λ (y : Hwnd). nat_cmp y.0 w) gone r → is_ok r ≡ is_gone gone w
+-- the search finds exactly those that are among them
+pub gone_search : (gone : List Hwnd) (w : ℕ) (r : Result ℕ ℕ) → IsNonDecreasingBy (λ (v : Hwnd). v.0) gone → IsSearchInRange r (length gone) → IsBinarySearchResult (λ (y : Hwnd). nat_cmp y.0 w) gone r → is_ok r ≡ is_among gone w
 gone_search gone w (Ok i) rising within found =
     let none : Hwnd = record { 0 = 0 } in
     sym (list_any_at (λ (v : Hwnd). eqb v.0 w) gone i none within (equal_by (ltb (get_or gone i none).0 w) (eqb (get_or gone i none).0 w) (found none)))

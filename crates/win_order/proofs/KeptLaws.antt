@@ -13,7 +13,7 @@ use Rattle.win_order.specs.Standing.{Standing}
 use Rattle.win_order.specs.declared.top_level.TopLevel.{TopLevel}
 use Rattle.win_order.specs.Families.{place_in, put, windows_of, with_windows, without}
 use Rattle.win_order.specs.Kept.{AllCameNew, IsKept, age_in, is_child, times, top_levels}
-use Rattle.win_order.specs.Layers.{IsNew, IsPlace, Layers, MayGo, empty, has_none, inserted, is_gone, placed, relisted, removed, removed_those, settled, stands}
+use Rattle.win_order.specs.Layers.{IsNew, IsPlace, Layers, empty, has_none, inserted, is_gone, kept, may_stay, placed, relisted, removed, settled, stands}
 use Rattle.win_order.specs.Mended.{AreOwned, IsMended, goes_along, has_older_owner, staying}
 use Rattle.win_order.specs.Mending.{has, may_follow}
 use Rattle.win_order.specs.Siblings.{Siblings}
@@ -36,7 +36,7 @@ pub listed_any : (v : ℕ) (ws : List Hwnd) → list_any (λ u. eqb u.0 v) ws �
 listed_any v [] = refl
 listed_any v (w ∷ ws) = ap (λ b. eqb w.0 v || b) (listed_any v ws) ∙ (any_by_times (eqb w.0 v) (times v ws) ∙ ap (ltb 0) (sym (times_cons v w ws)))
 
-test_of_count : (b : Bool) → ltb 0 (cond b 1 0) ≡ b
+pub test_of_count : (b : Bool) → ltb 0 (cond b 1 0) ≡ b
 test_of_count true = refl
 test_of_count false = refl
 
@@ -46,7 +46,7 @@ Lists ss ws = (v : ℕ) → times v ws ≡ cond (is_child v 0 ss) 1 0
 pub listed_here : (ss : List Standing) (ws : List Hwnd) → Lists ss ws → (v : ℕ) → list_any (λ u. eqb u.0 v) ws ≡ is_child v 0 ss
 listed_here ss ws listed v = listed_any v ws ∙ (ap (ltb 0) (listed v) ∙ test_of_count (is_child v 0 ss))
 
-each_here : (front ws : List Hwnd) → list_all (λ w. list_any (λ u. eqb u.0 w.0) (front ++ ws)) ws ≡ true
+pub each_here : (front ws : List Hwnd) → list_all (λ w. list_any (λ u. eqb u.0 w.0) (front ++ ws)) ws ≡ true
 each_here front [] = refl
 each_here front (w ∷ ws) =
     let here : list_any (λ u. eqb u.0 w.0) (front ++ w ∷ ws) ≡ true = list_any-append (λ u. eqb u.0 w.0) front (w ∷ ws) ∙ or_second (list_any (λ u. eqb u.0 w.0) front) (eqb w.0 w.0 || list_any (λ u. eqb u.0 w.0) ws) (or_first (eqb w.0 w.0) (list_any (λ u. eqb u.0 w.0) ws) (eq-eqb w.0 w.0 refl)) in
@@ -118,7 +118,7 @@ windows_same_by : (p : Hwnd) (ws : List Hwnd) (f : Siblings) (fs : List Siblings
 windows_same_by p ws f fs true is ih = ap (λ l. windows_of l p.0) (with_first p ws f fs is) ∙ windows_first (record { parent = p; windows = ws }) fs p.0 (eq-eqb p.0 p.0 refl)
 windows_same_by p ws f fs false is ih = ap (λ l. windows_of l p.0) (with_next p ws f fs is) ∙ (windows_next f (with_windows p ws fs) p.0 is ∙ ih)
 
-windows_same : (p : Hwnd) (ws : List Hwnd) (fs : List Siblings) → windows_of (with_windows p ws fs) p.0 ≡ ws
+pub windows_same : (p : Hwnd) (ws : List Hwnd) (fs : List Siblings) → windows_of (with_windows p ws fs) p.0 ≡ ws
 windows_same p ws [] = windows_first (record { parent = p; windows = ws }) [] p.0 (eq-eqb p.0 p.0 refl)
 windows_same p ws (f ∷ fs) = windows_same_by p ws f fs (eqb f.parent.0 p.0) refl (windows_same p ws fs)
 
@@ -128,7 +128,7 @@ windows_else_by p ws f fs q true false is isq differs ih = ap (λ l. windows_of 
 windows_else_by p ws f fs q false true is isq differs ih = ap (λ l. windows_of l q) (with_next p ws f fs is) ∙ (windows_first f (with_windows p ws fs) q isq ∙ sym (windows_first f fs q isq))
 windows_else_by p ws f fs q false false is isq differs ih = ap (λ l. windows_of l q) (with_next p ws f fs is) ∙ (windows_next f (with_windows p ws fs) q isq ∙ (ih ∙ sym (windows_next f fs q isq)))
 
-windows_else : (p : Hwnd) (ws : List Hwnd) (fs : List Siblings) (q : ℕ) → eqb p.0 q ≡ false → windows_of (with_windows p ws fs) q ≡ windows_of fs q
+pub windows_else : (p : Hwnd) (ws : List Hwnd) (fs : List Siblings) (q : ℕ) → eqb p.0 q ≡ false → windows_of (with_windows p ws fs) q ≡ windows_of fs q
 windows_else p ws [] q differs = windows_next (record { parent = p; windows = ws }) [] q differs
 windows_else p ws (f ∷ fs) q differs = windows_else_by p ws f fs q (eqb f.parent.0 p.0) (eqb f.parent.0 q) refl refl differs (windows_else p ws fs q differs)
 
@@ -257,7 +257,7 @@ parent_is_by : (s : Standing) (ss : List Standing) (w : ℕ) (b : Bool) → eqb 
 parent_is_by s ss w true is e ih = subst (λ (h : Hwnd). is_child w h.0 (s ∷ ss) ≡ true) (sym (parent_first s ss w is)) (or_first (eqb s.window.0 w && eqb s.parent.0 s.parent.0) (is_child w s.parent.0 ss) (and_true (eqb s.window.0 w) (eqb s.parent.0 s.parent.0) is (eq-eqb s.parent.0 s.parent.0 refl)))
 parent_is_by s ss w false is e ih = subst (λ (h : Hwnd). is_child w h.0 (s ∷ ss) ≡ true) (sym (parent_next s ss w is)) (or_second (eqb s.window.0 w && eqb s.parent.0 (parent_of ss w).0) (is_child w (parent_of ss w).0 ss) (ih e))
 
-parent_is : (ss : List Standing) (w : ℕ) → among w ss ≡ true → is_child w (parent_of ss w).0 ss ≡ true
+pub parent_is : (ss : List Standing) (w : ℕ) → among w ss ≡ true → is_child w (parent_of ss w).0 ss ≡ true
 parent_is [] w e = absurd (false≢true e)
 parent_is (s ∷ ss) w e = parent_is_by s ss w (eqb s.window.0 w) refl e (parent_is ss w)
 
@@ -273,7 +273,7 @@ lone_child_by s ss fresh w q true is differs ih =
 lone_child_by s ss fresh w q false is differs ih = rw is (ih (ap (λ (h : Hwnd). eqb h.0 q) (sym (parent_next s ss w is)) ∙ differs))
 
 -- a window has one parent
-lone_child : (ss : List Standing) → AllCameNew ss → (w q : ℕ) → eqb (parent_of ss w).0 q ≡ false → is_child w q ss ≡ false
+pub lone_child : (ss : List Standing) → AllCameNew ss → (w q : ℕ) → eqb (parent_of ss w).0 q ≡ false → is_child w q ss ≡ false
 lone_child [] n w q differs = refl
 lone_child (s ∷ ss) n w q differs = lone_child_by s ss n.0.fresh w q (eqb s.window.0 w) refl differs (lone_child ss n.1 w q)
 
@@ -295,13 +295,13 @@ placed_kept w after z k place =
 
 -- Windows that go.
 
-abbrev cut_out : (ℕ → Bool) → Siblings → Siblings
+abbrev pub cut_out : (ℕ → Bool) → Siblings → Siblings
 cut_out gone f = record { parent = f.parent; windows = filter (λ v. not (gone v.0)) f.windows }
 
 abbrev cleared : (ℕ → Bool) → Layers → Layers
 cleared gone z = record { standings = left gone z.standings; families = map (cut_out gone) (filter (λ f. not (gone f.parent.0)) z.families) }
 
-abbrev keeps : (ℕ → Bool) → List Siblings → List Siblings
+abbrev pub keeps : (ℕ → Bool) → List Siblings → List Siblings
 keeps gone fs = map (cut_out gone) (filter (λ f. not (gone f.parent.0)) fs)
 
 windows_gone_by : (gone : ℕ → Bool) (f : Siblings) (fs : List Siblings) (q : ℕ) (b c : Bool) → gone f.parent.0 ≡ b → eqb f.parent.0 q ≡ c → gone q ≡ true → windows_of (keeps gone fs) q ≡ [] → windows_of (keeps gone (f ∷ fs)) q ≡ []
@@ -309,7 +309,7 @@ windows_gone_by gone f fs q true c is isq goes ih = ap (λ l. windows_of (map (c
 windows_gone_by gone f fs q false true is isq goes ih = absurd (false≢true (sym is ∙ (ap gone (eqb-true f.parent.0 q isq) ∙ goes)))
 windows_gone_by gone f fs q false false is isq goes ih = ap (λ l. windows_of (map (cut_out gone) l) q) (keep_first (λ g. not (gone g.parent.0)) f fs (ap not is)) ∙ rw (isq, windows_of) ih
 
-windows_gone : (gone : ℕ → Bool) (fs : List Siblings) (q : ℕ) → gone q ≡ true → windows_of (keeps gone fs) q ≡ []
+pub windows_gone : (gone : ℕ → Bool) (fs : List Siblings) (q : ℕ) → gone q ≡ true → windows_of (keeps gone fs) q ≡ []
 windows_gone gone [] q goes = refl
 windows_gone gone (f ∷ fs) q goes = windows_gone_by gone f fs q (gone f.parent.0) (eqb f.parent.0 q) refl refl goes (windows_gone gone fs q goes)
 
@@ -319,7 +319,7 @@ windows_left_by gone f fs q true false is isq stays ih = ap (λ l. windows_of (m
 windows_left_by gone f fs q false true is isq stays ih = ap (λ l. windows_of (map (cut_out gone) l) q) (keep_first (λ g. not (gone g.parent.0)) f fs (ap not is)) ∙ (windows_first (cut_out gone f) (keeps gone fs) q isq ∙ ap (filter (λ v. not (gone v.0))) (sym (windows_first f fs q isq)))
 windows_left_by gone f fs q false false is isq stays ih = ap (λ l. windows_of (map (cut_out gone) l) q) (keep_first (λ g. not (gone g.parent.0)) f fs (ap not is)) ∙ (windows_next (cut_out gone f) (keeps gone fs) q isq ∙ (ih ∙ ap (filter (λ v. not (gone v.0))) (sym (windows_next f fs q isq))))
 
-windows_left : (gone : ℕ → Bool) (fs : List Siblings) (q : ℕ) → gone q ≡ false → windows_of (keeps gone fs) q ≡ filter (λ v. not (gone v.0)) (windows_of fs q)
+pub windows_left : (gone : ℕ → Bool) (fs : List Siblings) (q : ℕ) → gone q ≡ false → windows_of (keeps gone fs) q ≡ filter (λ v. not (gone v.0)) (windows_of fs q)
 windows_left gone [] q stays = refl
 windows_left gone (f ∷ fs) q stays = windows_left_by gone f fs q (gone f.parent.0) (eqb f.parent.0 q) refl refl stays (windows_left gone fs q stays)
 
@@ -362,7 +362,7 @@ cleared_kept gone z nobody along k =
       mended = subst IsMended (sym (ap (map (top_level (left gone ss))) (windows_left gone z.families 0 nobody) ∙ tops)) (staying_mended gone (map (top_level ss) ws) (along_tops gone ss nobody along ws) k.mended);
     }
 
-nobody_stands : (ss : List Standing) → AllCameNew ss → among 0 ss ≡ false
+pub nobody_stands : (ss : List Standing) → AllCameNew ss → among 0 ss ≡ false
 nobody_stands [] n = refl
 nobody_stands (s ∷ ss) n = ap (λ b. b || among 0 ss) (not-true (eqb s.window.0 0) n.0.window) ∙ nobody_stands ss n.1
 
@@ -378,11 +378,5 @@ new_without w ss older there none = new_left (λ v. eqb v w) ss (alone w ss none
 pub removed_kept : (w : ℕ) (z : Layers) → IsKept z → stands w z ≡ true → has_none w z ≡ true → IsKept (removed w z)
 removed_kept w z k there none = cleared_kept (λ v. eqb v w) z (stands_apart_from_nobody w z.standings k.older there) (alone w z.standings none) k
 
-gone_stands : (gone : List Hwnd) (z : Layers) (w : ℕ) → list_all (λ v. stands v.0 z) gone ≡ true → stands w z ≡ false → is_gone gone w ≡ false
-gone_stands [] z w all missing = refl
-gone_stands (v ∷ gone) z w all missing =
-    let first : eqb v.0 w ≡ false = ne_eqb v.0 w (λ e. false≢true (sym missing ∙ (ap (λ n. stands n z) (sym e) ∙ and_left (stands v.0 z) (list_all (λ u. stands u.0 z) gone) all))) in
-    ap (λ b. b || is_gone gone w) first ∙ gone_stands gone z w (and_right (stands v.0 z) (list_all (λ u. stands u.0 z) gone) all) missing
-
-pub removed_those_kept : (gone : List Hwnd) (z : Layers) → IsKept z → MayGo gone z → IsKept (removed_those gone z)
-removed_those_kept gone z k go = cleared_kept (is_gone gone) z (gone_stands gone z 0 go.stand (nobody_stands z.standings k.older)) go.along k
+pub kept_kept : (staying : List Hwnd) (z : Layers) → IsKept z → may_stay staying z.standings ≡ true → IsKept (kept staying z)
+kept_kept staying z k along = cleared_kept (is_gone staying) z refl along k

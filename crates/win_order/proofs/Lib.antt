@@ -1,4 +1,5 @@
 pub mod Booleans
+pub mod ChildLaws
 pub mod EntryLaws
 pub mod GoneLaws
 pub mod InsertLaws

@@ -71,23 +71,26 @@ placed w after z = let ss = pinned after w.0 z.standings in record { standings =
 abbrev pub removed : ℕ → Layers → Layers
 removed w z = record { standings = filter (λ s. not (s.window.0 == w)) z.standings; families = map (without_window w) (filter (λ f. not (f.parent.0 == w)) z.families) }
 
--- whether a window of this number is among those that go
+-- whether a window of this number is among these
+abbrev pub is_among : List Hwnd → ℕ → Bool
+is_among ws w = list_any (λ v. v.0 == w) ws
+
+-- whether a window goes, where these stay
 abbrev pub is_gone : List Hwnd → ℕ → Bool
-is_gone gone w = list_any (λ v. v.0 == w) gone
+is_gone staying w = not (w == 0) && not (is_among staying w)
 
 -- whether a window goes, where its parent or its owner does
 abbrev pub goes_along_with : List Hwnd → Standing → Bool
-goes_along_with gone s = is_gone gone s.window.0 || (not (is_gone gone s.parent.0) && not (is_gone gone s.owner.0))
+goes_along_with staying s = is_gone staying s.window.0 || (not (is_gone staying s.parent.0) && not (is_gone staying s.owner.0))
 
--- whether these may go at once: all stand, and who has one of them as its parent or owner is one of them
-pub record MayGo (gone : List Hwnd) (z : Layers) : Type 0 where
-  pub stand : IsTrue (list_all (λ v. stands v.0 z) gone)
-  pub along : IsTrue (list_all (goes_along_with gone) z.standings)
+-- whether all others may go at once: who stays has no parent or owner that goes
+abbrev pub may_stay : List Hwnd → List Standing → Bool
+may_stay staying ss = list_all (goes_along_with staying) ss
 
 -- a list of siblings without those that go
-abbrev pub without_those : List Hwnd → Siblings → Siblings
-without_those gone f = record { parent = f.parent; windows = filter (λ v. not (is_gone gone v.0)) f.windows }
+abbrev pub staying_in : List Hwnd → Siblings → Siblings
+staying_in staying f = record { parent = f.parent; windows = filter (λ v. not (is_gone staying v.0)) f.windows }
 
--- these windows are taken out
-abbrev pub removed_those : List Hwnd → Layers → Layers
-removed_those gone z = record { standings = filter (λ s. not (is_gone gone s.window.0)) z.standings; families = map (without_those gone) (filter (λ f. not (is_gone gone f.parent.0)) z.families) }
+-- all windows but these are taken out
+abbrev pub kept : List Hwnd → Layers → Layers
+kept staying z = record { standings = filter (λ s. not (is_gone staying s.window.0)) z.standings; families = map (staying_in staying) (filter (λ f. not (is_gone staying f.parent.0)) z.families) }

@@ -4,7 +4,7 @@ ghost use Rattle.std.specs.Prelude.{◌≡◌, ◌≤◌, ◌∷◌, ◌++◌, [
 ghost use Rattle.std.specs.List.{filter, insert};
 ghost use Rattle.std.specs.List.Sorted.{IsNonDecreasingBy};
 ghost use Rattle.win_order.specs.Families.{place_in, put, windows_of, with_windows, without, without_window};
-ghost use Rattle.win_order.specs.Layers.{is_gone, without_those};
+ghost use Rattle.win_order.specs.Layers.{is_among, is_gone, staying_in};
 
 use crate::after::After;
 use std::alloc::{AllocError, Global};
@@ -48,12 +48,12 @@ impl Family {
         self.windows.retain(|w| *w != window);
     }
 
-    /// Takes windows out.
-    fn take_all_out(&mut self, gone: &[Hwnd])
-        requires { IsNonDecreasingBy (λ v. v.0) gone.now }
-        ensures { self.new ≡ without_those gone.now self.old }
+    /// Keeps these windows alone.
+    fn keep(&mut self, staying: &[Hwnd])
+        requires { IsNonDecreasingBy (λ v. v.0) staying.now }
+        ensures { self.new ≡ staying_in staying.now self.old }
     {
-        self.windows.retain(|w| !is_gone(gone, w.0));
+        self.windows.retain(|w| !is_gone(staying, w.0));
     }
 
     /// The same children of the same parent.
@@ -119,30 +119,37 @@ fn leave_out(families: &mut [Family], window: Hwnd)
     }
 }
 
-/// Takes windows and the lists of their children out of all lists.
-pub fn take_all_out(families: &mut Vec<Family>, gone: &[Hwnd])
-    requires { IsNonDecreasingBy (λ v. v.0) gone.now }
-    ensures { families.new.items ≡ map (without_those gone.now) (filter (λ f. not (is_gone gone.now f.parent.0)) families.old.items) }
+/// Keeps these windows, and the lists of their children, alone.
+pub fn keep(families: &mut Vec<Family>, staying: &[Hwnd])
+    requires { IsNonDecreasingBy (λ v. v.0) staying.now }
+    ensures { families.new.items ≡ map (staying_in staying.now) (filter (λ f. not (is_gone staying.now f.parent.0)) families.old.items) }
 {
-    families.retain(|f| !is_gone(gone, f.parent().0));
-    leave_all_out(families, gone);
+    families.retain(|f| !is_gone(staying, f.parent().0));
+    keep_in_each(families, staying);
 }
 
-/// Takes windows out of each list.
-fn leave_all_out(families: &mut [Family], gone: &[Hwnd])
-    requires { IsNonDecreasingBy (λ v. v.0) gone.now }
-    ensures { families.new ≡ map (without_those gone.now) families.old }
+/// Keeps these windows alone in each list.
+fn keep_in_each(families: &mut [Family], staying: &[Hwnd])
+    requires { IsNonDecreasingBy (λ v. v.0) staying.now }
+    ensures { families.new ≡ map (staying_in staying.now) families.old }
 {
     for family in families.iter_mut() {
-        family.take_all_out(gone);
+        family.keep(staying);
     }
 }
 
-/// Whether a window of this number is among those that go, whose numbers rise.
-pub fn is_gone(gone: &[Hwnd], window: u32) -> bool
-    ensures { IsNonDecreasingBy (λ v. v.0) gone.now → (result ≡ is_gone gone.now window) }
+/// Whether a window isn't among those that stay, whose numbers rise. 0 is no window.
+pub fn is_gone(staying: &[Hwnd], window: u32) -> bool
+    ensures { IsNonDecreasingBy (λ v. v.0) staying.now → (result ≡ is_gone staying.now window) }
 {
-    gone.binary_search_by_key(&window, |v| v.0).is_ok()
+    window != 0 && !is_among(staying, window)
+}
+
+/// Whether a window is among these, whose numbers rise.
+fn is_among(windows: &[Hwnd], window: u32) -> bool
+    ensures { IsNonDecreasingBy (λ v. v.0) windows.now → (result ≡ is_among windows.now window) }
+{
+    windows.binary_search_by_key(&window, |v| v.0).is_ok()
 }
 
 /// The same families.

@@ -12,7 +12,7 @@ ghost use Rattle.win_num.specs.declared.message.Hwnd.{Hwnd};
 ghost use Rattle.win_order.specs.Standing.{Standing};
 ghost use Rattle.win_order.specs.declared.after.After.{After};
 ghost use Rattle.win_order.specs.Kept.{IsKept, age_in, top_levels};
-ghost use Rattle.win_order.specs.Layers.{Layers, IsNew, IsPlace, MayGo, empty, has_none, inserted, placed, removed, removed_those, settled, stands};
+ghost use Rattle.win_order.specs.Layers.{Layers, IsNew, IsPlace, may_stay, empty, has_none, inserted, kept, placed, removed, settled, stands};
 ghost use Rattle.win_order.specs.Standings.{top_level};
 ghost use Rattle.win_order.specs.Mending.{mended};
 ghost use Rattle.win_order.specs.Mended.{IsMended, AreOwned, goes_along, staying};
@@ -74,7 +74,7 @@ pub fn placing_keeps_the_order()
 /// Windows that are taken out, one or several at once, leave what every order keeps.
 pub fn removal_keeps_the_order()
     ensures one { (w : ℕ) (z : Layers) → IsKept z → IsTrue (stands w z) → IsTrue (has_none w z) → IsKept (removed w z) }
-    ensures several { (gone : List Hwnd) (z : Layers) → IsKept z → MayGo gone z → IsKept (removed_those gone z) }
+    ensures several { (staying : List Hwnd) (z : Layers) → IsKept z → may_stay staying z.standings ≡ true → IsKept (kept staying z) }
 {}
 
 /// What every order keeps has the premises of `mending_mends`, by the place of each window among all,

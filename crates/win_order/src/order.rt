@@ -6,7 +6,7 @@ ghost use Rattle.win_order.specs.Entries.{goes_low};
 ghost use Rattle.win_order.specs.Mended.{is_parted};
 ghost use Rattle.win_order.specs.Families.{windows_of};
 ghost use Rattle.win_order.specs.Standings.{is_topmost, top_level};
-ghost use Rattle.win_order.specs.Layers.{empty, inserted, placed, removed, siblings_of, IsNew, IsPlace, MayGo, removed_those, stands, has_none, settled, relisted};
+ghost use Rattle.win_order.specs.Layers.{empty, inserted, placed, removed, siblings_of, IsNew, IsPlace, kept, may_stay, stands, has_none, settled, relisted};
 
 use crate::after::After;
 use crate::families::{self, Family};
@@ -115,15 +115,15 @@ impl Order {
         families::take_out(&mut self.families, w);
     }
 
-    /// Windows that stand are taken out at once, with rising numbers, where each window that has one of
-    /// them as its parent or owner is one of them too. The others keep their order. Takes no memory.
-    pub fn remove_all(&mut self, gone: &[Hwnd])
-        requires rising { IsNonDecreasingBy (λ v. v.0) gone.now }
-        requires go { MayGo gone.now self.old }
-        ensures { self.new ≡ removed_those gone.now self.old }
+    /// All windows but these are taken out at once. Their numbers rise, and none of them has a parent or
+    /// an owner that goes. They keep their order. Takes no memory.
+    pub fn keep(&mut self, staying: &[Hwnd])
+        requires rising { IsNonDecreasingBy (λ v. v.0) staying.now }
+        requires along { IsTrue (may_stay staying.now self.old.standings) }
+        ensures { self.new ≡ kept staying.now self.old }
     {
-        self.standings.remove_all(gone);
-        families::take_all_out(&mut self.families, gone);
+        self.standings.keep(staying);
+        families::keep(&mut self.families, staying);
     }
 
     /// The children of the parent, or for 0 the top-level windows, from the bottom to the top.

@@ -4,7 +4,7 @@ ghost use Rattle.std.specs.Prelude.{◌≡◌, ◌∷◌, [], List, ◌==◌, no
 ghost use Rattle.std.specs.List.{filter, list_all, list_any};
 ghost use Rattle.win_order.specs.Entries.{known_of, standing};
 ghost use Rattle.std.specs.List.Sorted.{IsNonDecreasingBy};
-ghost use Rattle.win_order.specs.Layers.{IsNew, is_gone, goes_along_with};
+ghost use Rattle.win_order.specs.Layers.{IsNew, is_gone, may_stay};
 ghost use Rattle.win_order.specs.Standing.{Standing};
 ghost use Rattle.win_order.specs.Standings.{parent_of, owner_of, is_topmost, top_level, flagged, pinned};
 
@@ -159,14 +159,14 @@ impl Standings {
         let _ = self.windows.shift_remove(&window.0);
     }
 
-    /// These windows go, with all that have one of them as their parent or owner.
-    pub fn remove_all(&mut self, gone: &[Hwnd])
-        requires rising { IsNonDecreasingBy (λ v. v.0) gone.now }
-        requires along { IsTrue (list_all (goes_along_with gone.now) self.old) }
-        ensures { self.new ≡ filter (λ s. not (is_gone gone.now s.window.0)) self.old }
+    /// These windows alone stay, and none has a parent or an owner that goes.
+    pub fn keep(&mut self, staying: &[Hwnd])
+        requires rising { IsNonDecreasingBy (λ v. v.0) staying.now }
+        requires along { IsTrue (may_stay staying.now self.old) }
+        ensures { self.new ≡ filter (λ s. not (is_gone staying.now s.window.0)) self.old }
     {
         self.windows
-            .retain(|window, _known| !is_gone(gone, *window));
+            .retain(|window, _known| !is_gone(staying, *window));
     }
 
     /// The same windows.

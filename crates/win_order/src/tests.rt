@@ -59,3 +59,17 @@ fn a_copy_has_the_same_lists(rt: HostRuntime) -> Result<(), Fail> {
     assert_eq!(rt; same.siblings(Hwnd(16)), [].as_slice());
     Ok(())
 }
+
+#[test]
+fn windows_that_go_at_once(rt: HostRuntime) -> Result<(), Fail> {
+    let alloc = rt.alloc();
+    let mut order = Order::new(alloc);
+    order.insert(alloc, Hwnd(16), NONE, NONE, false)?;
+    order.insert(alloc, Hwnd(17), NONE, NONE, false)?;
+    order.insert(alloc, Hwnd(18), Hwnd(16), NONE, false)?;
+    order.insert(alloc, Hwnd(19), NONE, Hwnd(16), false)?;
+    order.keep([Hwnd(17)].as_slice());
+    assert_eq!(rt; order.siblings(NONE), [Hwnd(17)].as_slice());
+    assert_eq!(rt; order.siblings(Hwnd(16)), [].as_slice());
+    Ok(())
+}

@@ -1,5 +1,6 @@
 -- Numbers rise, and what stands above a window is older than it.
-use Rattle.std.proofs.Common.{◌≡◌, ◌∙◌, inl, inr, ℕ, ◌<◌, ◌≤◌, suc, zero, List, [], ◌∷◌, ◌++◌, Bool, true, false, ◌||◌, eqb, map, filter, find, Option, Some, None, is_some, refl, sym, ap, subst, arith}
+use Rattle.std.proofs.Common.{◌≡◌, ◌∙◌, inl, inr, ℕ, ◌+◌, ◌-◌, ◌<◌, ◌≤◌, suc, zero, get_or, length, remove, List, [], ◌∷◌, ◌++◌, Bool, true, false, ◌||◌, eqb, map, filter, find, Option, Some, None, is_some, refl, sym, ap, subst, arith}
+use Rattle.std.specs.List.{AllByRecursion}
 use Rattle.std.proofs.lemmas.Bool.{cases_Bool, eqb-true, or_parts}
 use Rattle.std.proofs.lemmas.List.{map-append}
 use Rattle.win_num.specs.declared.message.Hwnd.{Hwnd}
@@ -133,3 +134,19 @@ put_last ns ns' ws ws' x last kept numbers windows rises older = (
   numbers ∙ (ap (λ (us : List Hwnd). us ++ x.number ∷ []) kept.0 ∙ sym (ap (map number_of) windows ∙ map-append number_of ws (x ∷ []))),
   subst (λ (us : List Window). IsOrdered 15 x.number.0 us) (sym windows) (ordered_more 15 last ws x kept.1 rises older),
 )
+
+-- without the newest window, whose number was the last
+pub newest_out : (from last i : ℕ) (ws : List Window) (x : Window) → IsOrdered from last ws → i + 1 ≡ length ws → x ≡ get_or ws i x → x.number.0 ≡ last → IsOrdered from (last - 1) (remove ws i)
+newest_out from last i [] x h long at number = absurd (omega (arith, long))
+newest_out from last zero (y ∷ []) x h long at number = let least = h.0 in let same = ap (λ (w : Window). w.number.0) at in omega (arith, least, same, number)
+newest_out from last zero (y ∷ z ∷ ws) x h long at number = absurd (omega (arith, long))
+newest_out from last (suc i) (y ∷ ws) x h long at number = (h.0, h.1, newest_out y.number.0 last i ws x h.2 (omega (arith, long)) at number)
+
+pub all_out : (P : Window → Type 0) (i : ℕ) (ws : List Window) → AllByRecursion P ws → AllByRecursion P (remove ws i)
+all_out P i [] h = none i
+  where
+    none : (j : ℕ) → AllByRecursion P (remove [] j)
+    none zero = tt
+    none (suc j) = tt
+all_out P zero (x ∷ ws) h = h.1
+all_out P (suc i) (x ∷ ws) h = (h.0, all_out P i ws h.1)

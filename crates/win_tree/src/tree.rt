@@ -3,7 +3,8 @@
 ghost use Rattle.std.specs.Prelude.{◌≡◌, ℕ, ◌+◌, ◌<◌, ◌++◌, ◌∷◌, [], List, length, map, not, IsTrue, IfOk, OnOk, OnErr, MatchResult, Option, Some, None, IfNone, IfSome, ◌^◌, ◌==◌, option_copied, option_map};
 ghost use Rattle.std.specs.List.{filter, list_any};
 ghost use Rattle.std.specs.List.Sorted.{IsNonDecreasingBy};
-ghost use Rattle.win_rows.specs.Windows.{IsOrdered, no_windows, number_of, window_of, is_live, is_marked, is_ended, told_if, ended_if, set_if, next_top, up, marked_if, RisesFrom};
+ghost use Rattle.win_rows.specs.Windows.{IsOrdered, Windows, no_windows, number_of, window_of, is_live, is_marked, is_ended, told_if, ended_if, set_if, next_top, up, marked_if, RisesFrom};
+ghost use Rattle.win_rows.specs.declared.window.Window.{Window};
 ghost use Rattle.win_tree.specs.Kin.{with_marked, IsFaultFor, is_bad, refusal, next_number, settled, with_window, doomed, doom_refusal, dropped, drop_refusal, is_below, is_alone, is_kin, is_of_other, without_thread, has_class};
 ghost use Rattle.win_rows.specs.Destruction.{unmade, given, next_step};
 
@@ -114,6 +115,20 @@ impl Tree {
         self.last = window.number.0;
         self.plans.clear();
         Ok(())
+    }
+
+    /// Takes back the window that was added last, if it is live, with its number. Takes no memory.
+    pub fn forget_newest(&mut self)
+        ensures { (t : Windows) (x : Window) → IsOrdered 15 t.last t.live → x.number.0 ≡ t.last + 1 → self.old ≡ record { last = t.last + 1; live = t.live ++ x ∷ [] } → self.new ≡ t }
+    {
+        let count = self.rows.len();
+        if count == 0 || self.rows.at(count - 1).number.0 != self.last {
+            return;
+        }
+        self.numbers.remove(count - 1);
+        self.rows.take_out(count - 1);
+        self.last -= 1;
+        self.plans.clear();
     }
 
     /// The window as it was added, with the style and place that were set last. None comes exactly where

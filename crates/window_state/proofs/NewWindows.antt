@@ -62,7 +62,7 @@ owner_kept past t at parent row false some p o =
     ∙ (sym (top_of_at past t at row.owner) ∙ ap (top_of (live past)) o)
 
 -- the new window as the table keeps it
-new_as_made : (setup : Setup) (past : Past) (t : Windows) (who : Thread) (name title parent style ex : ℕ) (l top r b : ℤ) (w : Hwnd) (row : WindowRow) → IsTreeAt past t → IsRowOf who.0 name title parent style ex row → IsNewWindow setup past who.0 name parent style ex l top r b w → as_made (made (next_number t) (settled t.live row)) ≡ new_window who name title parent style ex l top r b w (live past)
+pub new_as_made : (setup : Setup) (past : Past) (t : Windows) (who : Thread) (name title parent style ex : ℕ) (l top r b : ℤ) (w : Hwnd) (row : WindowRow) → IsTreeAt past t → IsRowOf who.0 name title parent style ex row → IsNewWindow setup past who.0 name parent style ex l top r b w → as_made (made (next_number t) (settled t.live row)) ≡ new_window who name title parent style ex l top r b w (live past)
 new_as_made setup past t who name title parent style ex l top r b w row at is new =
     let number : suc t.last ≡ w.0 = (let e = at.last in let n = ap (λ (v : Hwnd). v.0) new.is_next in omega (arith, e, n)) in
     same_fields (suc t.last) w.0 row.thread.0 who.0 row.class name row.title title row.parent.0 (cond (has_flag style WS_CHILD) parent 0) (cond (eqb row.parent.0 0) (kept_kin.top_of t.live row.owner) nobody).0 (cond (has_flag style WS_CHILD) 0 (top_of (live past) parent))

@@ -11,7 +11,7 @@ use Rattle.win_num.specs.declared.names.TheConstants.{WS_VISIBLE}
 use Rattle.win_num.specs.declared.shapes.Point.{Point}
 use Rattle.win_num.specs.PixelSets.{Box, has_pixel}
 use Rattle.win_num.specs.Rects.{box_in}
-use Rattle.win_order.specs.Kept.{IsKept, is_child}
+use Rattle.win_order.specs.Kept.{is_child}
 use Rattle.win_order.specs.Layers.{Layers, siblings_of}
 use Rattle.win_order.specs.Standing.{Standing}
 use Rattle.win_order.proofs.KeptLaws.{listed_any}
@@ -137,14 +137,14 @@ count_true false h = absurd (false≢true h)
 
 -- ---- the descent
 
-module _ (setup : Setup) (past : Past) (lawful : IsLawful setup past) (t : Windows) (z : Layers) (at : IsTreeAt past t) (order : IsOrderAt past z) (keeps : IsKept z) where
+module _ (setup : Setup) (past : Past) (lawful : IsLawful setup past) (t : Windows) (z : Layers) (at : IsTreeAt past t) (order : IsOrderAt past z) where
   rising : IsRising 15 (15 + length (windows_made past)) (live past)
   rising = (sound setup past lawful).rising
 
   child : (v : Hwnd) (w : ℕ) → list_any (λ u. eqb u.0 v.0) (siblings past w) ≡ true → IsChild past w v
   child v w h =
       let here : list_any (λ u. eqb u.0 v.0) (siblings_of w z) ≡ true = ap (list_any (λ (u : Hwnd). eqb u.0 v.0)) (order.lists w) ∙ h in
-      let stands : is_child v.0 w z.standings ≡ true = count_true (is_child v.0 w z.standings) (sym (ap (ltb 0) (keeps.listed w v.0)) ∙ sym (listed_any v.0 (siblings_of w z)) ∙ here) in
+      let stands : is_child v.0 w z.standings ≡ true = count_true (is_child v.0 w z.standings) (sym (ap (ltb 0) (order.kept.listed w v.0)) ∙ sym (listed_any v.0 (siblings_of w z)) ∙ here) in
       let test : Standing → Bool = λ s. eqb s.window.0 v.0 && eqb s.parent.0 w in
       let all : List Standing = map (standing past) (live past) in
       let among : list_any test all ≡ true = list_any-IsPermutation test all (reverse all) (IsPermutation-reverse all) ∙ (ap (list_any test) (sym order.standings) ∙ stands) in

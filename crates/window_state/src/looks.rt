@@ -68,7 +68,7 @@ fn shown(style: u32, on: bool) -> u32
 }
 
 /// Whether the flags have the bits.
-fn has_flag(flags: u64, bits: u64) -> bool
+pub(crate) fn has_flag(flags: u64, bits: u64) -> bool
     ensures { result ≡ has_flag flags bits }
 {
     flags & bits == bits

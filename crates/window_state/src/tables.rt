@@ -8,12 +8,15 @@ ghost use Rattle.win_class.specs.ClassTable.{unregister_refusal, without_class};
 ghost use Rattle.win_tree.specs.Kin.{doom_refusal, doomed, drop_refusal, dropped, refusal, with_window};
 ghost use Rattle.window_state.specs.Effects.{IsMadeBy, IsRowOf, named_by, unmade_tree};
 ghost use Rattle.window_state.specs.Needs.{FitsMaking, FitsNaming, FitsUnmaking, IsAnswered};
+ghost use Rattle.window_state.specs.Orders.{FitsMakingOrder, IsOrderMade};
 
 use crate::finding::window_or_none;
-use std::alloc::AllocError;
+use crate::ranks::enter;
+use std::alloc::{AllocError, Global};
 use user_model::Call;
 use win_class::Classes;
 use win_num::{Fault, Hwnd, Rect, Thread, names, rect};
+use win_order::Order;
 use win_tree::{Tree, WindowRow};
 
 /// Registers a class, or the name of a message, as the call says. After want of memory nothing has
@@ -54,17 +57,27 @@ pub fn unregister(classes: &mut Classes, name: u32)
     classes.unregister(name, false).unwrap();
 }
 
-/// Makes the window of a call. After want of memory nothing has changed.
-pub fn make(tree: &mut Tree, who: Thread, call: Call) -> Result<(), AllocError>
-    requires { FitsMaking who.0 call tree.old }
-    ensures ok { OnOk result (IsMadeBy who.0 call tree.old tree.new) }
-    ensures err { OnErr result (tree.new ≡ tree.old) }
+/// Makes the window of a call, which comes to the top of its siblings. After want of memory nothing has
+/// changed.
+pub fn make(
+    alloc: Global,
+    tree: &mut Tree,
+    order: &mut Order,
+    who: Thread,
+    call: Call,
+) -> Result<(), AllocError>
+    requires table { FitsMaking who.0 call tree.old }
+    requires order { FitsMakingOrder who.0 call tree.old order.old }
+    ensures table { OnOk result (IsMadeBy who.0 call tree.old tree.new) }
+    ensures order { OnOk result (IsOrderMade call tree.old tree.new order.old order.new) }
+    ensures table_stays { OnErr result (tree.new ≡ tree.old) }
+    ensures order_stays { OnErr result (order.new ≡ order.old) }
 {
     if let Call::NewWindow(class, title, parent, style, ex, l, t, r, b) = call {
         let place = place_of(l, t, r, b);
         let above = window_or_none(tree, parent);
         let row = row_from(who, class, title, above, style as u32, ex as u32, place);
-        return add(tree, row);
+        return enter(alloc, tree, order, row);
     }
     Ok(())
 }
@@ -84,19 +97,6 @@ fn narrow(edge: i64) -> i32
     ensures fits { FitsSigned w32 result }
 {
     edge as i32
-}
-
-/// Adds a window that can be made. After want of memory nothing has changed.
-fn add(tree: &mut Tree, row: WindowRow) -> Result<(), AllocError>
-    requires { refusal tree.old row ≡ None }
-    ensures ok { OnOk result (tree.new ≡ with_window tree.old row) }
-    ensures err { OnErr result (tree.new ≡ tree.old) }
-{
-    match tree.add(row) {
-        Ok(_) => Ok(()),
-        Err(Fault::Memory) => Err(AllocError),
-        Err(Fault::Refused(_)) => unreachable!(),
-    }
 }
 
 /// The row of a new window: `above` is the parent of a child, else the owner.
