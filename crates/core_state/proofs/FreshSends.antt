@@ -11,7 +11,7 @@ use Rattle.send_variants.specs.Lists.{AreBelow, Entry}
 use Rattle.send_variants.proofs.Entries.{sound-new}
 use Rattle.send_state.specs.Parts.{no_parts, rank}
 use Rattle.send_state.specs.Standing.{PartsStand, item}
-use Rattle.win_order.specs.Layers.{empty}
+use Rattle.win_order.specs.Layers.{Layers, empty}
 use Rattle.win_order.proofs.KeptLaws.{empty_kept}
 use Rattle.window_state.specs.Orders.{IsOrderAt}
 
@@ -43,5 +43,5 @@ no_parts_stand setup is = record {
 }
 
 -- no window stands in an order yet
-pub no_order : IsOrderAt [] empty
-no_order = record { standings = refl; lists = λ p. refl; kept = empty_kept }
+pub no_order : (z : Layers) → z ≡ empty → IsOrderAt [] z
+no_order z is = subst (IsOrderAt []) (sym is) (record { standings = refl; lists = λ p. refl; kept = empty_kept })

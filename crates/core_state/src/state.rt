@@ -81,7 +81,6 @@ impl Model for CoreState {
 
 impl CoreState {
     /// No entry yet.
-    #[tactic(auto, using(crate::proofs::FreshSends::no_parts_stand, crate::proofs::FreshSends::no_order))]
     pub fn new(alloc: Global, setup: Setup) -> Result<CoreState, AllocError>
         requires { IsSetup setup }
         ensures { IfOk result (λ s. s ≡ record { setup = setup; past = [] }) }
