@@ -36,7 +36,10 @@ call_row names.Unmake = row (codes "unmake") (fields.Number ∷ [])
 call_row names.Drop = row (codes "drop") (fields.Number ∷ [])
 call_row names.Place = row (codes "place") (fields.Number ∷ fields.Signed ∷ fields.Signed ∷ fields.Signed ∷ fields.Signed ∷ fields.Signed ∷ fields.Number ∷ [])
 call_row names.Show = row (codes "show") (fields.Number ∷ fields.Number ∷ [])
+call_row names.Find = row (codes "find") (fields.Name ∷ [])
+call_row names.AwaitTitle = row (codes "await_title") (fields.Name ∷ [])
 call_row names.NextTop = row (codes "next_top") (fields.Number ∷ [])
+call_row names.WindowAt = row (codes "window_at") (fields.Signed ∷ fields.Signed ∷ [])
 call_row names.IsWindow = row (codes "is_window") (fields.Number ∷ [])
 call_row names.Parent = row (codes "parent") (fields.Number ∷ [])
 call_row names.EndThread = row (codes "end_thread") []
@@ -48,7 +51,7 @@ call_row names.Advance = row (codes "advance") []
 
 -- all of them
 abbrev pub all_calls : List CallName
-all_calls = names.Peek ∷ names.Get ∷ names.Post ∷ names.PostThread ∷ names.PostQuit ∷ names.Dispatch ∷ names.Send ∷ names.SendTimeout ∷ names.SendNotify ∷ names.SendCallback ∷ names.Await ∷ names.Leave ∷ names.Reply ∷ names.InSend ∷ names.Message ∷ names.Register ∷ names.Unregister ∷ names.NewWindow ∷ names.Doom ∷ names.Unmake ∷ names.Drop ∷ names.Place ∷ names.Show ∷ names.NextTop ∷ names.IsWindow ∷ names.Parent ∷ names.EndThread ∷ names.Clock ∷ names.SleepUntil ∷ names.Yield ∷ names.Tick ∷ names.Advance ∷ []
+all_calls = names.Peek ∷ names.Get ∷ names.Post ∷ names.PostThread ∷ names.PostQuit ∷ names.Dispatch ∷ names.Send ∷ names.SendTimeout ∷ names.SendNotify ∷ names.SendCallback ∷ names.Await ∷ names.Leave ∷ names.Reply ∷ names.InSend ∷ names.Message ∷ names.Register ∷ names.Unregister ∷ names.NewWindow ∷ names.Doom ∷ names.Unmake ∷ names.Drop ∷ names.Place ∷ names.Show ∷ names.Find ∷ names.AwaitTitle ∷ names.NextTop ∷ names.WindowAt ∷ names.IsWindow ∷ names.Parent ∷ names.EndThread ∷ names.Clock ∷ names.SleepUntil ∷ names.Yield ∷ names.Tick ∷ names.Advance ∷ []
 
 -- the one with this word
 unfoldable pub call_named : List ℕ → Option CallName
@@ -79,7 +82,10 @@ call_name (calls.Unmake window) = names.Unmake
 call_name (calls.Drop window) = names.Drop
 call_name (calls.Place window after left top right bottom flags) = names.Place
 call_name (calls.Show window on) = names.Show
+call_name (calls.Find title) = names.Find
+call_name (calls.AwaitTitle title) = names.AwaitTitle
 call_name (calls.NextTop window) = names.NextTop
+call_name (calls.WindowAt x y) = names.WindowAt
 call_name (calls.IsWindow window) = names.IsWindow
 call_name (calls.Parent window) = names.Parent
 call_name calls.EndThread = names.EndThread
@@ -114,7 +120,10 @@ call_parts (calls.Unmake window) = values.Number window ∷ []
 call_parts (calls.Drop window) = values.Number window ∷ []
 call_parts (calls.Place window after left top right bottom flags) = values.Number window ∷ values.Signed after ∷ values.Signed left ∷ values.Signed top ∷ values.Signed right ∷ values.Signed bottom ∷ values.Number flags ∷ []
 call_parts (calls.Show window on) = values.Number window ∷ values.Number on ∷ []
+call_parts (calls.Find title) = values.Name title ∷ []
+call_parts (calls.AwaitTitle title) = values.Name title ∷ []
 call_parts (calls.NextTop window) = values.Number window ∷ []
+call_parts (calls.WindowAt x y) = values.Signed x ∷ values.Signed y ∷ []
 call_parts (calls.IsWindow window) = values.Number window ∷ []
 call_parts (calls.Parent window) = values.Number window ∷ []
 call_parts calls.EndThread = []
@@ -149,7 +158,10 @@ made_call names.Unmake vs = calls.Unmake (number_at vs 0)
 made_call names.Drop vs = calls.Drop (number_at vs 0)
 made_call names.Place vs = calls.Place (number_at vs 0) (signed_at vs 1) (signed_at vs 2) (signed_at vs 3) (signed_at vs 4) (signed_at vs 5) (number_at vs 6)
 made_call names.Show vs = calls.Show (number_at vs 0) (number_at vs 1)
+made_call names.Find vs = calls.Find (name_at vs 0)
+made_call names.AwaitTitle vs = calls.AwaitTitle (name_at vs 0)
 made_call names.NextTop vs = calls.NextTop (number_at vs 0)
+made_call names.WindowAt vs = calls.WindowAt (signed_at vs 0) (signed_at vs 1)
 made_call names.IsWindow vs = calls.IsWindow (number_at vs 0)
 made_call names.Parent vs = calls.Parent (number_at vs 0)
 made_call names.EndThread vs = calls.EndThread

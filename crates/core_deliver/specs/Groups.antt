@@ -1,7 +1,7 @@
 -- Which calls the layer of delivery answers.
 use Rattle.std.specs.Prelude.{Bool, true, false}
 use Rattle.user_model.specs.declared.call.Call.{Call}
-use Rattle.user_model.specs.declared.call.Call.TheVariants.{Peek, Get, Post, PostThread, PostQuit, Dispatch, Send, SendTimeout, SendNotify, SendCallback, Await, Leave, Reply, InSend, Message, Register, Unregister, NewWindow, Doom, Unmake, Drop, Place, Show, NextTop, IsWindow, Parent, EndThread, Clock, SleepUntil, Yield, Tick, Advance}
+use Rattle.user_model.specs.declared.call.Call.TheVariants.{Peek, Get, Post, PostThread, PostQuit, Dispatch, Send, SendTimeout, SendNotify, SendCallback, Await, Leave, Reply, InSend, Message, Register, Unregister, NewWindow, Doom, Unmake, Drop, Place, Show, Find, AwaitTitle, NextTop, WindowAt, IsWindow, Parent, EndThread, Clock, SleepUntil, Yield, Tick, Advance}
 use Rattle.core_deliver.specs.declared.groups.Group.{Group}
 use Rattle.core_deliver.specs.declared.groups.Group.TheVariants.{Retrieval, Delivery, Other}
 
@@ -31,7 +31,10 @@ group_of (Unmake w) = Other
 group_of (Drop w) = Other
 group_of (Place w after l t r b flags) = Other
 group_of (Show w on) = Other
+group_of (Find title) = Other
+group_of (AwaitTitle title) = Other
 group_of (NextTop w) = Other
+group_of (WindowAt x y) = Other
 group_of (IsWindow w) = Other
 group_of (Parent w) = Other
 group_of EndThread = Other

@@ -43,7 +43,10 @@ fn group_of(call: Call) -> Group
         | Call::Drop(..)
         | Call::Place(..)
         | Call::Show(..)
+        | Call::Find(..)
+        | Call::AwaitTitle(..)
         | Call::NextTop(..)
+        | Call::WindowAt(..)
         | Call::IsWindow(..)
         | Call::Parent(..)
         | Call::EndThread

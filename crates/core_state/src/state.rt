@@ -20,6 +20,8 @@ ghost use Rattle.user_model.specs.Stories.{send_story};
 ghost use Rattle.core_state.specs.Frames.{IsOnTop, wait_end};
 ghost use Rattle.user_model.specs.Windows.{live, window, is_live, parent_in, thread_of, up, next_top};
 ghost use Rattle.user_model.specs.Looks.{look, placed, is_shown};
+ghost use Rattle.user_model.specs.ZOrder.{titled};
+ghost use Rattle.user_model.specs.Pixels.{owner, point};
 ghost use Rattle.user_model.specs.Refusals.{is_no_rect};
 ghost use Rattle.window_state.specs.Placings.{box_of};
 ghost use Rattle.user_model.specs.Destruction.{is_marked, was_given, ended};
@@ -41,7 +43,9 @@ use win_class::Classes;
 use win_num::{Cause, Filter, Frame, Hwnd, Msg, Point, SendId, Thread};
 use win_order::Order;
 use win_tree::Tree;
-use window_state::{Placing, is_shown, parent_of, placing_changes, step_told, thread_of, up};
+use window_state::{
+    Placing, is_shown, owner_at, parent_of, placing_changes, step_told, thread_of, titled, up,
+};
 
 /// The history so far, and parts that answer in short time what the definitions say of it.
 #[derive(Drop)]
@@ -471,6 +475,23 @@ impl CoreState {
             return Hwnd(0);
         }
         tree.next_top(Hwnd(w as u32))
+    }
+
+    /// The highest top-level window of a title, a place in the list of names. None comes exactly where no
+    /// top-level window has it.
+    pub fn titled(&self, title: u32) -> Option<Hwnd>
+        ensures { result ≡ titled self.now.past title }
+    {
+        titled(&self.tree, &self.order, title)
+    }
+
+    /// The window that owns the pixel at x and y, counted from the screen's left top corner, or 0: off the
+    /// screen, and where no visible window has the pixel.
+    pub fn owner_at(&self, x: i64, y: i64) -> Hwnd
+        ensures { result ≡ owner self.now.setup self.now.past (point x y) }
+    {
+        let Setup { width, height, .. } = self.setup;
+        owner_at(&self.tree, &self.order, width, height, x, y)
     }
 
     /// How many windows are live.

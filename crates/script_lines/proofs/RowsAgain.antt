@@ -135,7 +135,10 @@ module _ (ps : List Part) (h : AllByRecursion IsPart ps) where
   statement_made_fits names.Drop = tt
   statement_made_fits names.Place = tt
   statement_made_fits names.Show = tt
+  statement_made_fits names.Find = (tt, tt)
+  statement_made_fits names.AwaitTitle = (tt, tt)
   statement_made_fits names.NextTop = (o 0, tt)
+  statement_made_fits names.WindowAt = (o 0, (o 1, tt))
   statement_made_fits names.IsWindow = (o 0, tt)
   statement_made_fits names.Parent = (o 0, tt)
   statement_made_fits names.EndThread = tt

@@ -32,6 +32,9 @@ pub fn statement_name(call: CallStatement) -> CallName
         CallStatement::IsWindow(_) => CallName::IsWindow,
         CallStatement::Parent(_) => CallName::Parent,
         CallStatement::NextTop(_) => CallName::NextTop,
+        CallStatement::Find(_) => CallName::Find,
+        CallStatement::AwaitTitle(_) => CallName::AwaitTitle,
+        CallStatement::WindowAt(_, _) => CallName::WindowAt,
         CallStatement::Clock => CallName::Clock,
         CallStatement::Yield => CallName::Yield,
     }
@@ -109,6 +112,9 @@ pub fn statement_parts(call: CallStatement) -> Parts
         CallStatement::IsWindow(window) => parts_of(&[Part::Operand(window)]),
         CallStatement::Parent(window) => parts_of(&[Part::Operand(window)]),
         CallStatement::NextTop(window) => parts_of(&[Part::Operand(window)]),
+        CallStatement::Find(title) => parts_of(&[Part::Name(title)]),
+        CallStatement::AwaitTitle(title) => parts_of(&[Part::Name(title)]),
+        CallStatement::WindowAt(x, y) => parts_of(&[Part::Operand(x), Part::Operand(y)]),
         CallStatement::Clock => parts_of(&[]),
         CallStatement::Yield => parts_of(&[]),
     }
@@ -190,7 +196,13 @@ pub fn made_statement(name: CallName, parts: &[Part]) -> Option<CallStatement>
         CallName::Drop => None,
         CallName::Place => None,
         CallName::Show => None,
+        CallName::Find => Some(CallStatement::Find(name_in(parts, 0))),
+        CallName::AwaitTitle => Some(CallStatement::AwaitTitle(name_in(parts, 0))),
         CallName::NextTop => Some(CallStatement::NextTop(operand_in(parts, 0))),
+        CallName::WindowAt => Some(CallStatement::WindowAt(
+            operand_in(parts, 0),
+            operand_in(parts, 1),
+        )),
         CallName::IsWindow => Some(CallStatement::IsWindow(operand_in(parts, 0))),
         CallName::Parent => Some(CallStatement::Parent(operand_in(parts, 0))),
         CallName::EndThread => None,

@@ -37,6 +37,7 @@
 //! register CLASS PROC COLOUR       unregister CLASS         destroy W
 //! create CLASS TITLE PARENT STYLE EX L T R B
 //! is_window W                      parent W                 next_top W
+//! find TITLE                       await_title TITLE        window_at X Y
 //! clock                            sleep MS                 yield
 //! ```
 //!

@@ -67,6 +67,8 @@ fn seen_in_call(count: usize, seen: usize, call: &CallStatement) -> Option<usize
         CallStatement::Message(name) => seen_with(count, seen, *name),
         CallStatement::Register(class, _, _) => seen_with(count, seen, *class),
         CallStatement::Unregister(class) => seen_with(count, seen, *class),
+        CallStatement::Find(title) => seen_with(count, seen, *title),
+        CallStatement::AwaitTitle(title) => seen_with(count, seen, *title),
         _ => Some(seen),
     }
 }

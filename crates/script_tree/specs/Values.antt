@@ -5,7 +5,7 @@ use Rattle.win_num.specs.declared.message.Msg.{Msg}
 use Rattle.win_num.specs.Codes.{number_of}
 use Rattle.name_table.specs.Constants.{constant_values}
 use Rattle.user_model.specs.declared.call.Call.{Call}
-use Rattle.user_model.specs.declared.call.Call.TheVariants.{Peek, Get, Post, PostThread, PostQuit, Dispatch, Send, SendTimeout, SendNotify, SendCallback, Reply, InSend, Message as MessageCall, Register, Unregister, NewWindow, NextTop, IsWindow, Parent, Clock, Yield}
+use Rattle.user_model.specs.declared.call.Call.TheVariants.{Peek, Get, Post, PostThread, PostQuit, Dispatch, Send, SendTimeout, SendNotify, SendCallback, Reply, InSend, Message as MessageCall, Register, Unregister, NewWindow, Find, AwaitTitle, NextTop, WindowAt, IsWindow, Parent, Clock, Yield}
 use Rattle.user_model.specs.declared.entry.Answer.{Answer}
 use Rattle.user_model.specs.declared.entry.Answer.TheVariants.{Okay, Ended, Nothing, Wait, Stuck, Gone, Value, Window as WindowAnswer, Posted, Called, Inside, Begun, Left, Tell, Last, Advanced, Busy, Enter, Callback, Done, Got, Refused}
 use Rattle.win_num.specs.declared.send.Cause.{Cause}
@@ -22,7 +22,7 @@ use Rattle.script_tree.specs.declared.operand.Comparison.{Comparison}
 use Rattle.script_tree.specs.declared.operand.Comparison.TheVariants.{Equal, Different, Below}
 use Rattle.script_tree.specs.declared.operand.Test.{Test}
 use Rattle.script_tree.specs.declared.statement.CallStatement.{CallStatement}
-use Rattle.script_tree.specs.declared.statement.CallStatement.TheVariants.{Peek as PeekStatement, Get as GetStatement, Post as PostStatement, PostThread as PostThreadStatement, PostQuit as PostQuitStatement, Dispatch as DispatchStatement, Send as SendStatement, SendTimeout as SendTimeoutStatement, SendNotify as SendNotifyStatement, SendCallback as SendCallbackStatement, Reply as ReplyStatement, InSend as InSendStatement, Message as MessageStatement, Register as RegisterStatement, Unregister as UnregisterStatement, IsWindow as IsWindowStatement, Parent as ParentStatement, NextTop as NextTopStatement, Clock as ClockStatement, Yield as YieldStatement}
+use Rattle.script_tree.specs.declared.statement.CallStatement.TheVariants.{Peek as PeekStatement, Get as GetStatement, Post as PostStatement, PostThread as PostThreadStatement, PostQuit as PostQuitStatement, Dispatch as DispatchStatement, Send as SendStatement, SendTimeout as SendTimeoutStatement, SendNotify as SendNotifyStatement, SendCallback as SendCallbackStatement, Reply as ReplyStatement, InSend as InSendStatement, Message as MessageStatement, Register as RegisterStatement, Unregister as UnregisterStatement, IsWindow as IsWindowStatement, Parent as ParentStatement, NextTop as NextTopStatement, Find as FindStatement, AwaitTitle as AwaitTitleStatement, WindowAt as WindowAtStatement, Clock as ClockStatement, Yield as YieldStatement}
 use Rattle.script_tree.specs.declared.statement.Creation.{Creation}
 use Rattle.script_tree.specs.declared.variables.Letters.{Letters}
 use Rattle.script_tree.specs.declared.variables.Parameters.{Parameters}
@@ -61,6 +61,10 @@ value_of (Negative n) v = (2 ^ 64 - n) % 2 ^ 64
 value_of (Message n) v = n
 value_of (Constant n) v = unwrap_or (slice_get constant_values n) 0
 value_of (VariableOf x) v = variable_value x v
+
+-- the value of an operand as a number with sign, by two's complement of 64 bits
+abbrev pub edge_of : Operand → Variables → ℤ
+edge_of e v = cast_signed w64 (value_of e v)
 
 -- the value of an operator, modulo 2^64
 abbrev pub computed : ℕ → Operator → ℕ → ℕ
@@ -103,6 +107,9 @@ call_of (UnregisterStatement class) v = Unregister class
 call_of (IsWindowStatement w) v = IsWindow (value_of w v)
 call_of (ParentStatement w) v = Parent (value_of w v)
 call_of (NextTopStatement w) v = NextTop (value_of w v)
+call_of (FindStatement title) v = Find title
+call_of (AwaitTitleStatement title) v = AwaitTitle title
+call_of (WindowAtStatement x y) v = WindowAt (edge_of x v) (edge_of y v)
 call_of ClockStatement v = Clock
 call_of YieldStatement v = Yield
 
@@ -114,7 +121,7 @@ IsSend (SendNotifyStatement w m p q) = Unit {0}
 IsSend (SendCallbackStatement w m p q proc_no extra) = Unit {0}
 IsSend _ = ⊥
 
--- a statement with one operand at most
+-- a statement with two operands at most
 abbrev pub IsShort : CallStatement → Type 0
 IsShort (PeekStatement w min max flags) = ⊥
 IsShort (GetStatement w min max) = ⊥
@@ -127,10 +134,6 @@ IsShort (SendTimeoutStatement w m p q flags ms) = ⊥
 IsShort (SendNotifyStatement w m p q) = ⊥
 IsShort (SendCallbackStatement w m p q proc_no extra) = ⊥
 IsShort _ = Unit {0}
-
--- the value of an operand as a number with sign, by two's complement of 64 bits
-abbrev pub edge_of : Operand → Variables → ℤ
-edge_of e v = cast_signed w64 (value_of e v)
 
 -- the call that makes the window of a `create`
 abbrev pub creation_call : Creation → Variables → Call

@@ -43,6 +43,12 @@ pub enum CallStatement {
     Parent(Operand),
     /// `next_top W`
     NextTop(Operand),
+    /// `find TITLE` (Microsoft, FindWindow function).
+    Find(u32),
+    /// `await_title TITLE`
+    AwaitTitle(u32),
+    /// `window_at X Y`; a value from 2^63 on is a number below 0, by two's complement (Microsoft, WindowFromPoint function).
+    WindowAt(Operand, Operand),
     /// `clock` (Microsoft, GetTickCount64 function).
     Clock,
     /// `yield`

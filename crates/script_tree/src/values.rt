@@ -185,6 +185,11 @@ impl CallStatement {
             CallStatement::IsWindow(window) => Call::IsWindow(window.value(variables)),
             CallStatement::Parent(window) => Call::Parent(window.value(variables)),
             CallStatement::NextTop(window) => Call::NextTop(window.value(variables)),
+            CallStatement::Find(title) => Call::Find(*title),
+            CallStatement::AwaitTitle(title) => Call::AwaitTitle(*title),
+            CallStatement::WindowAt(x, y) => {
+                Call::WindowAt(x.edge(variables), y.edge(variables))
+            }
             CallStatement::Clock => Call::Clock,
             CallStatement::Yield => Call::Yield,
             _ => unreachable!(),

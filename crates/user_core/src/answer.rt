@@ -11,8 +11,9 @@ ghost use Rattle.user_model.specs.Idle.{is_wait, is_idle, is_barred, first_busy,
 use crate::actor::{Actor, actor_of};
 use crate::clock::{advanced, sleep_until_answer, soonest, tick_answer};
 use crate::windows::{
-    NewWindow, doom_answer, drop_answer, is_window_answer, new_window_answer, next_top_answer,
-    parent_answer, place_answer, register_answer, show_answer, unmake_answer, unregister_answer,
+    NewWindow, await_title_answer, doom_answer, drop_answer, find_answer, is_window_answer,
+    new_window_answer, next_top_answer, parent_answer, place_answer, register_answer, show_answer,
+    unmake_answer, unregister_answer, window_at_answer,
 };
 use core_deliver::{admit, delivery_answer, is_delivery, is_retrieval, retrieval_answer};
 use core_state::{CoreState, Edges, Placing};
@@ -54,7 +55,10 @@ fn row_answer(state: &CoreState, thread: u8, call: Call) -> Answer
             )
         }
         Call::Show(w, on) => show_answer(state, w, on),
+        Call::Find(title) => find_answer(state, title),
+        Call::AwaitTitle(title) => await_title_answer(state, title),
         Call::NextTop(w) => next_top_answer(state, w),
+        Call::WindowAt(x, y) => window_at_answer(state, x, y),
         Call::IsWindow(w) => is_window_answer(state, w),
         Call::Parent(w) => parent_answer(state, w),
         Call::Yield => Answer::Okay,

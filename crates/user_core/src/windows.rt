@@ -3,7 +3,7 @@
 ghost use Rattle.std.specs.Prelude.{◌≡◌, ◌-ℤ◌, false, int_lt, pos};
 ghost use Rattle.user_model.specs.Past.{is_full};
 ghost use Rattle.user_model.specs.Refusals.{if_own, is_no_rect, is_outside};
-ghost use Rattle.user_model.specs.ReplyWindows.{doom_reply, drop_reply, is_no_parent, is_no_placing, is_no_style, is_order, is_sibling, is_window_reply, new_window_reply, next_top_reply, parent_reply, place_reply, register_reply, show_reply, unmake_reply, unregister_reply, window_if_room};
+ghost use Rattle.user_model.specs.ReplyWindows.{await_title_reply, doom_reply, drop_reply, find_reply, is_no_parent, is_no_placing, is_no_style, is_order, is_sibling, is_window_reply, new_window_reply, next_top_reply, parent_reply, place_reply, register_reply, show_reply, unmake_reply, unregister_reply, window_at_reply, window_if_room};
 ghost use Rattle.user_model.specs.Windows.{has_flag};
 
 use crate::codes::{
@@ -280,6 +280,30 @@ pub fn show_answer(state: &CoreState, w: u64, on: u64) -> Answer
         return Answer::Refused(INVALID_WINDOW_HANDLE);
     }
     Answer::Value(u64::from(state.is_shown(w)))
+}
+
+/// The highest top-level window of a title, or 0.
+pub fn find_answer(state: &CoreState, title: u32) -> Answer
+    ensures { result ≡ find_reply state.now.past title }
+{
+    Answer::Window(state.titled(title).unwrap_or(Hwnd(0)))
+}
+
+/// The highest top-level window of a title, or a wait where there is none.
+pub fn await_title_answer(state: &CoreState, title: u32) -> Answer
+    ensures { result ≡ await_title_reply state.now.past title }
+{
+    match state.titled(title) {
+        Some(w) => Answer::Window(w),
+        None => Answer::Wait,
+    }
+}
+
+/// The window that owns a pixel of the screen, or 0.
+pub fn window_at_answer(state: &CoreState, x: i64, y: i64) -> Answer
+    ensures { result ≡ window_at_reply state.now.setup state.now.past x y }
+{
+    Answer::Window(state.owner_at(x, y))
 }
 
 /// The top-level window of least number above this one, or 0.

@@ -1,6 +1,7 @@
 pub mod Bridges
 pub mod ClassLaws
 pub mod ClassSteps
+pub mod Descents
 pub mod Destructions
 pub mod Lookups
 pub mod LookSteps
@@ -12,9 +13,11 @@ pub mod OrdersLeft
 pub mod OrdersMade
 pub mod OrdersPlaced
 pub mod Outcomes
+pub mod PixelOwners
 pub mod Procs
 pub mod Reversed
 pub mod Standings
+pub mod TitleLaws
 pub mod TreeAnswers
 pub mod TreeFacts
 pub mod TreeLaws

@@ -7,13 +7,17 @@
 
 mod finding;
 mod looks;
+mod pixels;
 mod ranks;
 mod tables;
+mod titles;
 
 pub use finding::{parent_of, step_told, thread_of, up, window_or_none};
 pub use looks::{Edges, Placing, is_shown, placing_changes, relook};
+pub use pixels::owner_at;
 pub use ranks::{leave, reorder};
 pub use tables::{doom, drop_window, make, name, unmake, unregister};
+pub use titles::titled;
 
 #[cfg(test)]
 mod tests;

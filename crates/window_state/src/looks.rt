@@ -102,7 +102,7 @@ fn pinned_by(placing: Placing, ex: u32) -> u32
 }
 
 /// The edges of a rectangle.
-fn edges_of(place: Rect) -> Edges
+pub fn edges_of(place: Rect) -> Edges
     ensures { box_of result ≡ box_in place }
 {
     Edges {
