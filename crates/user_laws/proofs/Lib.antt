@@ -3,6 +3,7 @@ pub mod Forest
 pub mod KeptByRefusals
 pub mod LastLooks
 pub mod Once
+pub mod PixelLaws
 pub mod ReadyOrder
 pub mod Rows
 pub mod Standing

@@ -13,7 +13,7 @@ mod words;
 
 pub use machines::{send_law, sum_law};
 pub use orders::{destruction_is_in_order, kin_are_destroyed_once, kin_go_before_what_is_above};
-pub use ranks::siblings_are_mended;
+pub use ranks::{owners_have_their_pixels, siblings_are_mended};
 pub use refusals::{posts_leave_in_order, refusals_change_nothing};
 pub use sends::{
     all_sends_come_to_an_end, answers_stay, awaits_pop_their_frames, frames_and_sends_are_few,
