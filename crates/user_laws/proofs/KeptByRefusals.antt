@@ -1,28 +1,68 @@
 -- A refused entry changes nothing, and posts leave in posted order.
-use Rattle.std.proofs.Common.{◌≡◌, ◌≢◌, ◌≤◌, ◌<◌, ℕ, suc, Bool, true, false, cond, eqb, List, [], ◌∷◌, length, Option, Some, None, refl, sym, ap, ◌∙◌, subst, arith}
-use Rattle.std.specs.Prelude.{◌+◌, nat_le, nat_lt, find}
+use Rattle.std.proofs.Common.{◌≡◌, ◌≢◌, ◌≤◌, ◌<◌, ℕ, zero, suc, not, reverse, Bool, true, false, cond, eqb, List, [], ◌∷◌, length, Option, Some, None, refl, sym, ap, ◌∙◌, subst, arith}
+use Rattle.std.specs.Prelude.{◌+◌, ◌&&◌, pos, nat_le, nat_lt, find}
 use Rattle.std.specs.List.{AllByRecursion}
 use Rattle.std.proofs.lemmas.Bool.{false≢true, eqb-true}
 use Rattle.std.proofs.lemmas.Bool.Decides.{nat_tests}
 use Rattle.win_num.specs.declared.message.Thread.{Thread}
 use Rattle.win_num.specs.declared.message.Filter.{Filter}
-use Rattle.win_num.specs.declared.code.Code.TheVariants.{Full}
+use Rattle.win_num.specs.declared.message.Hwnd.{Hwnd}
+use Rattle.win_num.specs.declared.shapes.Point.{Point}
+use Rattle.win_num.specs.PixelSets.{Box, has_pixel}
+use Rattle.win_num.specs.declared.code.Code.{Code}
+use Rattle.win_num.specs.declared.code.Code.TheVariants.{Full, NotNow}
 use Rattle.user_model.specs.declared.call.Call.{Call}
-use Rattle.user_model.specs.declared.call.Call.TheVariants.{Tick, Advance}
+use Rattle.user_model.specs.declared.call.Call.TheVariants.{Tick, Advance, WindowAt}
 use Rattle.user_model.specs.declared.entry.Answer.{Answer}
-use Rattle.user_model.specs.declared.entry.Answer.TheVariants.{Refused, Value}
+use Rattle.user_model.specs.declared.entry.Answer.TheVariants.{Refused, Value, Window as WindowTold}
 use Rattle.user_model.specs.declared.entry.Entry.{Entry}
 use Rattle.user_model.specs.declared.entry.Setup.{Setup}
 use Rattle.user_model.specs.Past.{Past, is_full, is_refused, is_refusal}
 use Rattle.user_model.specs.Posts.{PostedMsg, first_post, passes, posted}
 use Rattle.user_model.specs.Next.{is_empty, next_quit}
 use Rattle.user_model.specs.Refusals.{refuse, invalid_parameter}
-use Rattle.user_model.specs.Replies.{thread_reply}
+use Rattle.user_model.specs.Looks.{place_of, is_shown}
+use Rattle.user_model.specs.Pixels.{box_of, corner_from, covers, deepest, highest, origin_within, owner, point, screen, shifted}
+use Rattle.user_model.specs.Replies.{is_barred_by, row, thread_reply}
+use Rattle.user_model.specs.Stacks.{top}
+use Rattle.user_model.specs.Threads.{is_running}
+use Rattle.user_model.specs.Windows.{live, parent_in}
+use Rattle.user_model.specs.ZOrder.{hwnd, siblings}
 use Rattle.user_model.specs.Idle.{reply, clock_row}
 use Rattle.user_model.specs.Legal.{IsLawful}
 use Rattle.user_model.specs.Machines.{entry_of}
 use Rattle.user_model.proofs.PostLaws.{IsRising, posted_rises}
 use Rattle.user_laws.specs.Kept.{ChangesNothing}
+
+-- what a refused entry leaves of the owners of pixels
+module _ (past : Past) (by : Thread) (asked : Call) (code : Code) where
+  abbrev later : Past
+  later = entry_of by asked (Refused code) ∷ past
+
+  origin_same : (n w : ℕ) → origin_within n later w ≡ origin_within n past w
+  origin_same zero w = refl
+  origin_same (suc n) w = ap (λ (o : Point). elim (eqb w 0) as (λ c. Point) [ true ↦ point (pos 0) (pos 0) | false ↦ corner_from o (place_of past w) ]) (origin_same n (parent_in (live past) w))
+
+  box_same : (w : ℕ) → box_of later w ≡ box_of past w
+  box_same w = ap (λ (o : Point). shifted o (place_of past w)) (origin_same (parent_in (live past) w) (parent_in (live past) w))
+
+  covers_same : (p : Point) (w : Hwnd) → covers later p w ≡ covers past p w
+  covers_same p w = ap (λ (b : Box). is_shown past w.0 && has_pixel b p) (box_same w.0)
+
+  found_same : (p : Point) (ws : List Hwnd) → find (covers later p) ws ≡ find (covers past p) ws
+  found_same p [] = refl
+  found_same p (w ∷ ws) = ap (λ b. cond b (Some w) (find (covers later p) ws)) (covers_same p w) ∙ ap (λ o. cond (covers past p w) (Some w) o) (found_same p ws)
+
+  deepest_same : (n : ℕ) (p : Point) (w : Hwnd) → deepest n later p w ≡ deepest n past p w
+  deepest_same zero p w = refl
+  deepest_same (suc n) p w = ap (λ o. elim o as (λ c. Hwnd) [ Some v ↦ deepest n later p v | None ↦ w ]) (found_same p (reverse (siblings past w.0))) ∙ further (highest past p w.0) (λ v. deepest_same n p v)
+    where
+      further : (o : Option Hwnd) → ((v : Hwnd) → deepest n later p v ≡ deepest n past p v) → (elim o as (λ c. Hwnd) [ Some v ↦ deepest n later p v | None ↦ w ]) ≡ (elim o as (λ c. Hwnd) [ Some v ↦ deepest n past p v | None ↦ w ])
+      further None rest = refl
+      further (Some v) rest = rest v
+
+  owner_same : (setup : Setup) (p : Point) → owner setup later p ≡ owner setup past p
+  owner_same setup p = ap (λ (w : Hwnd). cond (has_pixel (screen setup) p) w (hwnd 0)) (deepest_same (length (live past)) p (hwnd 0))
 
 changes_none : (past : Past) (who : Thread) (call : Call) (a : Answer) → is_refusal a ≡ true → ChangesNothing past (entry_of who call a)
 changes_none past who call (Refused code) is = record {
@@ -32,6 +72,8 @@ changes_none past who call (Refused code) is = record {
   same_windows = refl;
   same_numbers = refl;
   same_looks = λ w. refl;
+  same_siblings = λ p. refl;
+  same_owners = λ setup p. owner_same past who call code setup p;
   same_marks = λ w. refl;
   same_steps = λ step. refl;
   same_classes = refl;
@@ -57,8 +99,12 @@ changes_nothing past e is = changes_none past e.who e.call e.answer is
 fewer : (n : ℕ) → nat_le 2097152 (suc n) ≡ false → nat_le 2097152 n ≡ false
 fewer n is = grind (arith, nat_tests, is)
 
+row_same : (setup : Setup) (past : Past) (by : Thread) (asked : Call) (code : Code) (who : ℕ) (call : Call) → row setup (entry_of by asked (Refused code) ∷ past) who call ≡ row setup past who call
+row_same setup past by asked code who (WindowAt x y) = ap (λ (w : Hwnd). WindowTold w) (owner_same past by asked code setup (point x y))
+row_same setup past by asked code who _ = refl
+
 thread_same : (setup : Setup) (past : Past) (by : Thread) (asked : Call) (a : Answer) → is_refusal a ≡ true → (who : ℕ) (call : Call) → thread_reply setup (entry_of by asked a ∷ past) who call ≡ thread_reply setup past who call
-thread_same setup past by asked (Refused code) is who call = refl
+thread_same setup past by asked (Refused code) is who call = ap (λ (a : Answer). refuse (not (is_running setup past who)) NotNow (refuse (is_barred_by call (top past who)) NotNow a)) (row_same setup past by asked code who call)
 thread_same setup past by asked _ is who call = absurd (false≢true is)
 
 -- a thread's next reply is the same

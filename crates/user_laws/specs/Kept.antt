@@ -1,10 +1,14 @@
 -- What a refused entry leaves as it was: all that the definitions keep.
 use Rattle.std.specs.Prelude.{◌≡◌, ℕ, ◌∷◌}
+use Rattle.win_num.specs.declared.shapes.Point.{Point}
 use Rattle.user_model.specs.declared.entry.Entry.{Entry}
+use Rattle.user_model.specs.declared.entry.Setup.{Setup}
 use Rattle.user_model.specs.Past.{Past}
 use Rattle.user_model.specs.Places.{clock, cursor, has_ended}
 use Rattle.user_model.specs.Windows.{live, windows_made}
 use Rattle.user_model.specs.Looks.{look}
+use Rattle.user_model.specs.ZOrder.{siblings}
+use Rattle.user_model.specs.Pixels.{owner}
 use Rattle.user_model.specs.Destruction.{Step, is_marked, was_given}
 use Rattle.user_model.specs.Classes.{classes, registered_count, message_names}
 use Rattle.user_model.specs.Posts.{posts, posted, quit}
@@ -20,6 +24,8 @@ pub record ChangesNothing (past : Past) (e : Entry) : Type 0 where
   pub same_windows : live (e ∷ past) ≡ live past
   pub same_numbers : windows_made (e ∷ past) ≡ windows_made past
   pub same_looks : (w : ℕ) → look (e ∷ past) w ≡ look past w
+  pub same_siblings : (p : ℕ) → siblings (e ∷ past) p ≡ siblings past p
+  pub same_owners : (setup : Setup) (p : Point) → owner setup (e ∷ past) p ≡ owner setup past p
   pub same_marks : (w : ℕ) → is_marked (e ∷ past) w ≡ is_marked past w
   pub same_steps : (step : Step) → was_given (e ∷ past) step ≡ was_given past step
   pub same_classes : classes (e ∷ past) ≡ classes past
