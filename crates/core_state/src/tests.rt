@@ -33,6 +33,8 @@ fn a_new_state_has_no_window(rt: HostRuntime) -> Result<(), Fail> {
     assert_eq!(rt; state.thread_of(16), 0);
     assert_eq!(rt; state.up(16), None);
     assert_eq!(rt; state.next_top(4294967296), Hwnd(0));
+    assert_eq!(rt; state.titled(2), None);
+    assert_eq!(rt; state.owner_at(0, 0), Hwnd(0));
     assert_eq!(rt; state.window_count(), 0usize);
     Ok(())
 }

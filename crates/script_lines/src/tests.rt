@@ -46,6 +46,7 @@ fn lines_both_ways(rt: HostRuntime) -> Result<(), Fail> {
         b"send r 1 2 3\nsend_notify r 1 2 3\nsend_timeout r 1 2 3 SMTO_BLOCK 7\n",
         b"proc b\nproc a\nregister c a 4\nsend_callback 0 1 2 3 b 9\nunregister c\n",
         b"create a t 0 WS_POPUP 8 -1 -2 r 4\nmessage t\n",
+        b"find t\nawait_title a\nfind t\nwindow_at -1 h\n",
         b"",
     ] {
         let out = written_again(rt.alloc(), text)?;

@@ -4,6 +4,7 @@ use super::*;
 use std::test::Fail;
 use user_model::Answer;
 use win_num::{Hwnd, Rect, Thread};
+use win_order::Order;
 use win_tree::{Tree, Unmade, WindowRow};
 
 #[test]
@@ -11,6 +12,9 @@ fn no_window_is_found(rt: HostRuntime) -> Result<(), Fail> {
     let tree = Tree::new(rt.alloc());
     assert_eq!(rt; window_or_none(&tree, 0), Hwnd(0));
     assert_eq!(rt; thread_of(&tree, Hwnd(16)), 0);
+    let order = Order::new(rt.alloc());
+    assert_eq!(rt; titled(&tree, &order, 2), None);
+    assert_eq!(rt; owner_at(&tree, &order, 8, 4, 0, 0), Hwnd(0));
     Ok(())
 }
 
