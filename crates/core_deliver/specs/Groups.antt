@@ -1,12 +1,12 @@
--- Which calls the layer of delivery answers.
+-- Which layer answers a call.
 use Rattle.std.specs.Prelude.{Bool, true, false}
 use Rattle.user_model.specs.declared.call.Call.{Call}
 use Rattle.user_model.specs.declared.call.Call.TheVariants.{Peek, Get, Post, PostThread, PostQuit, Dispatch, Send, SendTimeout, SendNotify, SendCallback, Await, Leave, Reply, InSend, Message, Register, Unregister, NewWindow, Doom, Unmake, Drop, Place, Show, Find, AwaitTitle, NextTop, WindowAt, IsWindow, Parent, EndThread, Clock, SleepUntil, Yield, Tick, Advance}
 use Rattle.core_deliver.specs.declared.groups.Group.{Group}
-use Rattle.core_deliver.specs.declared.groups.Group.TheVariants.{Retrieval, Delivery, Other}
+use Rattle.core_deliver.specs.declared.groups.Group.TheVariants.{Retrieval, Delivery, Window, Other}
 
 -- the group of each call: it asks for a message; it posts, sends, hands a message to a procedure, is made inside or after a send,
--- or registers a message; or the layer above answers it
+-- or registers a message; it is about classes or windows; or it is about time, or ends a thread
 abbrev pub group_of : Call → Group
 group_of (Peek w min max flags) = Retrieval
 group_of (Get w min max) = Retrieval
@@ -23,20 +23,20 @@ group_of (Leave v) = Delivery
 group_of (Reply v) = Delivery
 group_of InSend = Delivery
 group_of (Message name) = Delivery
-group_of (Register name proc_no colour) = Other
-group_of (Unregister name) = Other
-group_of (NewWindow class title parent style ex l t r b) = Other
-group_of (Doom w) = Other
-group_of (Unmake w) = Other
-group_of (Drop w) = Other
-group_of (Place w after l t r b flags) = Other
-group_of (Show w on) = Other
-group_of (Find title) = Other
-group_of (AwaitTitle title) = Other
-group_of (NextTop w) = Other
-group_of (WindowAt x y) = Other
-group_of (IsWindow w) = Other
-group_of (Parent w) = Other
+group_of (Register name proc_no colour) = Window
+group_of (Unregister name) = Window
+group_of (NewWindow class title parent style ex l t r b) = Window
+group_of (Doom w) = Window
+group_of (Unmake w) = Window
+group_of (Drop w) = Window
+group_of (Place w after l t r b flags) = Window
+group_of (Show w on) = Window
+group_of (Find title) = Window
+group_of (AwaitTitle title) = Window
+group_of (NextTop w) = Window
+group_of (WindowAt x y) = Window
+group_of (IsWindow w) = Window
+group_of (Parent w) = Window
 group_of EndThread = Other
 group_of Clock = Other
 group_of (SleepUntil time) = Other
@@ -48,6 +48,7 @@ group_of Advance = Other
 abbrev pub are_retrievals : Group → Bool
 are_retrievals Retrieval = true
 are_retrievals Delivery = false
+are_retrievals Window = false
 are_retrievals Other = false
 
 -- whether the call asks for a message
@@ -58,8 +59,20 @@ is_retrieval call = are_retrievals (group_of call)
 abbrev pub are_deliveries : Group → Bool
 are_deliveries Retrieval = false
 are_deliveries Delivery = true
+are_deliveries Window = false
 are_deliveries Other = false
 
 -- whether the call is another one of delivery
 abbrev pub is_delivery : Call → Bool
 is_delivery call = are_deliveries (group_of call)
+
+-- whether the group is that of the calls on classes and windows
+abbrev pub are_window_calls : Group → Bool
+are_window_calls Retrieval = false
+are_window_calls Delivery = false
+are_window_calls Window = true
+are_window_calls Other = false
+
+-- whether the call is about classes or windows
+abbrev pub is_window_call : Call → Bool
+is_window_call call = are_window_calls (group_of call)

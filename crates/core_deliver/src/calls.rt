@@ -88,8 +88,14 @@ pub fn delivery_answer(state: &CoreState, who: Thread, call: Call) -> Answer
     }
 }
 
-/// Adds the entry of a call that was answered, where the history has room.
-fn enter(s: &mut CoreState, who: Thread, call: Call, answer: Answer) -> Result<Answer, AllocError>
+/// Adds the entry of a call that was answered, where the history has room: else it stays as it was. After
+/// want of memory nothing has changed.
+pub fn enter(
+    s: &mut CoreState,
+    who: Thread,
+    call: Call,
+    answer: Answer,
+) -> Result<Answer, AllocError>
     requires { answer ≡ reply s.old.setup s.old.past who.0 call }
     ensures answer { IfOk result (λ told. told ≡ answer) }
     ensures entry { OnOk result (s.new.past ≡ after s.old.setup s.old.past who call) }

@@ -1,7 +1,7 @@
-//! Which calls this crate answers.
+//! Which layer answers a call.
 
 ghost use Rattle.std.specs.Prelude.{◌≡◌};
-ghost use Rattle.core_deliver.specs.Groups.{group_of, is_delivery, is_retrieval};
+ghost use Rattle.core_deliver.specs.Groups.{group_of, is_delivery, is_retrieval, is_window_call};
 
 use user_model::Call;
 
@@ -12,7 +12,9 @@ pub enum Group {
     Retrieval,
     /// It posts, dispatches, sends, is made inside or after a send, or registers a message.
     Delivery,
-    /// The layer above answers it.
+    /// It is about classes or windows, and `core_window` answers it.
+    Window,
+    /// It is about time, or ends a thread, and the machine answers it.
     Other,
 }
 
@@ -48,8 +50,8 @@ fn group_of(call: Call) -> Group
         | Call::NextTop(..)
         | Call::WindowAt(..)
         | Call::IsWindow(..)
-        | Call::Parent(..)
-        | Call::EndThread
+        | Call::Parent(..) => Group::Window,
+        Call::EndThread
         | Call::Clock
         | Call::SleepUntil(..)
         | Call::Yield
@@ -64,7 +66,7 @@ pub fn is_retrieval(call: Call) -> bool
 {
     match group_of(call) {
         Group::Retrieval => true,
-        Group::Delivery | Group::Other => false,
+        Group::Delivery | Group::Window | Group::Other => false,
     }
 }
 
@@ -74,6 +76,16 @@ pub fn is_delivery(call: Call) -> bool
 {
     match group_of(call) {
         Group::Delivery => true,
-        Group::Retrieval | Group::Other => false,
+        Group::Retrieval | Group::Window | Group::Other => false,
+    }
+}
+
+/// Whether the call is about classes or windows.
+pub fn is_window_call(call: Call) -> bool
+    ensures { result ≡ is_window_call call }
+{
+    match group_of(call) {
+        Group::Window => true,
+        Group::Retrieval | Group::Delivery | Group::Other => false,
     }
 }

@@ -14,8 +14,8 @@ mod messages;
 mod sends;
 
 pub use admission::admit;
-pub use calls::{deliver, delivery_answer, retrieval_answer, retrieve};
-pub use groups::{is_delivery, is_retrieval};
+pub use calls::{deliver, delivery_answer, enter, retrieval_answer, retrieve};
+pub use groups::{is_delivery, is_retrieval, is_window_call};
 
 #[cfg(test)]
 mod tests;

@@ -1,7 +1,7 @@
 //! What a call answers, from the state.
 
 ghost use Rattle.std.specs.Prelude.{◌≡◌, ◌<◌, ◌≤◌, false};
-ghost use Rattle.core_deliver.specs.Groups.{is_delivery, is_retrieval};
+ghost use Rattle.core_deliver.specs.Groups.{is_delivery, is_retrieval, is_window_call};
 ghost use Rattle.user_model.specs.Past.{is_full};
 ghost use Rattle.user_model.specs.Replies.{row, thread_reply};
 ghost use Rattle.win_num.specs.declared.code.Code.TheVariants.{Full};
@@ -10,57 +10,24 @@ ghost use Rattle.user_model.specs.Idle.{is_wait, is_idle, is_barred, first_busy,
 
 use crate::actor::{Actor, actor_of};
 use crate::clock::{advanced, sleep_until_answer, soonest, tick_answer};
-use crate::windows::{
-    NewWindow, await_title_answer, doom_answer, drop_answer, find_answer, is_window_answer,
-    new_window_answer, next_top_answer, parent_answer, place_answer, register_answer, show_answer,
-    unmake_answer, unregister_answer, window_at_answer,
+use core_deliver::{
+    admit, delivery_answer, is_delivery, is_retrieval, is_window_call, retrieval_answer,
 };
-use core_deliver::{admit, delivery_answer, is_delivery, is_retrieval, retrieval_answer};
-use core_state::{CoreState, Edges, Placing};
+use core_state::CoreState;
+use core_window::window_answer;
 use user_model::{Answer, Call};
 use win_num::{Code, Thread};
 
-/// The answer of a window call or a call of time to a running thread, where its stack allows the call.
+/// The answer of a call of time, or of the end of a thread, to a running thread, where its stack allows the
+/// call.
 fn row_answer(state: &CoreState, thread: u8, call: Call) -> Answer
     requires room { is_full state.now.past ≡ false }
     requires no_retrieval { is_retrieval call ≡ false }
     requires no_delivery { is_delivery call ≡ false }
+    requires no_window { is_window_call call ≡ false }
     ensures { result ≡ row state.now.setup state.now.past thread call }
 {
     match call {
-        Call::Register(name, _, colour) => register_answer(state, name, colour),
-        Call::Unregister(name) => unregister_answer(state, name),
-        Call::NewWindow(class, _, parent, style, ex, l, t, r, b) => {
-            let making = NewWindow {
-                class,
-                parent,
-                style,
-                ex,
-            };
-            new_window_answer(state, thread, making, Edges { l, t, r, b })
-        }
-        Call::Doom(w) => doom_answer(state, thread, w),
-        Call::Unmake(w) => unmake_answer(state, thread, w),
-        Call::Drop(w) => drop_answer(state, thread, w),
-        Call::Place(w, after, l, t, r, b, flags) => {
-            let edges = Edges { l, t, r, b };
-            place_answer(
-                state,
-                w,
-                Placing {
-                    after,
-                    edges,
-                    flags,
-                },
-            )
-        }
-        Call::Show(w, on) => show_answer(state, w, on),
-        Call::Find(title) => find_answer(state, title),
-        Call::AwaitTitle(title) => await_title_answer(state, title),
-        Call::NextTop(w) => next_top_answer(state, w),
-        Call::WindowAt(x, y) => window_at_answer(state, x, y),
-        Call::IsWindow(w) => is_window_answer(state, w),
-        Call::Parent(w) => parent_answer(state, w),
         Call::Yield => Answer::Okay,
         Call::EndThread => Answer::Ended,
         Call::Clock => Answer::Value(state.time()),
@@ -70,10 +37,11 @@ fn row_answer(state: &CoreState, thread: u8, call: Call) -> Answer
     }
 }
 
-/// The answer of a window call or a call of time to an actor other than the clock.
+/// The answer of a call of time, or of the end of a thread, to an actor other than the clock.
 fn own_answer(state: &CoreState, who: Thread, call: Call) -> Answer
     requires no_retrieval { is_retrieval call ≡ false }
     requires no_delivery { is_delivery call ≡ false }
+    requires no_window { is_window_call call ≡ false }
     ensures { result ≡ refuse (is_full state.now.past) Full (thread_reply state.now.setup state.now.past who.0 call) }
 {
     match admit(state, who, call) {
@@ -93,6 +61,9 @@ fn thread_answer(state: &CoreState, thread: u8, call: Call) -> Answer
     }
     if is_delivery(call) {
         return delivery_answer(state, Thread(thread), call);
+    }
+    if is_window_call(call) {
+        return window_answer(state, Thread(thread), call);
     }
     own_answer(state, Thread(thread), call)
 }
@@ -176,11 +147,12 @@ fn clock_answer(state: &CoreState, call: Call) -> Answer
     }
 }
 
-/// What a window call or a call of time answers.
+/// What a call of time, or the end of a thread, answers.
 #[tactic(auto, unfolding(user_model::specs::Idle::reply))]
 pub fn answer(state: &CoreState, who: Thread, call: Call) -> Answer
     requires no_retrieval { is_retrieval call ≡ false }
     requires no_delivery { is_delivery call ≡ false }
+    requires no_window { is_window_call call ≡ false }
     ensures { result ≡ reply state.now.setup state.now.past who.0 call }
 {
     match actor_of(who) {

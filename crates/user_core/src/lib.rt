@@ -1,15 +1,13 @@
 //! The machine: it decides from the state what a call answers, and adds the entry to it.
 //!
-//! `core_deliver` answers the calls of delivery. `windows` decides the calls on classes and windows, `clock`
-//! those of time, `answer` who has no call to make. `User` joins them with the state.
+//! `core_deliver` answers the calls of delivery, `core_window` those on classes and windows. `clock` decides
+//! the calls of time, `answer` who has no call to make. `User` joins them with the state.
 #![tactic(auto)]
 
 mod actor;
 mod answer;
 mod clock;
-mod codes;
 mod user;
-mod windows;
 
 pub use user::User;
 pub use user_model::SendStory;

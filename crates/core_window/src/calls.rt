@@ -1,0 +1,88 @@
+//! The calls on classes and windows: what each answers, and its entry.
+
+ghost use Rattle.std.specs.Prelude.{◌≡◌, true, false, IfOk, OnOk, OnErr};
+ghost use Rattle.core_deliver.specs.Groups.{is_window_call};
+ghost use Rattle.user_model.specs.Idle.{reply};
+ghost use Rattle.user_model.specs.Machines.{after};
+ghost use Rattle.user_model.specs.Past.{is_full};
+ghost use Rattle.user_model.specs.Replies.{row};
+
+use crate::windows::{
+    NewWindow, await_title_answer, doom_answer, drop_answer, find_answer, is_window_answer,
+    new_window_answer, next_top_answer, parent_answer, place_answer, register_answer, show_answer,
+    unmake_answer, unregister_answer, window_at_answer,
+};
+use core_deliver::{admit, enter};
+use core_state::{CoreState, Edges, Placing};
+use std::alloc::AllocError;
+use user_model::{Answer, Call};
+use win_num::Thread;
+
+/// The answer of a call on classes or windows to a running thread, where its stack allows it.
+fn window_row(state: &CoreState, thread: u8, call: Call) -> Answer
+    requires group { is_window_call call ≡ true }
+    requires room { is_full state.now.past ≡ false }
+    ensures { result ≡ row state.now.setup state.now.past thread call }
+{
+    match call {
+        Call::Register(name, _, colour) => register_answer(state, name, colour),
+        Call::Unregister(name) => unregister_answer(state, name),
+        Call::NewWindow(class, _, parent, style, ex, l, t, r, b) => {
+            let making = NewWindow {
+                class,
+                parent,
+                style,
+                ex,
+            };
+            new_window_answer(state, thread, making, Edges { l, t, r, b })
+        }
+        Call::Doom(w) => doom_answer(state, thread, w),
+        Call::Unmake(w) => unmake_answer(state, thread, w),
+        Call::Drop(w) => drop_answer(state, thread, w),
+        Call::Place(w, after, l, t, r, b, flags) => {
+            let edges = Edges { l, t, r, b };
+            place_answer(
+                state,
+                w,
+                Placing {
+                    after,
+                    edges,
+                    flags,
+                },
+            )
+        }
+        Call::Show(w, on) => show_answer(state, w, on),
+        Call::Find(title) => find_answer(state, title),
+        Call::AwaitTitle(title) => await_title_answer(state, title),
+        Call::NextTop(w) => next_top_answer(state, w),
+        Call::WindowAt(x, y) => window_at_answer(state, x, y),
+        Call::IsWindow(w) => is_window_answer(state, w),
+        Call::Parent(w) => parent_answer(state, w),
+        _ => unreachable!(),
+    }
+}
+
+/// What a call on classes or windows answers.
+pub fn window_answer(state: &CoreState, who: Thread, call: Call) -> Answer
+    requires { is_window_call call ≡ true }
+    ensures { result ≡ reply state.now.setup state.now.past who.0 call }
+{
+    match admit(state, who, call) {
+        Some(code) => Answer::Refused(code),
+        None => window_row(state, who.0, call),
+    }
+}
+
+/// Makes a call on classes or windows. The answer is the reply of the definitions, and stands with the call
+/// as the newest entry, unless the history is full: then it stays as it was. After want of memory nothing
+/// has changed, and the call may be made again (Microsoft, CreateWindowEx and SetWindowPos functions).
+pub fn window(s: &mut CoreState, who: Thread, call: Call) -> Result<Answer, AllocError>
+    requires { is_window_call call ≡ true }
+    ensures answer { IfOk result (λ answer. answer ≡ reply s.old.setup s.old.past who.0 call) }
+    ensures entry { OnOk result (s.new.past ≡ after s.old.setup s.old.past who call) }
+    ensures err { OnErr result (s.new.past ≡ s.old.past) }
+    ensures setup { s.new.setup ≡ s.old.setup }
+{
+    let answer = window_answer(s, who, call);
+    enter(s, who, call, answer)
+}

@@ -1,0 +1,11 @@
+//! The calls on classes and windows, answered from the state.
+//!
+//! `windows` decides what each call answers, `calls` joins them and adds the entry. What keeps a thread from
+//! any call, and how an entry is added, `core_deliver` says.
+#![tactic(auto)]
+
+mod calls;
+mod codes;
+mod windows;
+
+pub use calls::{window, window_answer};
