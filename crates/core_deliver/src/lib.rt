@@ -16,6 +16,3 @@ mod sends;
 pub use admission::admit;
 pub use calls::{deliver, delivery_answer, retrieval_answer, retrieve};
 pub use groups::{is_delivery, is_retrieval};
-
-#[cfg(test)]
-mod tests;

@@ -13,8 +13,3 @@ mod windows;
 
 pub use user::User;
 pub use user_model::SendStory;
-
-#[cfg(test)]
-mod send_tests;
-#[cfg(test)]
-mod tests;
