@@ -16,6 +16,3 @@ mod sends;
 pub use admission::admit;
 pub use calls::{deliver, delivery_answer, enter, retrieval_answer, retrieve};
 pub use groups::{is_delivery, is_retrieval, is_window_call};
-
-#[cfg(test)]
-mod tests;

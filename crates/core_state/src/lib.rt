@@ -15,6 +15,3 @@ pub use send_state::SendRow;
 pub use state::CoreState;
 pub use user_model::SendStory;
 pub use window_state::{Edges, Placing};
-
-#[cfg(test)]
-mod tests;

@@ -13,6 +13,10 @@ pub enum Line {
     Machine(u8),
     /// Whether an actor has no call to make now.
     Barred(Thread),
+    /// How many entries the machine has, and the last of them.
+    History,
+    /// What became of its sends.
+    Sends,
     /// A call of an actor.
     Call(Thread, Call),
 }
@@ -23,6 +27,12 @@ impl Line {
         if line.is_empty() || line.starts_with('#') {
             return Some(Line::Comment);
         }
+        if line == "history" {
+            return Some(Line::History);
+        }
+        if line == "sends" {
+            return Some(Line::Sends);
+        }
         let (first, rest) = line.split_once(' ')?;
         match first {
             "machine" => Some(Line::Machine(rest.parse().ok()?)),
@@ -30,6 +40,13 @@ impl Line {
             _ => Some(Line::Call(Thread(first.parse().ok()?), call_of(rest)?)),
         }
     }
+}
+
+/// The first and the last number of a line `from FIRST to LAST: ..`, and what stands behind the colon.
+pub fn range_of(line: &str) -> Option<(u64, u64, &str)> {
+    let (range, calls) = line.strip_prefix("from ")?.split_once(": ")?;
+    let (first, last) = range.split_once(" to ")?;
+    Some((first.parse().ok()?, last.parse().ok()?, calls))
 }
 
 /// The call of its word and its fields.

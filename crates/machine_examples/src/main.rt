@@ -1,7 +1,7 @@
 //! Worked examples of the machine. Standard input has calls, one a line, each with the actor that makes it; each is written again
 //! with the machine's answer, in the words of a log. A line `machine N` begins a new machine with N threads, and `barred T`
-//! asks whether an actor has no call to make now. Names and procedures are their numbers. Empty lines and comments are
-//! written as they are.
+//! asks whether an actor has no call to make now. A line `from A to B: T CALL .. = ANSWER; ..` makes its calls for each number of a
+//! range, and each must have that answer. Names and procedures are their numbers. Empty lines and comments are written as they are.
 #![tactic(auto)]
 
 ghost use Rattle.std.specs.Prelude.{◌≡◌, ◌&&◌, nat_le};
@@ -9,7 +9,7 @@ ghost use Rattle.std.specs.Prelude.{◌≡◌, ◌&&◌, nat_le};
 mod lines;
 mod told;
 
-use lines::Line;
+use lines::{Line, range_of};
 use std::alloc::Global;
 use std::io::{BufRead, BufReader};
 use told::Told;
@@ -32,6 +32,12 @@ fn run_line(rt: &impl Print, alloc: Global, machine: &mut User, line: &str) -> a
             println!(rt; "{line}")?;
         }
         Some(Line::Barred(actor)) => println!(rt; "{line} = {}", machine.barred(actor))?,
+        Some(Line::History) => println!(rt;
+            "{line} = {} {:?}",
+            machine.history().len(),
+            machine.history().last()
+        )?,
+        Some(Line::Sends) => println!(rt; "{line} = {:?}", machine.send_count())?,
         Some(Line::Call(actor, call)) => {
             let answer = machine.step(actor, call)?;
             println!(rt; "{line} = {}", Told(answer))?;
@@ -41,10 +47,47 @@ fn run_line(rt: &impl Print, alloc: Global, machine: &mut User, line: &str) -> a
     Ok(())
 }
 
+/// Makes the call of a text `T CALL .. = ANSWER`. An error comes where it is none, or the call has another answer.
+fn expect(alloc: Global, machine: &mut User, text: &str) -> anyhow::Result<()> {
+    let Some((line, wanted)) = text.split_once(" = ") else {
+        anyhow::bail!("no answer: {text}");
+    };
+    let Some(Line::Call(actor, call)) = Line::parse(line) else {
+        anyhow::bail!("no call: {text}");
+    };
+    let told = format!(in alloc; "{}", Told(machine.step(actor, call)?))?;
+    if told.as_str() != wanted {
+        anyhow::bail!("{line} = {told}, and not {wanted}");
+    }
+    Ok(())
+}
+
+/// Makes the calls of a range, with a number in the place of each `N`.
+fn expect_all(alloc: Global, machine: &mut User, calls: &str, number: u64) -> anyhow::Result<()> {
+    let digits = format!(in alloc; "{number}")?;
+    let calls = calls.replace(alloc, 'N', &digits)?;
+    for text in calls.split("; ") {
+        expect(alloc, machine, text)?;
+    }
+    Ok(())
+}
+
+/// Does what a line asks for, be it for a range or once, and writes it again.
+fn run_any(rt: &impl Print, alloc: Global, machine: &mut User, line: &str) -> anyhow::Result<()> {
+    let Some((first, last, calls)) = range_of(line) else {
+        return run_line(rt, alloc, machine, line);
+    };
+    for number in first..=last {
+        expect_all(alloc, machine, calls, number)?;
+    }
+    println!(rt; "{line}")?;
+    Ok(())
+}
+
 /// Does what the lines of standard input ask for.
 fn run(rt: &HostRuntime, alloc: Global, machine: &mut User) -> anyhow::Result<()> {
     for line in BufReader::new(alloc, rt.reader())?.lines(alloc) {
-        run_line(rt, alloc, machine, &line?)?;
+        run_any(rt, alloc, machine, &line?)?;
     }
     Ok(())
 }

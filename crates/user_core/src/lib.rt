@@ -11,8 +11,3 @@ mod user;
 
 pub use user::User;
 pub use user_model::SendStory;
-
-#[cfg(test)]
-mod send_tests;
-#[cfg(test)]
-mod tests;

@@ -1,0 +1,43 @@
+//! What the calls of delivery answer to a thread and to the clock.
+
+use core_deliver::{
+    admit, deliver, delivery_answer, is_delivery, is_retrieval, retrieval_answer, retrieve,
+};
+use core_state::CoreState;
+use std::io::Print;
+use user_model::Call;
+use win_num::Thread;
+
+/// A message to the thread itself.
+const POST: Call = Call::Post(0, 1024, 7, 0);
+
+/// Every message of the thread.
+const GET: Call = Call::Get(0, 0, 0);
+
+/// A message to a window that isn't there.
+const SEND: Call = Call::Send(16, 1024, 0, 0);
+
+/// A post, which is retrieved.
+pub fn tell_post(rt: &impl Print, state: &mut CoreState) -> anyhow::Result<()> {
+    println!(rt; "post: {:?}", deliver(state, Thread(1), POST)?)?;
+    println!(rt; "get: {:?}", retrieve(state, Thread(1), GET)?)?;
+    println!(rt; "get again: {:?}", retrieval_answer(state, Thread(1), GET))?;
+    println!(rt; "history {}", state.history().len())?;
+    Ok(())
+}
+
+/// A send to no window, and by the clock, which makes none.
+pub fn tell_refusals(rt: &impl Print, state: &mut CoreState) -> anyhow::Result<()> {
+    println!(rt;
+        "is_delivery {} is_retrieval {}",
+        is_delivery(SEND),
+        is_retrieval(SEND)
+    )?;
+    println!(rt; "send: {:?}", deliver(state, Thread(1), SEND)?)?;
+    println!(rt; "admit: {:?}", admit(state, Thread(0), SEND))?;
+    println!(rt;
+        "send by the clock: {:?}",
+        delivery_answer(state, Thread(0), SEND)
+    )?;
+    Ok(())
+}

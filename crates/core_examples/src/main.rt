@@ -1,0 +1,36 @@
+//! Worked examples of the parts below the machine: a state without entries, asked by each call that asks nothing of an entry, and a
+//! post and a send by the calls of delivery, and a window that is made and found. What each answered is written.
+#![tactic(auto)]
+
+mod deliveries;
+mod states;
+mod windows;
+
+use core_state::CoreState;
+use std::alloc::Global;
+use user_model::Setup;
+
+/// What a state without entries answers.
+fn tell_state(rt: &impl Print, alloc: Global) -> anyhow::Result<()> {
+    let state = CoreState::new(alloc, Setup::new(2, 8, 4))?;
+    states::tell_all(rt, &state)
+}
+
+/// What the calls of delivery answer to the one thread of a new state.
+fn tell_deliveries(rt: &impl Print, alloc: Global) -> anyhow::Result<()> {
+    let mut state = CoreState::new(alloc, Setup::new(1, 8, 4))?;
+    deliveries::tell_post(rt, &mut state)?;
+    deliveries::tell_refusals(rt, &mut state)
+}
+
+/// What the calls on classes and windows answer to the one thread of a new state.
+fn tell_windows(rt: &impl Print, alloc: Global) -> anyhow::Result<()> {
+    let mut state = CoreState::new(alloc, Setup::new(1, 8, 4))?;
+    windows::tell_window(rt, &mut state)
+}
+
+fn main(rt: HostRuntime) -> anyhow::Result<()> {
+    tell_state(&rt, rt.alloc())?;
+    tell_deliveries(&rt, rt.alloc())?;
+    tell_windows(&rt, rt.alloc())
+}
