@@ -1,2 +1,7 @@
+pub mod Chains
 pub mod Entries
+pub mod Joins
+pub mod Named
 pub mod Places
+pub mod Steps
+pub mod Tables
