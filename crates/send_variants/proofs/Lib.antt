@@ -2,6 +2,5 @@ pub mod Chains
 pub mod Entries
 pub mod Joins
 pub mod Named
-pub mod Places
 pub mod Steps
 pub mod Tables

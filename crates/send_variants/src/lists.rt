@@ -114,7 +114,7 @@ fn put_at(
 {
     let mut pair = ends[at];
     let slot = Slot {
-        thread: at as u8 + 1,
+        thread: at as u32 + 1,
         place,
         ready,
         before: pair.last,

@@ -6,7 +6,7 @@ use crate::ready::Ready;
 #[derive(Clone, Copy)]
 pub(crate) struct Slot {
     /// The number of the thread, 0 where the slot is free.
-    pub(crate) thread: u8,
+    pub(crate) thread: u32,
     pub(crate) place: u32,
     pub(crate) ready: Ready,
     /// The key of the slot before it.

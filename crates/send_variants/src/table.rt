@@ -135,14 +135,12 @@ fn vacate(slots: &mut Vec<Slot>, free: &mut Option<u16>, key: u16) -> Option<Slo
     if slots.len() <= i {
         return None;
     }
-    let slot = slots[i];
-    slots[i] = Slot {
-        thread: 0,
-        after: *free,
-        ..slot
-    };
+    let slot = &mut slots[i];
+    let was = *slot;
+    slot.thread = 0;
+    slot.after = *free;
     *free = Some(key);
-    Some(slot)
+    Some(was)
 }
 
 /// Says which slot comes after the one under this key, or first where there is none.
