@@ -1,6 +1,5 @@
 -- Slots that are linked, in two parts, and with a link changed.
-use Rattle.std.proofs.Common.{◌≡◌, ◌≢◌, ◌∙◌, ℕ, ◌<◌, ◌≤◌, suc, List, [], ◌∷◌, ◌++◌, length, cond, filter, find, false, not, eqb, Option, Some, None, is_some, refl, sym, ap, subst, arith}
-use Rattle.std.proofs.lemmas.Bool.{eq-eqb, ne_eqb}
+use Rattle.std.proofs.Common.{◌≡◌, ◌≢◌, ◌∙◌, ℕ, ◌<◌, ◌≤◌, suc, List, [], ◌∷◌, ◌++◌, length, Option, Some, None, refl, sym, ap, subst, arith}
 use Rattle.send_variants.specs.declared.slot.Slot.{Slot}
 use Rattle.send_variants.specs.Lists.{Entry}
 use Rattle.send_variants.specs.Tables.{entry_of, entries_at, first_key, last_key, above_all, IsHeld, Linked, IsAfterChanged, IsBeforeChanged, IsChangedAt}

@@ -1,5 +1,5 @@
 -- The ends of a list once an entry has come or gone.
-use Rattle.std.proofs.Common.{◌≡◌, ◌∙◌, ℕ, ◌<◌, ◌≤◌, suc, List, [], ◌∷◌, ◌++◌, Option, Some, None, append-nil, refl, sym, ap, subst, arith}
+use Rattle.std.proofs.Common.{◌≡◌, ◌∙◌, ℕ, ◌≤◌, suc, List, [], ◌∷◌, ◌++◌, Option, Some, None, append-nil, refl, sym, ap, subst, arith}
 use Rattle.send_variants.specs.declared.slot.Slot.{Slot}
 use Rattle.send_variants.specs.Lists.{AreBelow}
 use Rattle.send_variants.specs.Tables.{entries_at, first_key, last_key, above_all, end_left, Linked}
@@ -41,7 +41,6 @@ first_more (e ∷ es) n k first last is end = end_some last first (Some k) (λ n
 
 pub last_more : (es : List (ℕ × ℕ)) (n k : ℕ) → Some k ≡ last_key None (es ++ (n, k) ∷ [])
 last_more es n k = sym (last_append None es ((n, k) ∷ []))
-
 
 -- all places are below this one
 all_below : (g : ℕ → Option Slot) (n : ℕ) (prev : Option ℕ) (from : ℕ) (es : List (ℕ × ℕ)) (next : Option ℕ) → Linked g prev from es next → from ≤ n → AreBelow n (entries_at g es) → above_all from es ≤ n

@@ -1,15 +1,15 @@
 -- A table after an entry was put or taken.
-use Rattle.std.proofs.Common.{◌≡◌, ◌≢◌, ◌∙◌, inl, inr, ℕ, zero, suc, ◌+◌, ◌-◌, ◌<◌, ◌≤◌, true, false, List, [], ◌∷◌, ◌++◌, length, length-append, cond, eqb, get_or, set, Option, Some, None, refl, sym, ap, subst, arith}
+use Rattle.std.proofs.Common.{◌≡◌, ◌≢◌, ◌∙◌, inl, inr, ℕ, suc, ◌+◌, ◌<◌, ◌≤◌, List, [], ◌∷◌, ◌++◌, length, length-append, cond, eqb, get_or, set, Option, Some, None, refl, sym, ap, subst, arith}
 use Rattle.std.specs.Prelude.{slice_get}
 use Rattle.std.specs.List.{AllByRecursion}
-use Rattle.std.proofs.lemmas.Bool.{cases_Bool, eqb-true, eq-eqb, ne_eqb}
+use Rattle.std.proofs.lemmas.Bool.{cases_Bool, eqb-true, eq-eqb}
 use Rattle.std.proofs.lemmas.List.{length-set, get_or-set_same, get_or-set_other}
 use Rattle.send_variants.specs.declared.ready.Ready.{Ready}
 use Rattle.send_variants.specs.declared.slot.Slot.{Slot}
 use Rattle.send_variants.specs.declared.slot.Ends.{Ends}
 use Rattle.send_variants.specs.Lists.{AreBelow, Entry, total}
-use Rattle.send_variants.specs.Tables.{entry_of, seen, entries_at, first_key, last_key, above_all, IsHeld, Linked, listed, lists_in, Freed, no_ends, IsRow, IsTable, IsAfterChanged, IsBeforeChanged, IsChangedAt, IsPut, IsTaken, slot_of, freed}
-use Rattle.send_variants.proofs.Chains.{some_same, one_slot, split_linked, above_from, entries_length, last_place, pushed, pushed_entries, unlinked, unlinked_entries, was_entries, before_x, after_x}
+use Rattle.send_variants.specs.Tables.{entry_of, seen, entries_at, first_key, last_key, above_all, Linked, lists_in, Freed, no_ends, IsRow, IsTable, IsAfterChanged, IsBeforeChanged, IsChangedAt, IsPut, IsTaken, slot_of, freed}
+use Rattle.send_variants.proofs.Chains.{some_same, one_slot, split_linked, entries_length, last_place, pushed, pushed_entries, unlinked, unlinked_entries, was_entries, before_x, after_x}
 use Rattle.send_variants.proofs.Joins.{first_left, last_left, first_more, last_more, below_all}
 use Rattle.send_variants.proofs.Tables.{option_cases, seen_some, seen_other, seen_is, get_set_same, get_set_other, seen_by_get, after_seen, before_seen, seen_apart, seen_set_apart, listed_is, row_kept, lists_set, list_at, list_within, freed_kept, freed_more}
 use Rattle.send_variants.proofs.Entries.{total-set, length-total}
@@ -136,11 +136,11 @@ carried : (s s' : List Slot) (at : Option ℕ) (Change : Slot → Slot → Type 
 carried s s' at Change kept h c z here = elim (option_cases at) [
   | inr n ↦ (z, h.others c (λ is. absurd (cc (n, is))) ∙ here, refl)
   | inl k ↦ elim (cases_Bool (eqb k.0 c)) [
-      | inl same ↦
-          let new = h.here c z (k.1 ∙ ap (λ n. let o : Option ℕ = Some n in o) (eqb-true k.0 c same)) here in
-          (new.0, new.1, kept z new.0 new.2)
-      | inr differs ↦ (z, h.others c (λ is. absurd (cc (differs, eq-eqb k.0 c (some_same k.0 c (sym k.1 ∙ is))))) ∙ here, refl)
-    ]
+    | inl same ↦
+        let new = h.here c z (k.1 ∙ ap (λ n. let o : Option ℕ = Some n in o) (eqb-true k.0 c same)) here in
+        (new.0, new.1, kept z new.0 new.2)
+    | inr differs ↦ (z, h.others c (λ is. absurd (cc (differs, eq-eqb k.0 c (some_same k.0 c (sym k.1 ∙ is))))) ∙ here, refl)
+  ]
 ]
 
 -- the first slot of a list

@@ -1,13 +1,13 @@
 -- Slots of one table by their threads, and the lists of entries that they hold.
-use Rattle.std.proofs.Common.{◌≡◌, ◌≢◌, ◌∙◌, ◌⊎◌, inl, inr, ℕ, zero, suc, ◌+◌, ◌-◌, ◌<◌, ◌≤◌, Bool, true, false, List, [], ◌∷◌, ◌++◌, length, map, cond, eqb, get_or, set, replicate, Option, Some, None, refl, sym, ap, subst, arith}
+use Rattle.std.proofs.Common.{◌≡◌, ◌≢◌, ◌∙◌, ◌⊎◌, inl, inr, ℕ, zero, suc, ◌<◌, ◌≤◌, List, [], ◌∷◌, ◌++◌, length, map, cond, eqb, get_or, set, replicate, Option, Some, None, refl, sym, ap, subst, arith}
 use Rattle.std.specs.Prelude.{slice_get, option_map, IfSome, IfNone}
 use Rattle.std.specs.List.{AllByRecursion}
 use Rattle.std.proofs.lemmas.Bool.{cases_Bool, eqb-true, eq-eqb, ne_eqb}
 use Rattle.std.proofs.lemmas.List.{get_or_default}
 use Rattle.send_variants.specs.declared.slot.Slot.{Slot}
 use Rattle.send_variants.specs.declared.slot.Ends.{Ends}
-use Rattle.send_variants.specs.Lists.{Entry, count_in, count_on, named_by, total}
-use Rattle.send_variants.specs.Tables.{entry_of, seen, entries_at, first_key, last_key, above_all, Linked, walk, listed, lists_in, Freed, no_ends, IsRow, IsAfterChanged, IsBeforeChanged, IsChangedAt, IsReached, jump, slot_under}
+use Rattle.send_variants.specs.Lists.{Entry, count_in, count_on, named_by}
+use Rattle.send_variants.specs.Tables.{entry_of, seen, entries_at, first_key, Linked, walk, listed, lists_in, Freed, no_ends, IsRow, IsAfterChanged, IsBeforeChanged, IsChangedAt, IsReached, jump, slot_under}
 use Rattle.send_variants.proofs.Chains.{some_same, one_slot, entries_here, keep, unchanged_at}
 
 pub option_cases : {A : Type 0} (o : Option A) → ((k : A) × (o ≡ Some k)) ⊎ (o ≡ None)
@@ -78,13 +78,13 @@ module _ (s s' : List Slot) (t u : ℕ) (apart : t ≢ u) (at : Option ℕ) (Cha
   seen_apart c = elim (option_cases at) [
     | inr n ↦ seen_by_get s s' u c (h.others c (λ is. absurd (cc (n, is))))
     | inl k ↦ elim (cases_Bool (eqb k.0 c)) [
-        | inr differs ↦ seen_by_get s s' u c (h.others c (λ is. absurd (cc (differs, eq-eqb k.0 c (some_same k.0 c (sym k.1 ∙ is))))))
-        | inl same ↦
-            let here : at ≡ Some c = k.1 ∙ ap (λ n. let o : Option ℕ = Some n in o) (eqb-true k.0 c same) in
-            let x = there c here in
-            let y = h.here c x.0 here x.1 in
-            seen_other s' u c y.0 y.1 (λ is. apart (sym x.2 ∙ sym (kept x.0 y.0 y.2) ∙ is)) ∙ sym (seen_other s u c x.0 x.1 (λ is. apart (sym x.2 ∙ is)))
-      ]
+      | inr differs ↦ seen_by_get s s' u c (h.others c (λ is. absurd (cc (differs, eq-eqb k.0 c (some_same k.0 c (sym k.1 ∙ is))))))
+      | inl same ↦
+          let here : at ≡ Some c = k.1 ∙ ap (λ n. let o : Option ℕ = Some n in o) (eqb-true k.0 c same) in
+          let x = there c here in
+          let y = h.here c x.0 here x.1 in
+          seen_other s' u c y.0 y.1 (λ is. apart (sym x.2 ∙ sym (kept x.0 y.0 y.2) ∙ is)) ∙ sym (seen_other s u c x.0 x.1 (λ is. apart (sym x.2 ∙ is)))
+    ]
   ]
 
 -- a slot of other threads before and after

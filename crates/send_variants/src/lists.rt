@@ -59,7 +59,14 @@ impl ReadyLists {
         ensures sound { IsSound self.new }
     {
         let at = usize::from(t.0) - 1;
-        put_at(&mut self.slots, &mut self.ends, &mut self.free, at, place, r);
+        put_at(
+            &mut self.slots,
+            &mut self.ends,
+            &mut self.free,
+            at,
+            place,
+            r,
+        );
     }
 
     /// What is ready at the least place of a thread's list, `None` exactly where the list is empty.
@@ -112,7 +119,7 @@ fn put_at(
     requires few { at < 15 }
     ensures { (key : ℕ) (was : Slot) → free.old ≡ Some key → slice_get slots.old.items key ≡ Some was → (pair : Ends) × IsPut slots.old.items slots.new.items free.new (slice_index_or ends.old.items at no_ends) pair key was (slot_of at place ready (slice_index_or ends.old.items at no_ends)) × (ends.new.items ≡ slice_set ends.old.items at pair) }
 {
-    let mut pair = ends[at];
+    let pair = &mut ends[at];
     let slot = Slot {
         thread: at as u32 + 1,
         place,
@@ -120,8 +127,7 @@ fn put_at(
         before: pair.last,
         after: None,
     };
-    put_last(slots, free, &mut pair, slot);
-    ends[at] = pair;
+    put_last(slots, free, pair, slot);
 }
 
 /// Takes the entry of a slot out of its list, whose thread has the number one above `at`.
@@ -135,10 +141,7 @@ fn take_at(
     requires { at < vec_len ends.old }
     ensures { (was : Slot) → slice_get slots.old.items key ≡ Some was → (pair : Ends) × IsTaken slots.old.items slots.new.items free.old free.new (slice_index_or ends.old.items at no_ends) pair key was result × (ends.new.items ≡ slice_set ends.old.items at pair) }
 {
-    let mut pair = ends[at];
-    let entry = take_out(slots, free, &mut pair, key);
-    ends[at] = pair;
-    entry
+    take_out(slots, free, &mut ends[at], key)
 }
 
 /// The place of an entry, if there is one.

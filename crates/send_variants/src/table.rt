@@ -48,12 +48,7 @@ pub(crate) fn empty_ends(alloc: Global, threads: u8) -> Result<Vec<Ends>, AllocE
 }
 
 /// Puts an entry last in a list, in the first free slot.
-pub(crate) fn put_last(
-    slots: &mut Vec<Slot>,
-    free: &mut Option<u16>,
-    ends: &mut Ends,
-    slot: Slot,
-)
+pub(crate) fn put_last(slots: &mut Vec<Slot>, free: &mut Option<u16>, ends: &mut Ends, slot: Slot)
     ensures { (key : ℕ) (was : Slot) → free.old ≡ Some key → slice_get slots.old.items key ≡ Some was → IsPut slots.old.items slots.new.items free.new ends.old ends.new key was slot }
 {
     if let Some(key) = fill(slots, free, slot) {
@@ -144,12 +139,7 @@ fn vacate(slots: &mut Vec<Slot>, free: &mut Option<u16>, key: u16) -> Option<Slo
 }
 
 /// Says which slot comes after the one under this key, or first where there is none.
-fn join_after(
-    slots: &mut Vec<Slot>,
-    first: &mut Option<u16>,
-    at: Option<u16>,
-    after: Option<u16>,
-)
+fn join_after(slots: &mut Vec<Slot>, first: &mut Option<u16>, at: Option<u16>, after: Option<u16>)
     ensures slots { IsChangedAt at (IsAfterChanged after) (slice_get slots.old.items) (slice_get slots.new.items) }
     ensures first { first.new ≡ end_left at first.old after }
 {
@@ -160,12 +150,7 @@ fn join_after(
 }
 
 /// Says which slot comes before the one under this key, or last where there is none.
-fn join_before(
-    slots: &mut Vec<Slot>,
-    last: &mut Option<u16>,
-    at: Option<u16>,
-    before: Option<u16>,
-)
+fn join_before(slots: &mut Vec<Slot>, last: &mut Option<u16>, at: Option<u16>, before: Option<u16>)
     ensures slots { IsChangedAt at (IsBeforeChanged before) (slice_get slots.old.items) (slice_get slots.new.items) }
     ensures last { last.new ≡ end_left at last.old before }
 {

@@ -1,4 +1,4 @@
-use Rattle.std.proofs.Common.{◌≡◌, ◌++◌, ◌∷◌, [], ℕ, List, Some, length, length-append, refl, sym, ap, subst, arith}
+use Rattle.std.proofs.Common.{◌≡◌, ◌++◌, ◌∷◌, [], List, Some, length, length-append, refl, sym, ap, subst, arith}
 use Rattle.send_variants.specs.declared.slot.Slot.{Slot}
 use Rattle.send_variants.specs.Tables.{Freed, seen}
 use Rattle.send_variants.proofs.Tables.{pushed_free}

@@ -1,6 +1,5 @@
-use Rattle.std.proofs.Common.{◌≡◌, List, length, Some, None, slice_get, slice_set, refl, sym, ap, subst, ◌∙◌, arith}
+use Rattle.std.proofs.Common.{◌≡◌, length, Some, slice_get, slice_set, refl, sym, ap, subst, ◌∙◌, arith}
 use Rattle.std.proofs.lemmas.Option.{slice_get_read, slice_get_past}
-use Rattle.send_variants.specs.declared.slot.Slot.{Slot}
 use Rattle.send_variants.specs.Tables.{IsAfterChanged, IsChangedAt}
 use Rattle.send_variants.proofs.Tables.{changed_at, absent_at}
 use Rattle.send_variants.proofs.table.set_after.Goals as goal

@@ -1,4 +1,4 @@
-use Rattle.std.proofs.Common.{◌≡◌, List, Option, Some, slice_get, slice_set, sym, ap, subst}
+use Rattle.std.proofs.Common.{◌≡◌, List, Option, Some, slice_get, slice_set, ap, subst}
 use Rattle.send_variants.specs.declared.slot.Slot.{Slot}
 use Rattle.send_variants.specs.Lists.{Entry}
 use Rattle.send_variants.specs.Tables.{IsAfterChanged, IsBeforeChanged, IsChangedAt, end_left, entry_of, freed}

@@ -1,6 +1,4 @@
-use Rattle.std.proofs.Common.{◌≡◌, ◌≤◌, ◌<◌, ◌-◌, ◌∙◌, ℕ, List, [], Option, Some, length, get_or, slice_get, option_map, sym, ap, subst, arith}
-use Rattle.send_variants.specs.declared.ready.Ready.{Ready}
-use Rattle.send_variants.specs.declared.slot.Slot.{Slot}
+use Rattle.std.proofs.Common.{◌≡◌, ◌≤◌, ◌<◌, ◌-◌, ◌∙◌, ℕ, List, [], length, get_or, slice_get, option_map, sym, ap, subst, arith}
 use Rattle.send_variants.specs.declared.slot.Ends.{Ends}
 use Rattle.send_variants.specs.Lists.{Entry, list_of}
 use Rattle.send_variants.specs.Tables.{entry_of, listed, lists_in, slot_under, no_ends}

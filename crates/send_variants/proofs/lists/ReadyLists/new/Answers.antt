@@ -1,8 +1,6 @@
-use Rattle.std.proofs.Common.{◌≡◌, ◌<◌, ◌∙◌, ℕ, suc, zero, List, [], length, get_or, replicate, None, refl, sym, ap, subst, arith}
-use Rattle.send_variants.specs.declared.slot.Slot.{Slot}
-use Rattle.send_variants.specs.declared.slot.Ends.{Ends}
-use Rattle.send_variants.specs.Lists.{Entry, IsSound, total}
-use Rattle.send_variants.specs.Tables.{IsRow, IsTable, lists_in, no_ends}
+use Rattle.std.proofs.Common.{◌≡◌, ◌∙◌, [], replicate, sym, ap, subst, arith}
+use Rattle.send_variants.specs.Lists.{IsSound, total}
+use Rattle.send_variants.specs.Tables.{lists_in, no_ends}
 use Rattle.send_variants.proofs.Entries.{sound-new, total-empty}
 use Rattle.send_variants.proofs.Tables.{lists_empty, empty_row}
 use Rattle.send_variants.proofs.lists.ReadyLists.new.Goals as goal

@@ -1,12 +1,9 @@
-use Rattle.std.proofs.Common.{◌≡◌, ◌≤◌, ◌<◌, ◌-◌, ◌∙◌, ◌++◌, ◌∷◌, [], ℕ, suc, true, List, Option, Some, None, length, get_or, set, slice_get, option_map, sym, ap, subst, arith}
+use Rattle.std.proofs.Common.{◌≡◌, ◌≤◌, ◌<◌, ◌∙◌, ◌++◌, ◌∷◌, [], ℕ, suc, true, List, Some, None, length, get_or, set, slice_get, option_map, sym, ap, subst, arith}
 use Rattle.std.proofs.lemmas.Bool.{eq-eqb}
-use Rattle.std.proofs.lemmas.List.{length-set}
-use Rattle.send_variants.specs.declared.ready.Ready.{Ready}
 use Rattle.send_variants.specs.declared.slot.Slot.{Slot}
 use Rattle.send_variants.specs.declared.slot.Ends.{Ends}
 use Rattle.send_variants.specs.Lists.{Entry, IsSound, all_without, count_in, named_by, names, place_in, place_on, without}
 use Rattle.send_variants.specs.Tables.{IsReached, IsRow, IsTable, IsTaken, entries_at, entry_of, jump, lists_in, no_ends, seen}
-use Rattle.send_variants.proofs.Chains.{some_same}
 use Rattle.send_variants.proofs.Entries.{count-total, length-all, sound-withdraw}
 use Rattle.send_variants.proofs.Named.{count_middle, without_middle, all_none, all_one}
 use Rattle.send_variants.proofs.Tables.{list_within, jumped}
