@@ -7,7 +7,7 @@ use Rattle.send_variants.specs.declared.ready.Ready.{Ready}
 use Rattle.send_variants.specs.Lists.{AreAbove, AreBelow, Entry, IsRising, IsSound, all_without, count_in, count_on, list_of, named_by, names, total, with_list, without}
 
 -- one list is another
-total-set : (lists : List (List Entry)) (i : ℕ) (es : List Entry) → i < length lists → total (set lists i es) + length (get_or lists i []) ≡ total lists + length es
+pub total-set : (lists : List (List Entry)) (i : ℕ) (es : List Entry) → i < length lists → total (set lists i es) + length (get_or lists i []) ≡ total lists + length es
 total-set [] i es h = absurd (omega arith)
 total-set (fs ∷ lists) zero es h = omega arith
 total-set (fs ∷ lists) (suc i) es h =
@@ -172,7 +172,7 @@ count-empty : (s n : ℕ) → count_on s (replicate n []) ≡ 0
 count-empty s zero = refl
 count-empty s (suc n) = omega (arith, count-empty s n)
 
-total-empty : (n : ℕ) → total (replicate n []) ≡ 0
+pub total-empty : (n : ℕ) → total (replicate n []) ≡ 0
 total-empty zero = refl
 total-empty (suc n) = omega (arith, total-empty n)
 

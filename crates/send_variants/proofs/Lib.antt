@@ -1,2 +1,6 @@
+pub mod Chains
 pub mod Entries
-pub mod Places
+pub mod Joins
+pub mod Named
+pub mod Steps
+pub mod Tables

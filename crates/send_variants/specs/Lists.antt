@@ -1,5 +1,5 @@
 -- Ready lists, one for each thread.
-use Rattle.std.specs.Prelude.{ℕ, ◌+◌, ◌-◌, ◌≤◌, ◌<◌, ◌==◌, Bool, if◌then◌else◌, List, [], ◌∷◌, length, position, is_some, slice_index_or, slice_set, Option, Some, None}
+use Rattle.std.specs.Prelude.{ℕ, ◌+◌, ◌-◌, ◌≤◌, ◌<◌, ◌==◌, Bool, if◌then◌else◌, List, [], ◌∷◌, length, slice_index_or, slice_set, Option, Some, None}
 use Rattle.send_variants.specs.declared.ready.Ready.{Ready}
 use Rattle.send_variants.specs.declared.ready.Ready.TheVariants.{Send, Result}
 
@@ -62,10 +62,6 @@ IsRising (e ∷ es) = AreAbove e.0 es × IsRising es
 abbrev pub without : ℕ → List Entry → List Entry
 without s [] = []
 without s (e ∷ es) = if names s e then without s es else e ∷ without s es
-
--- whether an entry of a list names a send
-abbrev pub has_send : ℕ → List Entry → Bool
-has_send s es = is_some (position (names s) es)
 
 -- all lists without the entries that name a send
 abbrev pub all_without : ℕ → List (List Entry) → List (List Entry)

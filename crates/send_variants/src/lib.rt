@@ -4,7 +4,8 @@
 
 mod lists;
 mod ready;
-mod row;
+mod slot;
+mod table;
 #[cfg(test)]
 mod tests;
 

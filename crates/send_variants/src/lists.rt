@@ -1,10 +1,14 @@
 //! The ready lists of all threads.
 
-ghost use Rattle.std.specs.Prelude.{◌≡◌, ◌+◌, ◌-◌, ◌<◌, ◌≤◌, ◌∷◌, ◌++◌, List, [], length, vec_len, slice_index_or, slice_set, drop, replicate, position, slice_get, option_map, IfOk};
-ghost use Rattle.send_variants.specs.Lists.{AreBelow, IsSound, IsThread, all_without, count_in, count_on, has_send, list_of, named_by, place_in, place_on, total, with_list, without};
+ghost use Rattle.std.specs.Prelude.{◌≡◌, ◌+◌, ◌<◌, ◌≤◌, ◌∷◌, ◌++◌, ℕ, Some, [], length, vec_len, slice_index_or, slice_set, drop, replicate, slice_get, option_map, IfOk};
+ghost use Rattle.send_variants.specs.declared.slot.Slot.{Slot};
+ghost use Rattle.send_variants.specs.declared.slot.Ends.{Ends};
+ghost use Rattle.send_variants.specs.Lists.{AreBelow, IsSound, IsThread, all_without, count_on, list_of, named_by, place_on, total, with_list};
+ghost use Rattle.send_variants.specs.Tables.{IsPut, IsTaken, no_ends, slot_of};
 
 use crate::ready::Ready;
-use crate::row::Row;
+use crate::slot::{Ends, Slot};
+use crate::table::{empty_ends, free_slots, holder, put_last, slot_under, take_out};
 use std::alloc::{AllocError, Global};
 use std::marker::Model;
 use win_num::{SendId, Thread};
@@ -13,19 +17,24 @@ use win_num::{SendId, Thread};
 /// lists together, and at most one of them names a send.
 #[derive(Drop)]
 pub struct ReadyLists {
-    rows: Vec<Row>,
+    slots: Vec<Slot>,
+    /// Those of each thread's list.
+    ends: Vec<Ends>,
+    /// The key of the first free slot.
+    free: Option<u16>,
 }
 
 impl Model for ReadyLists {
     ghost use Rattle.std.specs.Prelude.{List, ℕ};
     ghost use Rattle.send_variants.specs.declared.ready.Ready.{Ready};
     ghost use Rattle.send_variants.specs.Lists.{IsSound};
+    ghost use Rattle.send_variants.specs.Tables.{IsTable, lists_in};
 
     ghost Value = { List (List (ℕ × Ready)) };
 
-    ghost view = { λ a. a.rows.items };
+    ghost view = { λ a. lists_in a.slots.items a.ends.items };
 
-    ghost invariant = { λ a. IsSound a.rows.items };
+    ghost invariant = { λ a. IsTable a.slots.items a.ends.items a.free × IsSound (lists_in a.slots.items a.ends.items) };
 }
 
 impl ReadyLists {
@@ -34,8 +43,9 @@ impl ReadyLists {
         requires { (1 ≤ threads) × (threads ≤ 15) }
         ensures { IfOk result (λ lists. lists ≡ replicate threads []) }
     {
-        let rows = empty_rows(alloc, threads)?;
-        Ok(ReadyLists { rows })
+        let ends = empty_ends(alloc, threads)?;
+        let (slots, free) = free_slots(alloc)?;
+        Ok(ReadyLists { slots, ends, free })
     }
 
     /// Puts an entry at the end of a thread's list.
@@ -48,7 +58,15 @@ impl ReadyLists {
         ensures threads { length self.new ≡ length self.old }
         ensures sound { IsSound self.new }
     {
-        put_last(&mut self.rows, t, place, r);
+        let at = usize::from(t.0) - 1;
+        put_at(
+            &mut self.slots,
+            &mut self.ends,
+            &mut self.free,
+            at,
+            place,
+            r,
+        );
     }
 
     /// What is ready at the least place of a thread's list, `None` exactly where the list is empty.
@@ -57,8 +75,9 @@ impl ReadyLists {
         ensures head { result ≡ option_map (λ e. e.1) (slice_get (list_of self.now t.0) 0) }
         ensures sound { IsSound self.now }
     {
-        let (_, ready) = self.rows[usize::from(t.0) - 1].first()?;
-        Some(ready)
+        let at = usize::from(t.0) - 1;
+        let slot = slot_under(&self.slots, self.ends[at].first)?;
+        Some(slot.ready)
     }
 
     /// Takes the entry at the least place of a thread's list, and tells its place. `None` exactly where the
@@ -70,7 +89,9 @@ impl ReadyLists {
         ensures threads { length self.new ≡ length self.old }
         ensures sound { IsSound self.new }
     {
-        take_first(&mut self.rows, t)
+        let at = usize::from(t.0) - 1;
+        let key = self.ends[at].first?;
+        take_at(&mut self.slots, &mut self.ends, &mut self.free, at, key)
     }
 
     /// Takes a send out of every list, and tells the place of its entry. `None` exactly where no list has it.
@@ -80,55 +101,53 @@ impl ReadyLists {
         ensures threads { length self.new ≡ length self.old }
         ensures sound { IsSound self.new }
     {
-        let Some(at) = holder(&self.rows, s) else {
-            return None;
-        };
-        withdraw_at(&mut self.rows, at, s)
+        let (at, key) = holder(&self.slots, &self.ends, s)?;
+        place_of(take_at(&mut self.slots, &mut self.ends, &mut self.free, at, key))
     }
 }
 
-/// Puts an entry at the end of a thread's list.
-fn put_last(rows: &mut Vec<Row>, t: Thread, place: u32, r: Ready)
-    requires thread { (1 ≤ t.0) × (t.0 ≤ vec_len rows.old) }
-    requires room { length (slice_index_or rows.old.items (t.0 - 1) []) < 1024 }
-    ensures { rows.new.items ≡ slice_set rows.old.items (t.0 - 1) (slice_index_or rows.old.items (t.0 - 1) [] ++ (place, r) ∷ []) }
+/// Puts an entry last in the list of the thread whose number is one above `at`.
+fn put_at(
+    slots: &mut Vec<Slot>,
+    ends: &mut Vec<Ends>,
+    free: &mut Option<u16>,
+    at: usize,
+    place: u32,
+    ready: Ready,
+)
+    requires at { at < vec_len ends.old }
+    requires few { at < 15 }
+    ensures { (key : ℕ) (was : Slot) → free.old ≡ Some key → slice_get slots.old.items key ≡ Some was → (pair : Ends) × IsPut slots.old.items slots.new.items free.new (slice_index_or ends.old.items at no_ends) pair key was (slot_of at place ready (slice_index_or ends.old.items at no_ends)) × (ends.new.items ≡ slice_set ends.old.items at pair) }
 {
-    rows[usize::from(t.0) - 1].push(place, r);
+    let pair = &mut ends[at];
+    let slot = Slot {
+        thread: at as u32 + 1,
+        place,
+        ready,
+        before: pair.last,
+        after: None,
+    };
+    put_last(slots, free, pair, slot);
 }
 
-/// Takes the first entry of a thread's list.
-fn take_first(rows: &mut Vec<Row>, t: Thread) -> Option<(u32, Ready)>
-    requires { (1 ≤ t.0) × (t.0 ≤ vec_len rows.old) }
-    ensures first { result ≡ slice_get (slice_index_or rows.old.items (t.0 - 1) []) 0 }
-    ensures rest { rows.new.items ≡ slice_set rows.old.items (t.0 - 1) (drop 1 (slice_index_or rows.old.items (t.0 - 1) [])) }
+/// Takes the entry of a slot out of its list, whose thread has the number one above `at`.
+fn take_at(
+    slots: &mut Vec<Slot>,
+    ends: &mut Vec<Ends>,
+    free: &mut Option<u16>,
+    at: usize,
+    key: u16,
+) -> Option<(u32, Ready)>
+    requires { at < vec_len ends.old }
+    ensures { (was : Slot) → slice_get slots.old.items key ≡ Some was → (pair : Ends) × IsTaken slots.old.items slots.new.items free.old free.new (slice_index_or ends.old.items at no_ends) pair key was result × (ends.new.items ≡ slice_set ends.old.items at pair) }
 {
-    rows[usize::from(t.0) - 1].take()
+    take_out(slots, free, &mut ends[at], key)
 }
 
-/// Takes a send out of one list.
-fn withdraw_at(rows: &mut Vec<Row>, at: usize, s: SendId) -> Option<u32>
-    requires at { at < vec_len rows.old }
-    requires once { count_in s.0 (slice_index_or rows.old.items at []) ≤ 1 }
-    ensures place { result ≡ place_in s.0 (slice_index_or rows.old.items at []) }
-    ensures rest { rows.new.items ≡ slice_set rows.old.items at (without s.0 (slice_index_or rows.old.items at [])) }
+/// The place of an entry, if there is one.
+fn place_of(entry: Option<(u32, Ready)>) -> Option<u32>
+    ensures { result ≡ option_map (λ e. e.0) entry }
 {
-    rows[at].withdraw(s)
-}
-
-/// Where the first list stands that has the send.
-fn holder(rows: &Vec<Row>, s: SendId) -> Option<usize>
-    ensures { result ≡ position (has_send s.0) rows.now.items }
-{
-    rows.iter().position(|row| row.has(s))
-}
-
-/// An empty list for each thread.
-fn empty_rows(alloc: Global, threads: u8) -> Result<Vec<Row>, AllocError>
-    ensures { IfOk result (λ rows. rows.items ≡ replicate threads []) }
-{
-    let mut rows = Vec::with_capacity(alloc, usize::from(threads))?;
-    for _ in 0..threads {
-        rows.push(Row::new(alloc)?)?;
-    }
-    Ok(rows)
+    let (place, _) = entry?;
+    Some(place)
 }
