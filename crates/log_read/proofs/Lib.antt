@@ -1,0 +1,4 @@
+pub mod LineWords
+pub mod OneLog
+pub mod RunLogs
+pub mod ValuesAgain
