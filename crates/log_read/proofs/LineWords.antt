@@ -1,7 +1,8 @@
 -- The text of a log is that of its lines of words, and falls apart into them.
 use Rattle.std.proofs.Common.{◌≡◌, ℕ, zero, suc, ◌^◌, ◌≤◌, ◌<◌, Bool, true, List, [], ◌∷◌, ◌++◌, length, Option, Some, None, refl, ap, sym, ◌∙◌, append_assoc, append-nil, arith}
-use Rattle.std.specs.Prelude.{ℤ, pos, negsuc, codes, decimal, unwrap_or, map, slice_get, option_map, FitsSigned, w32, w64, nat_lt, ◌&&◌}
+use Rattle.std.specs.Prelude.{ℤ, pos, negsuc, codes, decimal, unwrap_or, map, slice_get, option_map, FitsSigned, nat_lt, ◌&&◌}
 use Rattle.std.specs.Fmt.{signed_decimal}
+use Rattle.std.specs.Int.{w32, w64}
 use Rattle.std.specs.List.{flat_map, list_all, AllByRecursion}
 use Rattle.std.proofs.lemmas.Bool.{and_parts, and_from}
 use Rattle.std.proofs.lemmas.Grind.{flat_map-append}
@@ -117,11 +118,16 @@ extra_written s (extras.Waits t call) =
     ∙ ap (λ (l : Words). codes "waits " ++ ((n ++ (32 ∷ (word ++ flat_map blank_word l))) ++ 10 ∷ [])) (sym (append-nil parts))
 extra_written s (extras.Spent t) = ap (λ (l : List ℕ). codes "spent " ++ (l ++ 10 ∷ [])) (sym (append-nil (decimal t.0)))
 
-number_then : (n a b : List ℕ) → n ++ (a ++ b) ≡ (n ++ a) ++ b
-number_then n a b = sym (append_assoc n a b)
+-- numbers with what stands between them
+nested : (b e p r l t u E P R L T O n : List ℕ) → b ++ (E ++ (e ++ ((P ++ (p ++ (R ++ (r ++ (L ++ (l ++ (T ++ t))))))) ++ (O ++ (u ++ n))))) ≡ (b ++ (E ++ (e ++ (P ++ (p ++ (R ++ (r ++ (L ++ (l ++ (T ++ (t ++ (O ++ u)))))))))))) ++ n
+nested b e p r l t u E P R L T O n = simp append_assoc refl
 
 pub counts_written : (c : SendCount) → counts_line c ≡ line_text (counts_words c)
-counts_written c = simp append_assoc refl
+counts_written c =
+    ap (λ (x : List ℕ). codes "sends begun " ++ x)
+    (nested (decimal c.begun) (decimal c.entered) (decimal c.by_proc) (decimal c.by_reply) (decimal c.by_loss) (decimal c.by_timeout) (decimal c.unfinished)
+    (codes " entered ") (codes " proc ") (codes " reply ") (codes " loss ") (codes " timeout ") (codes " open ") (10 ∷ [])
+    ∙ ap (λ (l : List ℕ). (decimal c.begun ++ (codes " entered " ++ (decimal c.entered ++ (codes " proc " ++ (decimal c.by_proc ++ (codes " reply " ++ (decimal c.by_reply ++ (codes " loss " ++ (decimal c.by_loss ++ (codes " timeout " ++ (decimal c.by_timeout ++ (codes " open " ++ l)))))))))))) ++ 10 ∷ []) (sym (append-nil (decimal c.unfinished))))
 
 module _ {A : Type 0} (line : A → List ℕ) (words : A → Words) (written : (x : A) → line x ≡ line_text (words x)) where
   pub all_written : (xs : List A) → flat_map line xs ≡ flat_map line_text (map words xs)
@@ -250,8 +256,14 @@ number_and n more small all = and_from _ _ (decimal_word n (omega (arith, small)
 
 pub counts_are_words : (c : SendCount) → AreCounts c → is_line_of_words (counts_words c) ≡ true
 counts_are_words c fits =
-    number_and c.begun _ fits.begun (number_and c.entered _ fits.entered (number_and c.by_proc _ fits.by_proc (number_and c.by_reply _ fits.by_reply
-    (number_and c.by_loss _ fits.by_loss (number_and c.by_timeout _ fits.by_timeout (number_and c.unfinished _ fits.unfinished refl))))))
+    let u : Words = codes "open" ∷ decimal c.unfinished ∷ [] in
+    let t : Words = codes "timeout" ∷ decimal c.by_timeout ∷ u in
+    let l : Words = codes "loss" ∷ decimal c.by_loss ∷ t in
+    let r : Words = codes "reply" ∷ decimal c.by_reply ∷ l in
+    let p : Words = codes "proc" ∷ decimal c.by_proc ∷ r in
+    let e : Words = codes "entered" ∷ decimal c.entered ∷ p in
+    number_and c.begun e fits.begun (number_and c.entered p fits.entered (number_and c.by_proc r fits.by_proc (number_and c.by_reply l fits.by_reply
+    (number_and c.by_loss t fits.by_loss (number_and c.by_timeout u fits.by_timeout (number_and c.unfinished [] fits.unfinished refl))))))
 
 module _ {A : Type 0} (words : A → Words) (Fits : A → Type 0) (are : (x : A) → Fits x → is_line_of_words (words x) ≡ true) where
   all_are_words : (xs : List A) (rest : List Words) → AllByRecursion Fits xs → list_all is_line_of_words rest ≡ true → list_all is_line_of_words (map words xs ++ rest) ≡ true

@@ -1,10 +1,10 @@
 -- A value that was written is read again.
 use Rattle.std.proofs.Common.{◌≡◌, ℕ, zero, suc, ◌+◌, ◌-◌, ◌*◌, ◌^◌, ◌≤◌, ◌<◌, Bool, true, false, not, List, [], ◌∷◌, ◌++◌, length, Option, Some, None, refl, ap, sym, ◌∙◌, arith, append_assoc}
-use Rattle.std.specs.Prelude.{ℤ, pos, negsuc, min, decimal, unwrap_or, map, slice_get, option_map, nat_lt, nat_le, int_le, ◌==◌, ◌&&◌, if◌then◌else◌, IsSome, FitsSigned, w32, w64, codes}
+use Rattle.std.specs.Prelude.{ℤ, pos, negsuc, min, decimal, unwrap_or, map, slice_get, option_map, nat_lt, nat_le, int_le, ◌==◌, ◌&&◌, if◌then◌else◌, IsSome, FitsSigned, codes}
 use Rattle.std.specs.Fmt.{signed_decimal}
 use Rattle.std.specs.List.{AllByRecursion, list_all, list_any, position_from}
 use Rattle.std.specs.Char.{is_ascii_digit}
-use Rattle.std.specs.Int.{IsInRange}
+use Rattle.std.specs.Int.{IsInRange, w32, w64}
 use Rattle.std.specs.Str.{bytes_eq}
 use Rattle.std.specs.Str.Parse.{AllDigits}
 use Rattle.std.proofs.lemmas.Bool.{false≢true, and_parts, and_from, or_parts, not-true, cases_Bool}
@@ -189,12 +189,16 @@ map_same : (xs : List (List ℕ)) → map (λ (x : List ℕ). x) xs ≡ xs
 map_same [] = refl
 map_same (x ∷ xs) = ap (λ (l : List (List ℕ)). x ∷ l) (map_same xs)
 
+from_nothing : (n : ℕ) → (let o : Option ℕ = Some (0 + n) in o) ≡ Some n
+from_nothing n = let e : 0 + n ≡ n = omega arith in ap (λ (j : ℕ). let o : Option ℕ = Some j in o) e
+
 pub name_again : (s : Tree) (n : ℕ) → AreKnown (known_of s) → n < length s.names → name_at s (value_word s (values.Name n)) ≡ Some n
 unfolding name_at
 name_again s n h lt =
     let found = at_place (λ (x : List ℕ). x) s.names n lt in
     ap (λ (o : Option (List ℕ)). name_at s (unwrap_or o (decimal n))) found.1
     ∙ found_place (λ (x : List ℕ). x) s.names n 0 found.0 found.1 (ap is_distinct (map_same s.names) ∙ h.names.distinct)
+    ∙ from_nothing n
 
 pub procedure_again : (s : Tree) (n : ℕ) → AreKnown (known_of s) → n < length s.procedures → procedure_at s (value_word s (values.Procedure n)) ≡ Some n
 unfolding procedure_at
@@ -202,6 +206,7 @@ procedure_again s n h lt =
     let found = at_place (λ (p : ProcedureTree). p.name) s.procedures n lt in
     ap (λ (o : Option ProcedureTree). procedure_at s (unwrap_or (option_map (λ (q : ProcedureTree). q.name) o) (decimal n))) found.1
     ∙ found_place (λ (p : ProcedureTree). p.name) s.procedures n 0 found.0 found.1 h.procedures.distinct
+    ∙ from_nothing n
 
 -- ---- values
 
