@@ -1,3 +1,4 @@
+pub mod EntryParts
 pub mod LineLoops
 pub mod LineWords
 pub mod LogParts

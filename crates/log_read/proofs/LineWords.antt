@@ -27,6 +27,7 @@ use Rattle.call_table.specs.declared.value.Value.TheVariants as values
 use Rattle.call_table.specs.Answers.{answer_row, answer_name, answer_parts}
 use Rattle.call_table.specs.Calls.{call_row, call_name, call_parts}
 use Rattle.call_table.specs.Words.{source_word, cause_word}
+use Rattle.user_io.specs.Text.{Adds}
 use Rattle.script_tree.specs.Tree.{Tree, ProcedureTree}
 use Rattle.script_lines.specs.Known.{known_of}
 use Rattle.script_lines.specs.LineReading.{split_at, texts_of}
@@ -153,6 +154,20 @@ log_written s l =
     ∙ ap (λ (x : List ℕ). flat_map line_text (inner_words s l) ++ x) (counts_written l.sends ∙ sym (append-nil (line_text (counts_words l.sends))))
     ∙ sym (flat_map-append line_text (inner_words s l) (counts_words l.sends ∷ [])))
 
+-- what was added to nothing
+pub from_nothing : (old new text whole : List ℕ) → Adds old new text → old ≡ [] → text ≡ whole → new ≡ whole
+from_nothing old new text whole added e same = added.is ∙ ap (λ (l : List ℕ). l ++ text) e ∙ same
+
+-- the text of a log from its parts
+pub of_parts : (s : Tree) (l : LogTree) (es : List Entry) (end : End) (xs : List Extra) (sends : SendCount) → es ≡ l.entries → end ≡ l.end → xs ≡ l.extras → sends ≡ l.sends
+    → codes "log 1\n" ++ (flat_map (entry_line s) es ++ (end_line end ++ (flat_map (extra_line s) xs ++ counts_line sends))) ≡ spelling s l
+unfolding spelling
+of_parts s l es end xs sends e1 e2 e3 e4 =
+    ap (λ (x : List Entry). codes "log 1\n" ++ (flat_map (entry_line s) x ++ (end_line end ++ (flat_map (extra_line s) xs ++ counts_line sends)))) e1
+    ∙ ap (λ (x : End). codes "log 1\n" ++ (flat_map (entry_line s) l.entries ++ (end_line x ++ (flat_map (extra_line s) xs ++ counts_line sends)))) e2
+    ∙ ap (λ (x : List Extra). codes "log 1\n" ++ (flat_map (entry_line s) l.entries ++ (end_line l.end ++ (flat_map (extra_line s) x ++ counts_line sends)))) e3
+    ∙ ap (λ (x : SendCount). codes "log 1\n" ++ (flat_map (entry_line s) l.entries ++ (end_line l.end ++ (flat_map (extra_line s) l.extras ++ counts_line x)))) e4
+
 -- ---- all words are words
 
 message_is_word : (m : ℕ) (o : Option (List ℕ)) → m < 2 ^ 64 → name_in message_rows m ≡ o → is_word (unwrap_or o (decimal m)) ≡ true
@@ -241,7 +256,7 @@ pub entry_is_words : (s : Tree) (e : Entry) → AreKnown (known_of s) → IsEntr
 entry_is_words s e h fits =
     and_from _ _ (decimal_word e.who.0 (omega (arith, fits.who))) (call_are_words s e.call (codes "=" ∷ answer_words s e.answer) h fits.call (answer_are_words s e.answer h fits.answer))
 
-end_is_words : (end : End) → is_line_of_words (end_words end) ≡ true
+pub end_is_words : (end : End) → is_line_of_words (end_words end) ≡ true
 end_is_words ends.Done = refl
 end_is_words ends.Stuck = refl
 end_is_words ends.Spent = refl

@@ -56,8 +56,33 @@ module _ {A : Type 0} where
       let more = last_same xs ys x y (rest_same a b (xs ++ x ∷ []) (ys ++ y ∷ []) e) in
       (ap (λ (z : A). z ∷ xs) (first_same a b (xs ++ x ∷ []) (ys ++ y ∷ []) e) ∙ ap (λ (l : List A). b ∷ l) more.0, more.1)
 
-  some_same : (x y : A) → Some x ≡ Some y → x ≡ y
+  pub some_same : (x y : A) → Some x ≡ Some y → x ≡ y
   some_same x y e = cc e
+
+-- ---- entries, counts and logs by their parts
+
+pub entry_of : (e f : Entry) → e.who.0 ≡ f.who.0 → e.call ≡ f.call → e.answer ≡ f.answer → e ≡ f
+entry_of e f who call answer =
+    ap (λ (n : ℕ). let r : Entry = record { who = record { 0 = n }; call = e.call; answer = e.answer } in r) who
+    ∙ ap (λ (c : Call). let r : Entry = record { who = f.who; call = c; answer = e.answer } in r) call
+    ∙ ap (λ (a : Answer). let r : Entry = record { who = f.who; call = f.call; answer = a } in r) answer
+
+pub counts_of : (c d : SendCount) → c.begun ≡ d.begun → c.entered ≡ d.entered → c.by_proc ≡ d.by_proc → c.by_reply ≡ d.by_reply → c.by_loss ≡ d.by_loss → c.by_timeout ≡ d.by_timeout → c.unfinished ≡ d.unfinished → c ≡ d
+counts_of c d e1 e2 e3 e4 e5 e6 e7 =
+    ap (λ (n : ℕ). let r : SendCount = record c { begun = n } in r) e1
+    ∙ ap (λ (n : ℕ). let r : SendCount = record c { begun = d.begun; entered = n } in r) e2
+    ∙ ap (λ (n : ℕ). let r : SendCount = record c { begun = d.begun; entered = d.entered; by_proc = n } in r) e3
+    ∙ ap (λ (n : ℕ). let r : SendCount = record d { by_reply = n; by_loss = c.by_loss; by_timeout = c.by_timeout; unfinished = c.unfinished } in r) e4
+    ∙ ap (λ (n : ℕ). let r : SendCount = record d { by_loss = n; by_timeout = c.by_timeout; unfinished = c.unfinished } in r) e5
+    ∙ ap (λ (n : ℕ). let r : SendCount = record d { by_timeout = n; unfinished = c.unfinished } in r) e6
+    ∙ ap (λ (n : ℕ). let r : SendCount = record d { unfinished = n } in r) e7
+
+pub log_from : (l m : LogTree) → l.entries ≡ m.entries → l.end ≡ m.end → l.extras ≡ m.extras → l.sends ≡ m.sends → l ≡ m
+log_from l m e1 e2 e3 e4 =
+    ap (λ (x : List Entry). let r : LogTree = record l { entries = x } in r) e1
+    ∙ ap (λ (x : End). let r : LogTree = record l { entries = m.entries; end = x } in r) e2
+    ∙ ap (λ (x : List Extra). let r : LogTree = record m { extras = x; sends = l.sends } in r) e3
+    ∙ ap (λ (x : SendCount). let r : LogTree = record m { sends = x } in r) e4
 
 -- ---- calls and answers
 
@@ -98,12 +123,6 @@ module _ (s : Tree) (h : AreKnown (known_of s)) where
       answer_of c d named (values_same (answer_parts c) (answer_parts d) [] [] fits fits' fields more).0
 
   -- ---- entries
-
-  entry_of : (e f : Entry) → e.who.0 ≡ f.who.0 → e.call ≡ f.call → e.answer ≡ f.answer → e ≡ f
-  entry_of e f who call answer =
-      ap (λ (n : ℕ). let r : Entry = record { who = record { 0 = n }; call = e.call; answer = e.answer } in r) who
-      ∙ ap (λ (c : Call). let r : Entry = record { who = f.who; call = c; answer = e.answer } in r) call
-      ∙ ap (λ (a : Answer). let r : Entry = record { who = f.who; call = f.call; answer = a } in r) answer
 
   entry_same : (e f : Entry) → IsEntry s e → IsEntry s f → entry_words s e ≡ entry_words s f → e ≡ f
   entry_same e f fits fits' same =
@@ -168,16 +187,6 @@ module _ (s : Tree) (h : AreKnown (known_of s)) where
   word_value : (c d : ℕ) (a b : Words) → c < 2 ^ 32 → d < 2 ^ 32 → decimal c ∷ a ≡ decimal d ∷ b → (c ≡ d) × (a ≡ b)
   word_value c d a b small small' e = (decimal_injective c d (omega (arith, small)) (omega (arith, small')) (first_same _ _ a b e), rest_same _ _ a b e)
 
-  counts_of : (c d : SendCount) → c.begun ≡ d.begun → c.entered ≡ d.entered → c.by_proc ≡ d.by_proc → c.by_reply ≡ d.by_reply → c.by_loss ≡ d.by_loss → c.by_timeout ≡ d.by_timeout → c.unfinished ≡ d.unfinished → c ≡ d
-  counts_of c d e1 e2 e3 e4 e5 e6 e7 =
-      ap (λ (n : ℕ). let r : SendCount = record c { begun = n } in r) e1
-      ∙ ap (λ (n : ℕ). let r : SendCount = record c { begun = d.begun; entered = n } in r) e2
-      ∙ ap (λ (n : ℕ). let r : SendCount = record c { begun = d.begun; entered = d.entered; by_proc = n } in r) e3
-      ∙ ap (λ (n : ℕ). let r : SendCount = record d { by_reply = n; by_loss = c.by_loss; by_timeout = c.by_timeout; unfinished = c.unfinished } in r) e4
-      ∙ ap (λ (n : ℕ). let r : SendCount = record d { by_loss = n; by_timeout = c.by_timeout; unfinished = c.unfinished } in r) e5
-      ∙ ap (λ (n : ℕ). let r : SendCount = record d { by_timeout = n; unfinished = c.unfinished } in r) e6
-      ∙ ap (λ (n : ℕ). let r : SendCount = record d { unfinished = n } in r) e7
-
   counts_same : (c d : SendCount) → AreCounts c → AreCounts d → counts_words c ≡ counts_words d → c ≡ d
   counts_same c d f g e =
       let a = word_value c.begun d.begun _ _ f.begun g.begun (rest_same _ _ _ _ (rest_same _ _ _ _ e)) in
@@ -201,13 +210,6 @@ module _ (s : Tree) (h : AreKnown (known_of s)) where
   words_back l fits =
       ap (map (split_at 32)) (log_split s l h fits) ∙ map-append (split_at 32) (map joined (log_words s l)) ([] ∷ [])
       ∙ ap (λ (x : List Words). x ++ split_at 32 [] ∷ []) (lines_back (log_words s l) (log_are_words s l h fits))
-
-  log_from : (l m : LogTree) → l.entries ≡ m.entries → l.end ≡ m.end → l.extras ≡ m.extras → l.sends ≡ m.sends → l ≡ m
-  log_from l m e1 e2 e3 e4 =
-      ap (λ (x : List Entry). let r : LogTree = record l { entries = x } in r) e1
-      ∙ ap (λ (x : End). let r : LogTree = record l { entries = m.entries; end = x } in r) e2
-      ∙ ap (λ (x : List Extra). let r : LogTree = record m { extras = x; sends = l.sends } in r) e3
-      ∙ ap (λ (x : SendCount). let r : LogTree = record m { sends = x } in r) e4
 
   lines_same : (l m : LogTree) → IsLog s l → IsLog s m → log_words s l ≡ log_words s m → l ≡ m
   lines_same l m fits fits' e =

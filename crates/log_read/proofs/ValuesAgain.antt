@@ -15,6 +15,7 @@ use Rattle.std.proofs.lemmas.Slice.Eq.{bytes_eq-Decides}
 use Rattle.std.proofs.lemmas.Str.Parse.{digit_from_value}
 use Rattle.win_num.specs.declared.code.Code.{Code}
 use Rattle.win_num.specs.declared.code.Code.TheVariants as codes_of
+use Rattle.win_num.specs.declared.message.Thread.{Thread}
 use Rattle.win_num.specs.declared.send.Cause.{Cause}
 use Rattle.win_num.specs.declared.send.Cause.TheVariants as causes
 use Rattle.name_table.specs.Rows.{number_in, name_in}
@@ -189,7 +190,7 @@ map_same : (xs : List (List ℕ)) → map (λ (x : List ℕ). x) xs ≡ xs
 map_same [] = refl
 map_same (x ∷ xs) = ap (λ (l : List (List ℕ)). x ∷ l) (map_same xs)
 
-from_nothing : (n : ℕ) → (let o : Option ℕ = Some (0 + n) in o) ≡ Some n
+pub from_nothing : (n : ℕ) → (let o : Option ℕ = Some (0 + n) in o) ≡ Some n
 from_nothing n = let e : 0 + n ≡ n = omega arith in ap (λ (j : ℕ). let o : Option ℕ = Some j in o) e
 
 pub name_again : (s : Tree) (n : ℕ) → AreKnown (known_of s) → n < length s.names → name_at s (value_word s (values.Name n)) ≡ Some n
@@ -229,8 +230,15 @@ value_again s (values.Source o) h fits = ap (option_map (λ y. values.Source y))
 value_again s (values.Cause c) h fits = ap (option_map (λ y. values.Cause y)) (cause_again c)
 value_again s (values.Code c) h fits = ap (λ y. some (values.Code y)) (code_again c fits)
 
-actor_of : (n m : ℕ) → m ≡ n → n ≤ 15 → nat_le m 15 ≡ true
-actor_of n m e h = grind (arith, nat_tests, e, h)
+abbrev actor_of : ℕ → Option Thread
+actor_of n = if nat_le n 15 then Some (record { 0 = n }) else None
+
+small_actor : (n : ℕ) → n ≤ 15 → actor_of n ≡ Some (record { 0 = n })
+small_actor n h = let hit : nat_le n 15 ≡ true = grind (arith, nat_tests, h) in rw hit refl
+
+pub actor_again : (t : Thread) → t.0 ≤ 15 → actor_at (decimal t.0) ≡ Some t
+unfolding actor_at
+actor_again t h = ap actor_of (number_again t.0 (omega (arith, h))) ∙ small_actor t.0 h
 
 -- ---- words in a row
 

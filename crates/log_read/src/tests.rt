@@ -7,9 +7,11 @@ use std::test::Fail;
 use user_model::{Answer, Call};
 use win_num::{Cause, Code, SendId, Thread};
 
-const SCRIPT: &[u8] = b"user 1\nscreen 8 4\nbudget 9\norder\nproc pa\ndefault\nend\nthread\nregister ca pa 0\ncreate ca tb 0 0 0 0 0 1 1\nend\nthread\nend\n";
+const SCRIPT: &[u8] =
+    b"user 1\nscreen 8 4\nbudget 9\norder\nproc pa\ndefault\nend\nthread\nregister ca pa 0\ncreate ca tb 0 0 0 0 0 1 1\nend\nthread\nend\n";
 
-const WHOLE: &[u8] = b"log 1\n1 register ca pa 0 = value 1\n1 new_window ca tb 0 268435456 8 -5 0 9223372036854775807 -9223372036854775808 = window 16\n2 post 16 WM_USER 5 6 = posted 1\n2 post 16 2000 5 18446744073709551615 = refused 1816\n2 post_quit 7 = refused full\n1 get 0 0 0 = got posted 1 16 WM_USER 5 6 0 -1 2147483647\n1 get 0 0 0 = got quit 0 0 WM_QUIT 7 0 4294967296 -2147483648 0\n2 send 16 WM_CLOSE 0 0 = begun 1\n1 get 0 0 0 = enter 1 pa 16 WM_CLOSE 0 0\n1 leave 3 = left 1\n2 await 1 = done 3 proc\n2 in_send = value 0\n0 tick 5 = value 5\n0 advance = busy 255\n15 sleep_until 9 = wait\n0 advance = stuck\nend stuck\nwaits 1 get 0 0 0\nwaits 15 sleep_until 9\nsends begun 1 entered 1 proc 1 reply 0 loss 0 timeout 0 open 4294967295\n";
+const WHOLE: &[u8] =
+    b"log 1\n1 register ca pa 0 = value 1\n1 new_window ca tb 0 268435456 8 -5 0 9223372036854775807 -9223372036854775808 = window 16\n2 post 16 WM_USER 5 6 = posted 1\n2 post 16 2000 5 18446744073709551615 = refused 1816\n2 post_quit 7 = refused full\n1 get 0 0 0 = got posted 1 16 WM_USER 5 6 0 -1 2147483647\n1 get 0 0 0 = got quit 0 0 WM_QUIT 7 0 4294967296 -2147483648 0\n2 send 16 WM_CLOSE 0 0 = begun 1\n1 get 0 0 0 = enter 1 pa 16 WM_CLOSE 0 0\n1 leave 3 = left 1\n2 await 1 = done 3 proc\n2 in_send = value 0\n0 tick 5 = value 5\n0 advance = busy 255\n15 sleep_until 9 = wait\n0 advance = stuck\nend stuck\nwaits 1 get 0 0 0\nwaits 15 sleep_until 9\nsends begun 1 entered 1 proc 1 reply 0 loss 0 timeout 0 open 4294967295\n";
 
 const COUNTS: &[u8] = b"sends begun 0 entered 0 proc 0 reply 0 loss 0 timeout 0 open 0\n";
 
@@ -44,12 +46,25 @@ fn parts(rt: HostRuntime) -> Result<(), Fail> {
     assert_eq!(rt; log.entries()[0].call, Call::Register(0, 0, 0));
     assert_eq!(rt;
         log.entries()[1].call,
-        Call::NewWindow(0, 1, 0, 268435456, 8, -5, 0, 9223372036854775807, -9223372036854775808)
+        Call::NewWindow(
+            0,
+            1,
+            0,
+            268435456,
+            8,
+            -5,
+            0,
+            9223372036854775807,
+            -9223372036854775808
+        )
     );
     assert_eq!(rt; log.entries()[4].answer, Answer::Refused(Code::Full));
     assert_eq!(rt;
         log.entries()[10].answer,
-        Answer::Done { result: 3, cause: Cause::Proc }
+        Answer::Done {
+            result: 3,
+            cause: Cause::Proc
+        }
     );
     assert_eq!(rt; log.entries()[9].answer, Answer::Left(SendId(1)));
     assert_eq!(rt; log.entries()[14].who, Thread(15));
@@ -122,7 +137,10 @@ fn lines(rt: HostRuntime) -> Result<(), Fail> {
         (b"1 post 16 WM_PAINT 0 0 = posted 1\nend done\n", true),
         (b"1 post 16 WM_NONE 0 0 = posted 1\nend done\n", false),
         (b"1 post 16 65536 0 0 = posted 4294967295\nend done\n", true),
-        (b"1 post 16 65536 0 0 = posted 4294967296\nend done\n", false),
+        (
+            b"1 post 16 65536 0 0 = posted 4294967296\nend done\n",
+            false,
+        ),
         (b"1 unregister ca = ok\nend done\n", true),
         (b"1 unregister pa = ok\nend done\n", false),
         (b"1 unregister 0 = ok\nend done\n", false),
@@ -135,9 +153,18 @@ fn lines(rt: HostRuntime) -> Result<(), Fail> {
         (b"1 await 1 = done 3 replies\nend done\n", false),
         (b"1 await 1 = done 3 reply\nend done\n", true),
         (b"1 await 1 = done 3\nend done\n", false),
-        (b"1 get 0 0 0 = got posted 1 16 WM_USER 5 6 0 -1 2147483648\nend done\n", false),
-        (b"1 get 0 0 0 = got posted 1 16 WM_USER 5 6 0 -0 0\nend done\n", false),
-        (b"1 get 0 0 0 = got input 1 16 WM_USER 5 6 0 0 0\nend done\n", false),
+        (
+            b"1 get 0 0 0 = got posted 1 16 WM_USER 5 6 0 -1 2147483648\nend done\n",
+            false,
+        ),
+        (
+            b"1 get 0 0 0 = got posted 1 16 WM_USER 5 6 0 -0 0\nend done\n",
+            false,
+        ),
+        (
+            b"1 get 0 0 0 = got input 1 16 WM_USER 5 6 0 0 0\nend done\n",
+            false,
+        ),
     ] {
         assert_eq!(rt; are_read(rt.alloc(), lines)?, want);
     }
