@@ -54,7 +54,7 @@ fn last_call(history: &[Entry], thread: u8) -> Option<Call>
 }
 
 /// Adds the line of a thread that waits, with its last call.
-fn put_waits(
+pub fn put_waits(
     out: &mut Vec<u8>,
     words: &Words,
     thread: u8,
@@ -74,7 +74,7 @@ fn put_waits(
 }
 
 /// Adds the line of a thread that has used up its budget.
-fn put_spent(out: &mut Vec<u8>, thread: u8) -> Result<(), AllocError>
+pub fn put_spent(out: &mut Vec<u8>, thread: u8) -> Result<(), AllocError>
     ensures { OnOk result (Adds out.old.items out.new.items (spent_line thread)) }
 {
     put_text(out, b"spent")?;

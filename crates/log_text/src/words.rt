@@ -15,7 +15,7 @@ use user_io::text::{put_number, put_text};
 /// and the names of a script.
 #[derive(Drop)]
 pub struct Words<'s> {
-    messages: NameTable,
+    pub messages: NameTable,
     pub script: &'s Script,
     ghost known: { messages ≡ message_rows },
 }

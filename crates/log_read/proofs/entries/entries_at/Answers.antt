@@ -1,0 +1,39 @@
+use Rattle.std.proofs.Common.{◌≡◌, List, ℕ, [], ◌∷◌, ◌++◌, Option, Some, ap, sym, ◌∙◌, subst, drop, ◌+◌}
+use Rattle.std.specs.Prelude.{map}
+use Rattle.user_model.specs.declared.entry.Entry.{Entry}
+use Rattle.script_lines.specs.LineReading.{split_at}
+use Rattle.script_lines.proofs.TextsAgain.{line_split}
+use Rattle.log_read.specs.Limits.{IsEntry}
+use Rattle.log_read.specs.Words.{entry_words}
+use Rattle.log_read.proofs.LineLoops.{Rest, next_line, at_end, all_push}
+use Rattle.log_read.proofs.LineWords.{entry_is_words}
+use Rattle.log_read.proofs.OneLog.{some_same}
+use Rattle.log_read.proofs.entries.entries_at.Goals as goal
+
+pub returns-in_default-clause-again : goal.returns-in_default-clause-again
+returns-in_default-clause-again c es all lines =
+    let s = c.args.words.now.script.now in
+    let next = next_line (λ w. w.now) (entry_words s) (IsEntry s) c.args.lines.now c.loop-text.text-index _ c.loop-text.entries.items es c.loop-text-test.true (c.loop-text.invariant.again es all lines) in
+    let words = line_split (entry_words s next.next) (entry_is_words s next.next c.requires.named next.next_fits) in
+    let read = c.entry_at.ensures.again next.next next.next_fits (ap (map (λ w. w.now)) c.deref.ensures.value ∙ c.in_ok-line.ensures ∙ ap (split_at 32) next.line ∙ words) in
+    absurd (c.in_default.not-Some next.next read)
+
+pub loop-text-preserved : goal.loop-text-preserved
+loop-text-preserved c =
+    let s = c.args.words.now.script.now in
+    record {
+      fits = rw c.in_ok-push.ensures.items (all_push (IsEntry s) _ _ c.loop-text.invariant.fits c.in-Some.ensures.fits);
+      again = λ es all lines.
+          let next = next_line (λ w. w.now) (entry_words s) (IsEntry s) c.args.lines.now c.loop-text.text-index _ c.loop-text.entries.items es c.loop-text-test.true (c.loop-text.invariant.again es all lines) in
+          let words = line_split (entry_words s next.next) (entry_is_words s next.next c.requires.named next.next_fits) in
+          let read = c.entry_at.ensures.again next.next next.next_fits (ap (map (λ w. w.now)) c.deref.ensures.value ∙ c.in_ok-line.ensures ∙ ap (split_at 32) next.line ∙ words) in
+          let same = some_same next.next c.in-Some.entry (sym read ∙ c.in-Some.is) in
+          subst (λ (l : List Entry). Rest (λ w. w.now) (entry_words s) (IsEntry s) (drop (c.loop-text.text-index + 1) c.args.lines.now) l es)
+          (ap (λ (e : Entry). c.loop-text.entries.items ++ e ∷ []) same ∙ sym c.in_ok-push.ensures.items) next.after;
+    }
+
+pub returns-clause-again : goal.returns-clause-again
+returns-clause-again c es all lines =
+    let s = c.args.words.now.script.now in
+    ap (λ (l : List Entry). let o : Option (List Entry) = Some l in o)
+    (at_end (λ w. w.now) (entry_words s) (IsEntry s) c.args.lines.now c.loop-text.text-index c.loop-text.entries.items es c.loop-text-test.false (c.loop-text.invariant.again es all lines))

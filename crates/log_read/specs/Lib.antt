@@ -1,0 +1,5 @@
+pub mod Limits
+pub mod Logs
+pub mod Reading
+pub mod Refusals
+pub mod Words

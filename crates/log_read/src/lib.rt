@@ -1,0 +1,26 @@
+//! Logs, read back.
+//!
+//! A log has one text, which `log_text` writes: the line `log 1`, a line `WHO CALL = ANSWER` for each entry,
+//! the line `end` with a word, extra lines, and the line of the sends. Each line ends with one line feed, and
+//! its words are separated by one blank. After `end stuck` any number of lines `waits T CALL` stand, after
+//! `end spent` any number of lines `spent T`, and none after the other two words; whether they are those of
+//! the run isn't told here. WHO and T are numbers from 0 to 15. A class, a title, a message that has a name and
+//! a procedure are written by their names, and those of classes, titles and procedures must be the script's.
+#![tactic(auto)]
+
+mod ending;
+mod entries;
+mod laws;
+mod log;
+mod parser;
+mod reader;
+mod values;
+mod writer;
+
+pub use laws::{one_log, run_is_its_log};
+pub use log::{Extra, Log};
+pub use reader::read_log;
+pub use script_text::{ReadFault, Reason, Refusal};
+
+#[cfg(test)]
+mod tests;

@@ -1,0 +1,194 @@
+//! Reading logs.
+
+use super::*;
+use log_text::End;
+use std::alloc::Global;
+use std::test::Fail;
+use user_model::{Answer, Call};
+use win_num::{Cause, Code, SendId, Thread};
+
+const SCRIPT: &[u8] =
+    b"user 1\nscreen 8 4\nbudget 9\norder\nproc pa\ndefault\nend\nthread\nregister ca pa 0\ncreate ca tb 0 0 0 0 0 1 1\nend\nthread\nend\n";
+
+const WHOLE: &[u8] =
+    b"log 1\n1 register ca pa 0 = value 1\n1 new_window ca tb 0 268435456 8 -5 0 9223372036854775807 -9223372036854775808 = window 16\n2 post 16 WM_USER 5 6 = posted 1\n2 post 16 2000 5 18446744073709551615 = refused 1816\n2 post_quit 7 = refused full\n1 get 0 0 0 = got posted 1 16 WM_USER 5 6 0 -1 2147483647\n1 get 0 0 0 = got quit 0 0 WM_QUIT 7 0 4294967296 -2147483648 0\n2 send 16 WM_CLOSE 0 0 = begun 1\n1 get 0 0 0 = enter 1 pa 16 WM_CLOSE 0 0\n1 leave 3 = left 1\n2 await 1 = done 3 proc\n2 in_send = value 0\n0 tick 5 = value 5\n0 advance = busy 255\n15 sleep_until 9 = wait\n0 advance = stuck\nend stuck\nwaits 1 get 0 0 0\nwaits 15 sleep_until 9\nsends begun 1 entered 1 proc 1 reply 0 loss 0 timeout 0 open 4294967295\n";
+
+const COUNTS: &[u8] = b"sends begun 0 entered 0 proc 0 reply 0 loss 0 timeout 0 open 0\n";
+
+/// Whether a text is read as a log of the script.
+fn is_read(alloc: Global, text: &[u8]) -> Result<bool, Fail> {
+    let script = script_text::read(alloc, SCRIPT)?;
+    match read_log(alloc, &script, text) {
+        Ok(_) => Ok(true),
+        Err(ReadFault::Refused(refusal)) => {
+            if refusal.line != 0 || refusal.reason != Reason::Later {
+                return Err(Fail::from("another refusal"));
+            }
+            Ok(false)
+        }
+        Err(ReadFault::Memory) => Err(Fail::from("memory")),
+    }
+}
+
+/// Whether a log of these lines, with no sends, is read.
+fn are_read(alloc: Global, lines: &[u8]) -> Result<bool, Fail> {
+    let mut text = Vec::from_slice(alloc, b"log 1\n")?;
+    text.extend_from_slice(lines)?;
+    text.extend_from_slice(COUNTS)?;
+    is_read(alloc, &text)
+}
+
+#[test]
+fn parts(rt: HostRuntime) -> Result<(), Fail> {
+    let script = script_text::read(rt.alloc(), SCRIPT)?;
+    let log = read_log(rt.alloc(), &script, WHOLE)?;
+    assert_eq!(rt; log.entries().len(), 16);
+    assert_eq!(rt; log.entries()[0].call, Call::Register(0, 0, 0));
+    assert_eq!(rt;
+        log.entries()[1].call,
+        Call::NewWindow(
+            0,
+            1,
+            0,
+            268435456,
+            8,
+            -5,
+            0,
+            9223372036854775807,
+            -9223372036854775808
+        )
+    );
+    assert_eq!(rt; log.entries()[4].answer, Answer::Refused(Code::Full));
+    assert_eq!(rt;
+        log.entries()[10].answer,
+        Answer::Done {
+            result: 3,
+            cause: Cause::Proc
+        }
+    );
+    assert_eq!(rt; log.entries()[9].answer, Answer::Left(SendId(1)));
+    assert_eq!(rt; log.entries()[14].who, Thread(15));
+    assert_eq!(rt; log.end(), End::Stuck);
+    assert_eq!(rt;
+        log.extras(),
+        [
+            Extra::Waits(Thread(1), Call::Get(0, 0, 0)),
+            Extra::Waits(Thread(15), Call::SleepUntil(9)),
+        ]
+        .as_slice()
+    );
+    assert_eq!(rt; log.sends().unfinished, 4294967295);
+    Ok(())
+}
+
+#[test]
+fn ends(rt: HostRuntime) -> Result<(), Fail> {
+    for (lines, want) in [
+        (b"end done\n".as_slice(), true),
+        (b"end cut\n", true),
+        (b"end stuck\n", true),
+        (b"end spent\n", true),
+        (b"end spent\nspent 2\nspent 1\nspent 2\n", true),
+        (b"end spent\nspent 0\n", true),
+        (b"end stuck\nwaits 0 advance\n", true),
+        (b"end spent\nspent 16\n", false),
+        (b"end spent\nspent 01\n", false),
+        (b"end spent\nwaits 1 yield\n", false),
+        (b"end stuck\nspent 1\n", false),
+        (b"end stuck\nwaits 16 yield\n", false),
+        (b"end stuck\nwaits 1 yields\n", false),
+        (b"end stuck\nwaits 1\n", false),
+        (b"end done\nspent 1\n", false),
+        (b"end cut\nwaits 1 yield\n", false),
+        (b"end over\n", false),
+        (b"end\n", false),
+        (b"end done \n", false),
+        (b"end done\nend done\n", false),
+        (b"", false),
+    ] {
+        assert_eq!(rt; are_read(rt.alloc(), lines)?, want);
+    }
+    Ok(())
+}
+
+#[test]
+fn lines(rt: HostRuntime) -> Result<(), Fail> {
+    for (lines, want) in [
+        (b"1 yield = ok\nend done\n".as_slice(), true),
+        (b"15 yield = ok\nend done\n", true),
+        (b"16 yield = ok\nend done\n", false),
+        (b"01 yield = ok\nend done\n", false),
+        (b"1  yield = ok\nend done\n", false),
+        (b"1 yield  = ok\nend done\n", false),
+        (b"1 yield = ok \nend done\n", false),
+        (b" 1 yield = ok\nend done\n", false),
+        (b"1 yield ok\nend done\n", false),
+        (b"1 yield - ok\nend done\n", false),
+        (b"1 yield = okay\nend done\n", false),
+        (b"1 yield\nend done\n", false),
+        (b"\nend done\n", false),
+        (b"1 yield 1 = ok\nend done\n", false),
+        (b"1 post_quit = ok\nend done\n", false),
+        (b"1 post_quit 18446744073709551615 = ok\nend done\n", true),
+        (b"1 post_quit 18446744073709551616 = ok\nend done\n", false),
+        (b"1 post_quit WM_USER = ok\nend done\n", false),
+        (b"1 post_quit -1 = ok\nend done\n", false),
+        (b"1 post 16 15 0 0 = posted 1\nend done\n", false),
+        (b"1 post 16 WM_PAINT 0 0 = posted 1\nend done\n", true),
+        (b"1 post 16 WM_NONE 0 0 = posted 1\nend done\n", false),
+        (b"1 post 16 65536 0 0 = posted 4294967295\nend done\n", true),
+        (
+            b"1 post 16 65536 0 0 = posted 4294967296\nend done\n",
+            false,
+        ),
+        (b"1 unregister ca = ok\nend done\n", true),
+        (b"1 unregister pa = ok\nend done\n", false),
+        (b"1 unregister 0 = ok\nend done\n", false),
+        (b"1 unregister 2 = ok\nend done\n", false),
+        (b"1 register ca pa 1 = refused 65535\nend done\n", true),
+        (b"1 register ca pa 1 = refused 65536\nend done\n", false),
+        (b"1 register ca pb 1 = ok\nend done\n", false),
+        (b"1 register ca 0 1 = ok\nend done\n", false),
+        (b"0 advance = busy 256\nend done\n", false),
+        (b"1 await 1 = done 3 replies\nend done\n", false),
+        (b"1 await 1 = done 3 reply\nend done\n", true),
+        (b"1 await 1 = done 3\nend done\n", false),
+        (
+            b"1 get 0 0 0 = got posted 1 16 WM_USER 5 6 0 -1 2147483648\nend done\n",
+            false,
+        ),
+        (
+            b"1 get 0 0 0 = got posted 1 16 WM_USER 5 6 0 -0 0\nend done\n",
+            false,
+        ),
+        (
+            b"1 get 0 0 0 = got input 1 16 WM_USER 5 6 0 0 0\nend done\n",
+            false,
+        ),
+    ] {
+        assert_eq!(rt; are_read(rt.alloc(), lines)?, want);
+    }
+    Ok(())
+}
+
+#[test]
+fn texts(rt: HostRuntime) -> Result<(), Fail> {
+    let alloc = rt.alloc();
+    assert!(rt; is_read(alloc, WHOLE)?);
+    assert!(rt; !is_read(alloc, &WHOLE[1..])?);
+    assert!(rt; !is_read(alloc, &WHOLE[..WHOLE.len() - 1])?);
+    for text in [
+        b"".as_slice(),
+        b"\n",
+        b"log 1\n",
+        b"log 2\nend done\nsends begun 0 entered 0 proc 0 reply 0 loss 0 timeout 0 open 0\n",
+        b"log 1\nend done\nsends begun 0 entered 0 proc 0 reply 0 loss 0 timeout 0\n",
+        b"log 1\nend done\nsends begun 0 entered 0 proc 0 reply 0 loss 0 timeout 0 open 4294967296\n",
+        b"log 1\nend done\nsends begun 00 entered 0 proc 0 reply 0 loss 0 timeout 0 open 0\n",
+        b"log 1\nend done\nsends begun 0 entered 0 proc 0 reply 0 loss 0 timeout 0 open 0\n\n",
+        b"log 1\nend done\nsends begun 0 entered 0 proc 0 reply 0 loss 0 timeout 0 open 0",
+    ] {
+        assert!(rt; !is_read(alloc, text)?);
+    }
+    Ok(())
+}
