@@ -62,20 +62,33 @@ fn close_both(alloc: Global, lock: Lock, first: Seat, second: Seat) -> Option<Sh
     lock.close(seats).ok()
 }
 
+/// A lock over a machine for two threads, with its two seats.
+fn open_lock(alloc: Global) -> anyhow::Result<(Lock, Vec<Seat>)>
+    ensures { IfOk result (λ r. r.1.items ≡ new_seats r.0 2) }
+{
+    let machine = User::new(alloc, Setup::new(2, 8, 4))?;
+    match TurnLock::new(alloc, Shared { machine }, 2) {
+        Ok(opened) => Ok(opened),
+        Err(_) => anyhow::bail!("no memory for the lock"),
+    }
+}
+
+/// Closes the lock with one of its two seats, which it refuses, and then with both.
+fn close_twice(alloc: Global, lock: Lock, first: Seat, second: Seat) -> Option<Shared<User>>
+    requires { IsSeatOf lock first × IsSeatOf lock second }
+{
+    let (lock, second) = close_too_early(alloc, lock, second)?;
+    close_both(alloc, lock, first, second)
+}
+
 /// Two calls under the lock; it isn't closed with one of its seats, and gives the machine back for both.
 pub fn lock_alone<R: Wait + Print>(rt: &R, alloc: Global) -> anyhow::Result<()> {
-    let machine = User::new(alloc, Setup::new(2, 8, 4))?;
-    let Ok((lock, seats)) = TurnLock::new(alloc, Shared { machine }, 2) else {
-        anyhow::bail!("no memory for the lock");
-    };
+    let (lock, seats) = open_lock(alloc)?;
     let (first, second) = pair(&lock, seats);
     let second = yield_twice(rt, &lock, second)?;
-    let Some((lock, second)) = close_too_early(alloc, lock, second) else {
-        anyhow::bail!("the lock was closed with one of two seats");
-    };
-    let Some(shared) = close_both(alloc, lock, first, second) else {
-        anyhow::bail!("the lock wasn't closed with both seats");
-    };
-    println!(rt; "{} entries under the lock", shared.machine.history().len())?;
+    match close_twice(alloc, lock, first, second) {
+        Some(shared) => println!(rt; "{} entries under the lock", shared.machine.history().len())?,
+        None => anyhow::bail!("the lock wasn't closed with both seats, or was with one"),
+    }
     Ok(())
 }

@@ -3,19 +3,23 @@
 //! depend on who moves when.
 #![tactic(auto)]
 
-ghost use Rattle.std.specs.Prelude.{◌≡◌, IfOk, IfSome};
+ghost use Rattle.std.specs.Prelude.{◌≡◌, All, IfOk};
+ghost use Rattle.std.specs.Thread.{IsSync};
 ghost use Rattle.turn_lock.specs.Seats.{new_seats};
 ghost use Rattle.user_desk.specs.Desks.{IsDeskSeat};
 
 mod locked;
+mod opening;
 mod sequences;
 
+use opening::{open, three};
 use std::alloc::{AllocError, Global};
+use std::io::Print;
 use std::sync::Wait;
-use std::thread::join;
+use std::thread::{Threads, join};
 use user_core::User;
 use user_desk::{Desk, DeskSeat};
-use user_model::{Answer, Call, Entry, Machine, Setup};
+use user_model::{Answer, Call, Entry, Machine};
 use win_num::{Filter, Thread};
 
 type Seat = DeskSeat<User>;
@@ -30,22 +34,12 @@ const ALL: Filter = Filter {
     max: 0,
 };
 
-/// The seats of the clock and of two threads.
-fn three(desk: &Desk<User>, mut seats: Vec<Seat>) -> (Seat, Seat, Seat)
-    requires seats { seats.items ≡ new_seats desk.now 3 }
-    requires count { desk.now.seats ≡ 3 }
-    ensures clock { IsDeskSeat desk.now result.0 }
-    ensures first { IsDeskSeat desk.now result.1 }
-    ensures second { IsDeskSeat desk.now result.2 }
-{
-    let second = seats.pop().unwrap();
-    let first = seats.pop().unwrap();
-    let clock = seats.pop().unwrap();
-    (clock, first, second)
-}
-
 /// Makes `yield` so many times.
-fn yield_often<R: Wait>(rt: &R, desk: &Desk<User>, mut seat: Seat) -> Result<Seat, AllocError>
+fn yield_often<M: Machine, R: Wait>(
+    rt: &R,
+    desk: &Desk<M>,
+    mut seat: DeskSeat<M>,
+) -> Result<DeskSeat<M>, AllocError>
     requires { IsDeskSeat desk.now seat }
     ensures { IfOk result (λ s. IsDeskSeat desk.now s) }
 {
@@ -56,7 +50,12 @@ fn yield_often<R: Wait>(rt: &R, desk: &Desk<User>, mut seat: Seat) -> Result<Sea
 }
 
 /// Posts the numbers to another thread.
-fn post_all<R: Wait>(rt: &R, desk: &Desk<User>, mut seat: Seat, to: u64) -> Result<Seat, AllocError>
+fn post_all<M: Machine, R: Wait>(
+    rt: &R,
+    desk: &Desk<M>,
+    mut seat: DeskSeat<M>,
+    to: u64,
+) -> Result<DeskSeat<M>, AllocError>
     requires { IsDeskSeat desk.now seat }
     ensures { IfOk result (λ s. IsDeskSeat desk.now s) }
 {
@@ -67,7 +66,11 @@ fn post_all<R: Wait>(rt: &R, desk: &Desk<User>, mut seat: Seat, to: u64) -> Resu
 }
 
 /// Gets as many messages, and adds up the numbers in them.
-fn add_all<R: Wait>(rt: &R, desk: &Desk<User>, mut seat: Seat) -> Result<(Seat, u64), AllocError>
+fn add_all<M: Machine, R: Wait>(
+    rt: &R,
+    desk: &Desk<M>,
+    mut seat: DeskSeat<M>,
+) -> Result<(DeskSeat<M>, u64), AllocError>
     requires { IsDeskSeat desk.now seat }
     ensures { IfOk result (λ r. IsDeskSeat desk.now r.0) }
 {
@@ -81,12 +84,12 @@ fn add_all<R: Wait>(rt: &R, desk: &Desk<User>, mut seat: Seat) -> Result<(Seat, 
 }
 
 /// The part of one thread, which ends with `end_thread`.
-fn part<R: Wait>(
+fn part<M: Machine, R: Wait>(
     rt: &R,
-    desk: &Desk<User>,
-    seat: Seat,
+    desk: &Desk<M>,
+    seat: DeskSeat<M>,
     other: u64,
-) -> Result<(Seat, u64), AllocError>
+) -> Result<(DeskSeat<M>, u64), AllocError>
     requires { IsDeskSeat desk.now seat }
     ensures { IfOk result (λ r. IsDeskSeat desk.now r.0) }
 {
@@ -97,23 +100,6 @@ fn part<R: Wait>(
     Ok((seat, sum))
 }
 
-/// Closes the desk with its three seats.
-fn close_all(
-    alloc: Global,
-    desk: Desk<User>,
-    clock: Seat,
-    first: Seat,
-    second: Seat,
-) -> Option<User>
-    requires { IsDeskSeat desk clock × IsDeskSeat desk first × IsDeskSeat desk second }
-{
-    let mut seats = Vec::new(alloc);
-    seats.push(clock).ok()?;
-    seats.push(first).ok()?;
-    seats.push(second).ok()?;
-    desk.close(seats).ok()
-}
-
 /// How often a thread made `yield`.
 fn yields(history: &[Entry], thread: u8) -> usize {
     history
@@ -122,32 +108,65 @@ fn yields(history: &[Entry], thread: u8) -> usize {
         .count()
 }
 
-fn main(rt: HostRuntime) -> anyhow::Result<()> {
-    locked::lock_alone(&rt, rt.alloc())?;
-    let machine = User::new(rt.alloc(), Setup::new(2, 8, 4))?;
-    let Ok((desk, seats)) = Desk::new(rt.alloc(), machine, 2) else {
-        anyhow::bail!("no memory for the desk");
-    };
-    let (clock, mut first, mut second) = three(&desk, seats);
-    sequences::filters(&rt, &desk, &mut first)?;
-    sequences::sends(&rt, &desk, &mut first, &mut second)?;
+/// Both threads beside each other: their seats and what each has added up.
+fn both<R: Threads + Wait + Sync>(
+    rt: &R,
+    desk: &Desk<User>,
+    first: Seat,
+    second: Seat,
+) -> Result<((Seat, u64), (Seat, u64)), AllocError>
+    requires first { IsDeskSeat desk.now first }
+    requires second { IsDeskSeat desk.now second }
+    ensures { IfOk result (λ r. IsDeskSeat desk.now r.0.0 × IsDeskSeat desk.now r.1.0) }
+{
     let (a, b) = join(
-        &rt,
+        rt,
         || -> Result<(Seat, u64), AllocError>
-            requires { IsDeskSeat desk first }
-            ensures { IfOk result (λ r. IsDeskSeat desk r.0) }
-        { part(&rt, &desk, first, 2) },
+            requires { IsSync R.row × IsDeskSeat desk.now first }
+            ensures { IfOk result (λ r. IsDeskSeat desk.entry.now r.0) }
+        { part(rt, desk, first, 2) },
         || -> Result<(Seat, u64), AllocError>
-            requires { IsDeskSeat desk second }
-            ensures { IfOk result (λ r. IsDeskSeat desk r.0) }
-        { part(&rt, &desk, second, 1) },
+            requires { IsSync R.row × IsDeskSeat desk.now second }
+            ensures { IfOk result (λ r. IsDeskSeat desk.entry.now r.0) }
+        { part(rt, desk, second, 1) },
     );
-    let ((first, first_sum), (second, second_sum)) = (a?, b?);
-    println!(&rt; "sums {first_sum} {second_sum}")?;
-    let Some(machine) = close_all(rt.alloc(), desk, clock, first, second) else {
+    Ok((a?, b?))
+}
+
+/// The worked sequences, and then both threads. All seats come back.
+fn work<R: Threads + Wait + Sync + Print>(
+    rt: &R,
+    alloc: Global,
+    desk: &Desk<User>,
+    seats: Vec<Seat>,
+) -> anyhow::Result<Vec<Seat>>
+    requires seats { seats.items ≡ new_seats desk.now 3 }
+    requires count { desk.now.seats ≡ 3 }
+    ensures { IfOk result (λ back. All (IsDeskSeat desk.now) back.items) }
+{
+    let (clock, mut first, mut second) = three(desk, seats);
+    sequences::filters(rt, desk, &mut first)?;
+    sequences::sends(rt, desk, &mut first, &mut second)?;
+    let ((first, first_sum), (second, second_sum)) = both(rt, desk, first, second)?;
+    println!(rt; "sums {first_sum} {second_sum}")?;
+    Ok(vec![in alloc; clock, first, second]?)
+}
+
+/// Closes the desk, and tells how often each thread made `yield`.
+fn close(rt: &impl Print, desk: Desk<User>, seats: Vec<Seat>) -> anyhow::Result<()>
+    requires { All (IsDeskSeat desk) seats.items }
+{
+    let Ok(machine) = desk.close(seats) else {
         anyhow::bail!("a seat is missing");
     };
     let history = machine.history();
-    println!(&rt; "yields {} {}", yields(history, 1), yields(history, 2))?;
+    println!(rt; "yields {} {}", yields(history, 1), yields(history, 2))?;
     Ok(())
+}
+
+fn main(rt: HostRuntime) -> anyhow::Result<()> {
+    locked::lock_alone(&rt, rt.alloc())?;
+    let (desk, seats) = open(rt.alloc())?;
+    let seats = work(&rt, rt.alloc(), &desk, seats)?;
+    close(&rt, desk, seats)
 }

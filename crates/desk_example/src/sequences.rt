@@ -1,14 +1,12 @@
-//! Worked sequences of calls, made by one thread through the seats of two.
+//! Worked sequences of calls, made by one thread through the seats of two, at any machine.
 
 ghost use Rattle.std.specs.Prelude.{◌≡◌};
 ghost use Rattle.user_desk.specs.Desks.{IsDeskSeat};
 
-use crate::Seat;
 use std::io::Print;
 use std::sync::Wait;
-use user_core::User;
-use user_desk::Desk;
-use user_model::{Answer, Call, Told};
+use user_desk::{Desk, DeskSeat};
+use user_model::{Call, Machine, Told};
 use win_num::{Filter, SendId};
 
 /// The message WM_USER.
@@ -32,10 +30,10 @@ const ALL: Filter = Filter {
 const NEW_WINDOW: Call = Call::NewWindow(0, 1, 0, 0, 0, 0, 0, 0, 0);
 
 /// Makes the calls, and prints what each was answered.
-fn make_all<R: Wait + Print>(
+fn make_all<M: Machine, R: Wait + Print>(
     rt: &R,
-    desk: &Desk<User>,
-    seat: &mut Seat,
+    desk: &Desk<M>,
+    seat: &mut DeskSeat<M>,
     calls: &[Call],
 ) -> anyhow::Result<()>
     requires { IsDeskSeat desk.now seat.old }
@@ -49,10 +47,10 @@ fn make_all<R: Wait + Print>(
 }
 
 /// Posts messages of these numbers to the seat's own thread.
-fn post_all<R: Wait + Print>(
+fn post_all<M: Machine, R: Wait + Print>(
     rt: &R,
-    desk: &Desk<User>,
-    seat: &mut Seat,
+    desk: &Desk<M>,
+    seat: &mut DeskSeat<M>,
     numbers: &[u64],
 ) -> anyhow::Result<()>
     requires { IsDeskSeat desk.now seat.old }
@@ -66,10 +64,10 @@ fn post_all<R: Wait + Print>(
 }
 
 /// Gets a message by each of these filters.
-fn get_all<R: Wait + Print>(
+fn get_all<M: Machine, R: Wait + Print>(
     rt: &R,
-    desk: &Desk<User>,
-    seat: &mut Seat,
+    desk: &Desk<M>,
+    seat: &mut DeskSeat<M>,
     filters: &[Filter],
 ) -> anyhow::Result<()>
     requires { IsDeskSeat desk.now seat.old }
@@ -83,10 +81,10 @@ fn get_all<R: Wait + Print>(
 }
 
 /// Looks for a message by a filter, and removes it.
-fn peek<R: Wait + Print>(
+fn peek<M: Machine, R: Wait + Print>(
     rt: &R,
-    desk: &Desk<User>,
-    seat: &mut Seat,
+    desk: &Desk<M>,
+    seat: &mut DeskSeat<M>,
     filter: Filter,
 ) -> anyhow::Result<()>
     requires { IsDeskSeat desk.now seat.old }
@@ -98,7 +96,11 @@ fn peek<R: Wait + Print>(
 }
 
 /// Messages leave in posted order within a filter, and quit comes once none is left.
-pub fn filters<R: Wait + Print>(rt: &R, desk: &Desk<User>, seat: &mut Seat) -> anyhow::Result<()>
+pub fn filters<M: Machine, R: Wait + Print>(
+    rt: &R,
+    desk: &Desk<M>,
+    seat: &mut DeskSeat<M>,
+) -> anyhow::Result<()>
     requires { IsDeskSeat desk.now seat.old }
     ensures { IsDeskSeat desk.now seat.new }
 {
@@ -111,10 +113,10 @@ pub fn filters<R: Wait + Print>(rt: &R, desk: &Desk<User>, seat: &mut Seat) -> a
 }
 
 /// Sends a message to a window.
-fn send<R: Wait + Print>(
+fn send<M: Machine, R: Wait + Print>(
     rt: &R,
-    desk: &Desk<User>,
-    seat: &mut Seat,
+    desk: &Desk<M>,
+    seat: &mut DeskSeat<M>,
     hwnd: u64,
     number: u64,
     wparam: u64,
@@ -128,10 +130,10 @@ fn send<R: Wait + Print>(
 }
 
 /// Waits for the answer of a send, which has come or is served at once.
-fn await_answer<R: Wait + Print>(
+fn await_answer<M: Machine, R: Wait + Print>(
     rt: &R,
-    desk: &Desk<User>,
-    seat: &mut Seat,
+    desk: &Desk<M>,
+    seat: &mut DeskSeat<M>,
     send: u32,
 ) -> anyhow::Result<()>
     requires { IsDeskSeat desk.now seat.old }
@@ -143,10 +145,10 @@ fn await_answer<R: Wait + Print>(
 }
 
 /// Makes a call in a turn: what it was answered, or that the actor has no call to make.
-fn turn<R: Wait + Print>(
+fn turn<M: Machine, R: Wait + Print>(
     rt: &R,
-    desk: &Desk<User>,
-    seat: &mut Seat,
+    desk: &Desk<M>,
+    seat: &mut DeskSeat<M>,
     call: Call,
 ) -> anyhow::Result<()>
     requires { IsDeskSeat desk.now seat.old }
@@ -160,11 +162,11 @@ fn turn<R: Wait + Print>(
 }
 
 /// Two threads, each with a window; the first waits for the answer of its send, and meanwhile serves a send back.
-pub fn sends<R: Wait + Print>(
+pub fn sends<M: Machine, R: Wait + Print>(
     rt: &R,
-    desk: &Desk<User>,
-    first: &mut Seat,
-    second: &mut Seat,
+    desk: &Desk<M>,
+    first: &mut DeskSeat<M>,
+    second: &mut DeskSeat<M>,
 ) -> anyhow::Result<()>
     requires first { IsDeskSeat desk.now first.old }
     requires second { IsDeskSeat desk.now second.old }
