@@ -40,9 +40,9 @@ Has past p w = (is_live past w.0 ≡ true) × (covers past p w ≡ true)
 highest_has : (past : Past) (z : Layers) → IsOrderAt past z → (p : Point) (q : ℕ) (v : Hwnd) → highest past p q ≡ Some v → Has past p v
 highest_has past z at p q v e = (
   found_all (covers past p) (λ u. is_live past u.0) (reverse (siblings past q)) v e
-  (all_rev (λ (u : Hwnd). is_live past u.0) (siblings past q)
-  ∙ (ap (list_all (λ (u : Hwnd). is_live past u.0)) (sym (at.lists q))
-  ∙ all_one (λ (u : Hwnd). is_child u.0 q z.standings) (λ u. is_live past u.0) (λ u c. sym (stands_at past z at u.0) ∙ child_among u.0 q z.standings c) (siblings_of q z) (each_child z at.kept q))),
+      (all_rev (λ (u : Hwnd). is_live past u.0) (siblings past q)
+      ∙ (ap (list_all (λ (u : Hwnd). is_live past u.0)) (sym (at.lists q))
+      ∙ all_one (λ (u : Hwnd). is_child u.0 q z.standings) (λ u. is_live past u.0) (λ u c. sym (stands_at past z at u.0) ∙ child_among u.0 q z.standings c) (siblings_of q z) (each_child z at.kept q))),
   found_passes (covers past p) (reverse (siblings past q)) v e,
 )
 

@@ -14,7 +14,7 @@ returns c =
     let s = c.self.inside in
     let past : Past = reverse s.history.items in
     let passed : point (to_z w64 (of_z w64 c.args.x)) (to_z w64 (of_z w64 c.args.y)) ≡ point c.args.x c.args.y =
-        rw (to_z-of_z w64 c.args.x c.ranges.x, to_z-of_z w64 c.args.y c.ranges.y) refl in
+    rw (to_z-of_z w64 c.args.x c.ranges.x, to_z-of_z w64 c.args.y c.ranges.y) refl in
     c.owner_at.ensures
     ∙ ap (λ p. owner_in s.tree.live s.order s.setup.width s.setup.height p) passed
     ∙ owner_at_past s.setup past c.self.invariant.lawful s.tree s.order c.self.invariant.tree c.self.invariant.order c.args.x c.args.y
