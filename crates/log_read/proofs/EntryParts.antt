@@ -1,13 +1,11 @@
 -- The words of a call, an answer, an entry and an extra line stand where they are looked for.
-use Rattle.std.proofs.Common.{◌≡◌, ℕ, ◌+◌, ◌^◌, ◌≤◌, ◌<◌, List, [], ◌∷◌, ◌++◌, length, Option, Some, None, refl, ap, sym, ◌∙◌, append_assoc, append-nil, arith}
+use Rattle.std.proofs.Common.{◌≡◌, ℕ, ◌+◌, ◌^◌, ◌≤◌, ◌<◌, List, [], ◌∷◌, ◌++◌, length, Option, Some, refl, ap, sym, ◌∙◌, append_assoc, append-nil, arith}
 use Rattle.std.specs.Prelude.{codes, decimal, map}
-use Rattle.std.specs.List.{AllByRecursion}
 use Rattle.std.proofs.lemmas.List.{length-append}
 use Rattle.win_num.specs.declared.message.Thread.{Thread}
 use Rattle.user_model.specs.declared.call.Call.{Call}
 use Rattle.user_model.specs.declared.entry.Answer.{Answer}
 use Rattle.user_model.specs.declared.entry.Entry.{Entry}
-use Rattle.user_model.specs.declared.entry.SendCount.{SendCount}
 use Rattle.call_table.specs.declared.answers.AnswerName.{AnswerName}
 use Rattle.call_table.specs.declared.calls.CallName.{CallName}
 use Rattle.call_table.specs.declared.form.Field.{Field}
@@ -25,9 +23,9 @@ use Rattle.log_text.specs.declared.end.End.{End}
 use Rattle.log_text.specs.declared.end.End.TheVariants as ends
 use Rattle.log_read.specs.declared.log.Extra.{Extra}
 use Rattle.log_read.specs.declared.log.Extra.TheVariants as extras
-use Rattle.log_read.specs.Limits.{IsValue, IsCall, IsAnswer, IsEntry, IsExtra}
+use Rattle.log_read.specs.Limits.{IsCall, IsAnswer, IsExtra}
 use Rattle.log_read.specs.Reading.{small_at, actor_at, values_from}
-use Rattle.log_read.specs.Words.{value_word, call_words, answer_words, entry_words, extra_words, counts_words}
+use Rattle.log_read.specs.Words.{value_word, call_words, answer_words, entry_words, extra_words}
 use Rattle.log_read.proofs.LineWords.{Words}
 use Rattle.log_read.proofs.LogParts.{same_length}
 use Rattle.log_read.proofs.ValuesAgain.{small_number, actor_again, word_here, one_further, values_again}

@@ -1,8 +1,8 @@
 -- The text of a log is that of its lines of words, and falls apart into them.
-use Rattle.std.proofs.Common.{◌≡◌, ℕ, zero, suc, ◌^◌, ◌≤◌, ◌<◌, Bool, true, List, [], ◌∷◌, ◌++◌, length, Option, Some, None, refl, ap, sym, ◌∙◌, append_assoc, append-nil, arith}
-use Rattle.std.specs.Prelude.{ℤ, pos, negsuc, codes, decimal, unwrap_or, map, slice_get, option_map, FitsSigned, nat_lt, ◌&&◌}
+use Rattle.std.proofs.Common.{◌≡◌, ℕ, zero, suc, ◌^◌, ◌<◌, true, List, [], ◌∷◌, ◌++◌, length, Option, Some, None, refl, ap, sym, ◌∙◌, append_assoc, append-nil, arith}
+use Rattle.std.specs.Prelude.{ℤ, pos, negsuc, codes, decimal, unwrap_or, map, slice_get, option_map, FitsSigned}
 use Rattle.std.specs.Fmt.{signed_decimal}
-use Rattle.std.specs.Int.{w32, w64}
+use Rattle.std.specs.Int.{w64}
 use Rattle.std.specs.List.{flat_map, list_all, AllByRecursion}
 use Rattle.std.proofs.lemmas.Bool.{and_parts, and_from}
 use Rattle.std.proofs.lemmas.Grind.{flat_map-append}
@@ -30,20 +30,20 @@ use Rattle.call_table.specs.Words.{source_word, cause_word}
 use Rattle.user_io.specs.Text.{Adds}
 use Rattle.script_tree.specs.Tree.{Tree, ProcedureTree}
 use Rattle.script_lines.specs.Known.{known_of}
-use Rattle.script_lines.specs.LineReading.{split_at, texts_of}
+use Rattle.script_lines.specs.LineReading.{split_at}
 use Rattle.script_lines.specs.LineTexts.{blank_word, joined, line_text}
 use Rattle.script_lines.specs.NameLimits.{AreKnown, is_name}
 use Rattle.script_lines.proofs.TextsAgain.{is_word, is_line_of_words, decimal_word, name_is_word, texts_again}
 use Rattle.script_lines.proofs.WordsAgain.{name_passes}
 use Rattle.log_text.specs.declared.end.End.{End}
 use Rattle.log_text.specs.declared.end.End.TheVariants as ends
-use Rattle.log_text.specs.Endings.{end_line, waits_line, spent_line, counts_line}
-use Rattle.log_text.specs.Entries.{value_text, call_text, answer_text, entry_line}
+use Rattle.log_text.specs.Endings.{end_line, counts_line}
+use Rattle.log_text.specs.Entries.{value_text, call_text, entry_line}
 use Rattle.log_read.specs.declared.log.Extra.{Extra}
 use Rattle.log_read.specs.declared.log.Extra.TheVariants as extras
 use Rattle.log_read.specs.Limits.{IsCode, IsValue, IsCall, IsAnswer, IsEntry, IsExtra, AreCounts, IsLog}
 use Rattle.log_read.specs.Logs.{LogTree, extra_line, spelling}
-use Rattle.log_read.specs.Words.{code_word, message_word, value_word, call_words, answer_words, entry_words, end_word, end_words, extra_words, counts_words, inner_words, log_words}
+use Rattle.log_read.specs.Words.{code_word, value_word, call_words, answer_words, entry_words, end_words, extra_words, counts_words, inner_words, log_words}
 use Rattle.log_read.proofs.ValuesAgain.{at_place, wider}
 
 -- ---- the text as lines
@@ -105,9 +105,6 @@ end_written ends.Done = refl
 end_written ends.Stuck = refl
 end_written ends.Spent = refl
 end_written ends.Cut = refl
-
-no_more : (vs : Words) → vs ++ [] ≡ vs
-no_more = append-nil
 
 pub extra_written : (s : Tree) (x : Extra) → extra_line s x ≡ line_text (extra_words s x)
 extra_written s (extras.Waits t call) =

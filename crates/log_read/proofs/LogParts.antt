@@ -1,7 +1,7 @@
 -- The parts of a log's text stand where they are looked for.
-use Rattle.std.proofs.Common.{◌≡◌, ℕ, zero, suc, ◌+◌, ◌-◌, ◌^◌, ◌≤◌, ◌<◌, Bool, true, false, List, [], ◌∷◌, ◌++◌, length, Option, Some, None, refl, ap, sym, ◌∙◌, take, drop, get_or, arith}
+use Rattle.std.proofs.Common.{◌≡◌, ℕ, zero, suc, ◌+◌, ◌-◌, ◌<◌, true, false, List, [], ◌∷◌, ◌++◌, length, Option, Some, refl, ap, sym, ◌∙◌, take, drop, get_or, arith}
 use Rattle.std.specs.Prelude.{codes, decimal, map, ◌==◌, Result, Ok, Err, IfOk}
-use Rattle.std.specs.List.{flat_map, list_all, AllByRecursion, position_from}
+use Rattle.std.specs.List.{flat_map, AllByRecursion, position_from}
 use Rattle.std.specs.Int.{IsInRange}
 use Rattle.std.specs.Str.Parse.{AllDigits}
 use Rattle.std.proofs.lemmas.Bool.Decides.{nat_tests}

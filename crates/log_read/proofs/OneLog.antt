@@ -1,11 +1,10 @@
 -- A text is that of one log at most.
-use Rattle.std.proofs.Common.{◌≡◌, ℕ, zero, suc, ◌^◌, ◌≤◌, ◌<◌, Bool, true, false, List, [], ◌∷◌, ◌++◌, length, Option, Some, None, refl, ap, sym, ◌∙◌, append_assoc, append-nil, arith, subst}
-use Rattle.std.specs.Prelude.{codes, decimal, map, ◌==◌}
+use Rattle.std.proofs.Common.{◌≡◌, ℕ, ◌^◌, ◌<◌, true, List, [], ◌∷◌, ◌++◌, length, Some, refl, ap, sym, ◌∙◌, arith, subst}
+use Rattle.std.specs.Prelude.{codes, decimal, map}
 use Rattle.std.specs.List.{list_all, AllByRecursion}
 use Rattle.std.specs.Int.{IsInRange}
 use Rattle.std.specs.Str.Parse.{AllDigits}
-use Rattle.std.proofs.lemmas.Bool.{false≢true, and_parts}
-use Rattle.std.proofs.lemmas.Bool.Decides.{nat_tests}
+use Rattle.std.proofs.lemmas.Bool.{and_parts}
 use Rattle.std.proofs.lemmas.Fmt.{decimal_is_IsNumeral, decimal_injective}
 use Rattle.std.proofs.lemmas.List.{append_cancel_right, map-append, length-append}
 use Rattle.std.proofs.lemmas.Str.Parse.{digit_from_value}
@@ -29,7 +28,6 @@ use Rattle.script_lines.specs.LineTexts.{joined}
 use Rattle.script_lines.specs.NameLimits.{AreKnown}
 use Rattle.script_lines.proofs.TextsAgain.{is_line_of_words, line_split}
 use Rattle.log_text.specs.declared.end.End.{End}
-use Rattle.log_text.specs.declared.end.End.TheVariants as ends
 use Rattle.log_read.specs.declared.log.Extra.{Extra}
 use Rattle.log_read.specs.declared.log.Extra.TheVariants as extras
 use Rattle.log_read.specs.Limits.{IsValue, IsCall, IsAnswer, IsEntry, IsExtra, AreCounts, IsLog}

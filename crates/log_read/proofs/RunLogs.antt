@@ -1,6 +1,6 @@
 -- What is written of a run is the text of a log.
-use Rattle.std.proofs.Common.{◌≡◌, ℕ, zero, suc, ◌+◌, ◌≤◌, ◌<◌, Bool, true, false, List, [], ◌∷◌, ◌++◌, length, Option, Some, None, refl, ap, sym, ◌∙◌, append_assoc, append-nil, arith, reverse, inl, inr, subst}
-use Rattle.std.specs.Prelude.{codes, filter, ◌==◌, if◌then◌else◌, IfSome}
+use Rattle.std.proofs.Common.{◌≡◌, ℕ, zero, suc, ◌≤◌, Bool, true, false, List, [], ◌∷◌, ◌++◌, length, Option, Some, None, refl, ap, sym, ◌∙◌, append-nil, arith, reverse, inl, inr, subst}
+use Rattle.std.specs.Prelude.{codes, ◌==◌, if◌then◌else◌, IfSome}
 use Rattle.std.specs.List.{flat_map, AllByRecursion}
 use Rattle.std.proofs.lemmas.Bool.{cases_Bool}
 use Rattle.std.proofs.lemmas.Grind.{flat_map-append}
@@ -9,8 +9,8 @@ use Rattle.user_model.specs.declared.call.Call.{Call}
 use Rattle.user_model.specs.declared.entry.Entry.{Entry}
 use Rattle.user_model.specs.Counts.{send_count}
 use Rattle.user_model.specs.Past.{Past}
-use Rattle.user_model.specs.Idle.{is_barred, last_entry}
-use Rattle.user_model.specs.Places.{has_ended, mine}
+use Rattle.user_model.specs.Idle.{is_barred}
+use Rattle.user_model.specs.Places.{has_ended}
 use Rattle.user_model.specs.Threads.{from_each}
 use Rattle.script_tree.specs.Tree.{Tree}
 use Rattle.script_lines.specs.Known.{known_of}
@@ -19,12 +19,12 @@ use Rattle.log_text.specs.declared.end.End.{End}
 use Rattle.log_text.specs.declared.end.End.TheVariants as ends
 use Rattle.log_text.specs.Ends.{setup_of, end_of}
 use Rattle.log_text.specs.Entries.{entry_line, entries_text}
-use Rattle.log_text.specs.Endings.{end_line, call_in, last_call, waits_line, spent_line, extra, sends_line}
+use Rattle.log_text.specs.Endings.{end_line, last_call, waits_line, spent_line, extra, sends_line}
 use Rattle.log_text.specs.Logs.{log}
 use Rattle.log_read.specs.declared.log.Extra.{Extra}
 use Rattle.log_read.specs.declared.log.Extra.TheVariants as extras
 use Rattle.log_read.specs.Limits.{IsCall, IsEntry, IsExtra, AreCounts, IsLog}
-use Rattle.log_read.specs.Logs.{LogTree, extra_line, spelling, waits_of, extra_of, extras_of, log_of}
+use Rattle.log_read.specs.Logs.{LogTree, extra_line, spelling, waits_of, extra_of, log_of}
 use Rattle.log_read.proofs.OneLog.{one_log}
 
 -- ---- the text

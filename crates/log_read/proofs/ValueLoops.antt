@@ -1,6 +1,5 @@
 -- Reading values one after the other, as the loop does.
 use Rattle.std.proofs.Common.{◌≡◌, ℕ, ◌+◌, ◌<◌, ◌≤◌, List, [], ◌∷◌, ◌++◌, length, Option, Some, None, refl, sym, ap, ◌∙◌, append_assoc, append-nil, drop, get_or, arith}
-use Rattle.std.specs.List.{AllByRecursion}
 use Rattle.std.proofs.lemmas.List.{drop_more, drop_all}
 use Rattle.call_table.specs.declared.form.Field.{Field}
 use Rattle.call_table.specs.declared.value.Value.{Value}

@@ -1,5 +1,5 @@
 -- Which trees are logs of a script.
-use Rattle.std.specs.Prelude.{◌≡◌, ℕ, ◌^◌, ◌≤◌, ◌<◌, length, FitsSigned, ⊤}
+use Rattle.std.specs.Prelude.{◌≡◌, ◌^◌, ◌≤◌, ◌<◌, length, FitsSigned, ⊤}
 use Rattle.std.specs.Int.{w32, w64}
 use Rattle.std.specs.List.{AllByRecursion}
 use Rattle.win_num.specs.declared.code.Code.{Code}

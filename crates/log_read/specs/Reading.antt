@@ -1,6 +1,6 @@
 -- Taking the words of a log apart, loosely: a number may have leading zeros, or be too large. Whether the
 -- text is that of what was found is seen by writing it again.
-use Rattle.std.specs.Prelude.{ℕ, ℤ, pos, negsuc, ◌+◌, ◌-◌, ◌^◌, min, ◌==◌, if◌then◌else◌, ◌&&◌, int_le, nat_le, List, [], ◌∷◌, codes, find, Option, Some, None, option_map, Bool, true, false, map}
+use Rattle.std.specs.Prelude.{ℕ, ℤ, pos, negsuc, ◌+◌, ◌-◌, ◌^◌, min, ◌==◌, if◌then◌else◌, ◌&&◌, int_le, nat_le, List, [], ◌∷◌, codes, find, Option, Some, None, option_map, Bool, false}
 use Rattle.std.specs.List.{position_from}
 use Rattle.std.specs.Str.{bytes_eq}
 use Rattle.win_num.specs.declared.code.Code.{Code}

@@ -13,6 +13,13 @@ const SCRIPT: &[u8] =
 const WHOLE: &[u8] =
     b"log 1\n1 register ca pa 0 = value 1\n1 new_window ca tb 0 268435456 8 -5 0 9223372036854775807 -9223372036854775808 = window 16\n2 post 16 WM_USER 5 6 = posted 1\n2 post 16 2000 5 18446744073709551615 = refused 1816\n2 post_quit 7 = refused full\n1 get 0 0 0 = got posted 1 16 WM_USER 5 6 0 -1 2147483647\n1 get 0 0 0 = got quit 0 0 WM_QUIT 7 0 4294967296 -2147483648 0\n2 send 16 WM_CLOSE 0 0 = begun 1\n1 get 0 0 0 = enter 1 pa 16 WM_CLOSE 0 0\n1 leave 3 = left 1\n2 await 1 = done 3 proc\n2 in_send = value 0\n0 tick 5 = value 5\n0 advance = busy 255\n15 sleep_until 9 = wait\n0 advance = stuck\nend stuck\nwaits 1 get 0 0 0\nwaits 15 sleep_until 9\nsends begun 1 entered 1 proc 1 reply 0 loss 0 timeout 0 open 4294967295\n";
 
+/// A script with sends between threads, and the log that the program prints of its run.
+const SENDS: &[u8] =
+    b"user 1\nscreen 8 4\nbudget 100\norder\nproc shop\nif msg = WM_USER\nsend lp WM_USER 0 0\nlet a r + r\nreturn a\nend\nif msg = WM_DESTROY\npost_quit 0\nend\nend\nproc buyer\nif msg = WM_USER\nreturn 3\nend\nend\nthread\nregister shops shop 0\ncreate shops counter 0 0 0 0 0 8 2\npost_thread 2 WM_APP r 0\nget 0 0 0\nend\nthread\nregister people buyer 0\ncreate people customer 0 0 0 0 2 8 4\nlet a r\nget 0 0 0\nsend gwp WM_USER 0 a\nlet b r\nsend gwp WM_CLOSE 0 0\nis_window gwp\nend\n";
+
+const SENDS_LOG: &[u8] =
+    b"log 1\n1 register shops shop 0 = value 1\n2 register people buyer 0 = value 2\n1 new_window shops counter 0 0 0 0 0 8 2 = window 16\n2 new_window people customer 0 0 0 0 2 8 4 = window 17\n1 send 16 WM_NCCREATE 0 0 = inside 1 shop\n2 send 17 WM_NCCREATE 0 0 = inside 2 buyer\n1 leave 1 = left 1\n2 leave 1 = left 2\n1 send 16 WM_CREATE 0 0 = inside 3 shop\n2 send 17 WM_CREATE 0 0 = inside 4 buyer\n1 leave 0 = left 3\n2 leave 0 = left 4\n1 post_thread 2 WM_APP 16 0 = posted 1\n2 get 0 0 0 = got posted 1 0 WM_APP 16 0 0 0 0\n1 get 0 0 0 = wait\n2 send 16 WM_USER 0 17 = begun 5\n1 get 0 0 0 = enter 5 shop 16 WM_USER 0 17\n2 await 5 = wait\n1 send 17 WM_USER 0 0 = begun 6\n2 await 5 = enter 6 buyer 17 WM_USER 0 0\n1 await 6 = wait\n2 leave 3 = left 6\n1 await 6 = done 3 proc\n2 await 5 = wait\n1 leave 6 = left 5\n2 await 5 = done 6 proc\n1 get 0 0 0 = wait\n2 send 16 WM_CLOSE 0 0 = begun 7\n1 get 0 0 0 = enter 7 shop 16 WM_CLOSE 0 0\n2 await 7 = wait\n1 doom 16 = ok\n1 unmake 16 = tell 16\n1 send 16 WM_DESTROY 0 0 = inside 8 shop\n1 post_quit 0 = ok\n1 leave 0 = left 8\n1 unmake 16 = last 16\n1 send 16 WM_NCDESTROY 0 0 = inside 9 shop\n1 leave 0 = left 9\n1 drop 16 = ok\n1 unmake 16 = gone\n1 leave 0 = left 7\n2 await 7 = done 0 proc\n1 get 0 0 0 = got quit 0 0 WM_QUIT 0 0 0 0 0\n2 is_window 16 = value 0\n1 end_thread = ended\n2 end_thread = ended\nend done\nsends begun 9 entered 9 proc 9 reply 0 loss 0 timeout 0 open 0\n";
+
 const COUNTS: &[u8] = b"sends begun 0 entered 0 proc 0 reply 0 loss 0 timeout 0 open 0\n";
 
 /// Whether a text is read as a log of the script.
@@ -190,5 +197,15 @@ fn texts(rt: HostRuntime) -> Result<(), Fail> {
     ] {
         assert!(rt; !is_read(alloc, text)?);
     }
+    Ok(())
+}
+
+#[test]
+fn printed_log(rt: HostRuntime) -> Result<(), Fail> {
+    let script = script_text::read(rt.alloc(), SENDS)?;
+    let log = read_log(rt.alloc(), &script, SENDS_LOG)?;
+    assert_eq!(rt; log.entries().len(), 46);
+    assert_eq!(rt; log.end(), End::Done);
+    assert_eq!(rt; log.extras().len(), 0);
     Ok(())
 }

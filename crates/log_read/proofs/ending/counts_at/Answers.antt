@@ -1,4 +1,4 @@
-use Rattle.std.proofs.Common.{◌≡◌, refl}
+use Rattle.std.proofs.Common.{refl}
 use Rattle.log_read.specs.Words.{counts_words}
 use Rattle.log_read.proofs.EntryParts.{count_read}
 use Rattle.log_read.proofs.OneLog.{counts_of}

@@ -1,4 +1,4 @@
-use Rattle.std.proofs.Common.{◌≡◌, List, ℕ, [], ◌∷◌, ◌++◌, Option, Some, ap, sym, ◌∙◌, subst, drop, ◌+◌}
+use Rattle.std.proofs.Common.{List, [], ◌∷◌, ◌++◌, Option, Some, ap, sym, ◌∙◌, subst, drop, ◌+◌}
 use Rattle.std.specs.Prelude.{map}
 use Rattle.log_read.specs.declared.log.Extra.{Extra}
 use Rattle.script_lines.specs.LineReading.{split_at}

@@ -1,5 +1,5 @@
-use Rattle.std.proofs.Common.{◌≡◌, Some, None, ap, sym, ◌∙◌}
-use Rattle.call_table.specs.Calls.{call_name, call_parts}
+use Rattle.std.proofs.Common.{ap, sym, ◌∙◌}
+use Rattle.call_table.specs.Calls.{call_name}
 use Rattle.log_read.proofs.EntryParts.{call_here, call_read}
 use Rattle.log_read.proofs.OneLog.{some_same}
 use Rattle.log_read.proofs.entries.call_at.Goals as goal

@@ -1,4 +1,4 @@
-use Rattle.std.proofs.Common.{◌≡◌, List, ℕ, [], ◌∷◌, ◌++◌, Option, Some, ap, sym, ◌∙◌, subst, drop, ◌+◌}
+use Rattle.std.proofs.Common.{List, [], ◌∷◌, ◌++◌, Option, Some, ap, sym, ◌∙◌, subst, drop, ◌+◌}
 use Rattle.std.specs.Prelude.{map}
 use Rattle.user_model.specs.declared.entry.Entry.{Entry}
 use Rattle.script_lines.specs.LineReading.{split_at}

@@ -1,4 +1,4 @@
-use Rattle.std.proofs.Common.{◌≡◌, ap, ◌∙◌, arith}
+use Rattle.std.proofs.Common.{ap, ◌∙◌, arith}
 use Rattle.std.specs.Prelude.{map}
 use Rattle.log_read.proofs.LogParts.{log_texts, enough, inner_lines, last_line, ok_then}
 use Rattle.log_read.proofs.parser.parse.Goals as goal

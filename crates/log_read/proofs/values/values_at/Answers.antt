@@ -1,4 +1,4 @@
-use Rattle.std.proofs.Common.{ap, sym, ◌∙◌, [], ◌∷◌, length, arith}
+use Rattle.std.proofs.Common.{ap, ◌∙◌, [], ◌∷◌, length, arith}
 use Rattle.std.proofs.lemmas.List.{length-append}
 use Rattle.log_read.specs.Limits.{IsValue}
 use Rattle.log_read.specs.Reading.{value_at}
