@@ -1,7 +1,9 @@
 -- The statuses of the program.
-use Rattle.std.specs.Prelude.{ℕ}
+use Rattle.std.specs.Prelude.{ℕ, Result, Ok, Err}
 use Rattle.log_text.specs.declared.end.End.{End}
 use Rattle.log_text.specs.declared.end.End.TheVariants as ends
+use Rattle.log_text.specs.declared.writer.WriteFault.{WriteFault}
+use Rattle.log_text.specs.declared.writer.WriteFault.TheVariants.{Write, Memory as OutOfMemory}
 use Rattle.user_app.specs.declared.status.Status.{Status}
 use Rattle.user_app.specs.declared.status.Status.TheVariants as statuses
 
@@ -22,3 +24,9 @@ status_of ends.Done = statuses.Done
 status_of ends.Stuck = statuses.Stuck
 status_of ends.Spent = statuses.Spent
 status_of ends.Cut = statuses.Spent
+
+-- the status where a text was written whole, or by a fault in part
+abbrev pub written_status : Result (Unit {0}) WriteFault → End → Status
+written_status (Ok u) end = status_of end
+written_status (Err Write) end = statuses.WriteFault
+written_status (Err OutOfMemory) end = statuses.Memory

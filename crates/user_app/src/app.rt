@@ -11,8 +11,8 @@ ghost use Rattle.user_app.specs.Outcomes.{Ran, RunEnds, MakeEnds, ReadNoScript, 
 
 use crate::made::made_script;
 use crate::request::{Request, read_words};
-use crate::status::{Status, end_status};
-use log_text::{WriteFault, write_log, write_summary};
+use crate::status::{Status, written_status};
+use log_text::{write_log, write_summary};
 use script_text::{ReadFault, SCRIPT_LIMIT, read};
 use script_tree::Script;
 use std::alloc::{AllocError, Global};
@@ -128,11 +128,8 @@ fn run<K: Sink>(alloc: Global, script: &Script, sink: &mut K) -> Status
         return Status::Memory;
     };
     runs_answer_their_sends();
-    match write_log(alloc, script, &user, end, sink) {
-        Ok(()) => end_status(end),
-        Err(WriteFault::Write) => Status::WriteFault,
-        Err(WriteFault::Memory) => Status::Memory,
-    }
+    let outcome = write_log(alloc, script, &user, end, sink);
+    written_status(outcome, end)
 }
 
 /// Runs the script that is made from a number, and writes the summary of its run.
@@ -151,9 +148,6 @@ fn run_made<K: Sink>(alloc: Global, number: u32, sink: &mut K) -> Status
     let Ok((user, end)) = run_listed(alloc, &script, user) else {
         return Status::Memory;
     };
-    match write_summary(alloc, number, &user, end, sink) {
-        Ok(()) => end_status(end),
-        Err(WriteFault::Write) => Status::WriteFault,
-        Err(WriteFault::Memory) => Status::Memory,
-    }
+    let outcome = write_summary(alloc, number, &user, end, sink);
+    written_status(outcome, end)
 }

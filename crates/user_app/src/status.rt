@@ -1,9 +1,9 @@
 //! How the program ends.
 
 ghost use Rattle.std.specs.Prelude.{◌≡◌, ◌≢◌};
-ghost use Rattle.user_app.specs.Statuses.{number_of, status_of};
+ghost use Rattle.user_app.specs.Statuses.{number_of, status_of, written_status};
 
-use log_text::End;
+use log_text::{End, WriteFault};
 
 /// How the program ends.
 #[derive(Clone, Copy, Debug, PartialEq, Eq)]
@@ -45,7 +45,7 @@ impl Status {
 }
 
 /// The status of a run that is over, and whose text was written.
-pub fn end_status(end: End) -> Status
+fn end_status(end: End) -> Status
     requires { end ≢ End.Cut }
     ensures { result ≡ status_of end }
 {
@@ -54,5 +54,17 @@ pub fn end_status(end: End) -> Status
         End::Stuck => Status::Stuck,
         End::Spent => Status::Spent,
         End::Cut => unreachable!(),
+    }
+}
+
+/// The status of a run whose text was written, as far as that went.
+pub fn written_status(outcome: Result<(), WriteFault>, end: End) -> Status
+    requires { end ≢ End.Cut }
+    ensures { result ≡ written_status outcome end }
+{
+    match outcome {
+        Ok(()) => end_status(end),
+        Err(WriteFault::Write) => Status::WriteFault,
+        Err(WriteFault::Memory) => Status::Memory,
     }
 }

@@ -1,12 +1,11 @@
-use Rattle.std.proofs.Common.{inr}
-use Rattle.user_app.proofs.RunEnds.{summed, summed_part}
+use Rattle.std.proofs.Common.{◌≡◌}
+use Rattle.user_app.proofs.RunEnds.{summary_told, whole_told}
 use Rattle.user_app.proofs.app.run_made.Goals as goal
-
-pub returns-in-Ok-write_summary-clause-written : goal.returns-in-Ok-write_summary-clause-written
-returns-in-Ok-write_summary-clause-written g c =
-    summed c.args.number (g.K.Sink.holds c.args.sink.now) (g.K.Sink.holds c.write_summary.new.sink) (g.K.Sink.faults c.args.sink.now) (g.K.Sink.faults c.write_summary.new.sink) c.in-Ok.script c.in-Ok-run_listed.user.past c.in-Ok-run_listed.end c.end_status.result
-    c.in-Ok.ensures c.in-Ok-run_listed.ensures.run c.in-Ok-run_listed.ensures.end c.in-Ok-run_listed.ensures.over c.in-Ok-write_summary.ensures.ok c.end_status.ensures
 
 pub returns-clause-written : goal.returns-clause-written
 returns-clause-written g c =
-    inr (summed_part c.args.number (g.K.Sink.holds c.args.sink.now) (g.K.Sink.holds c.write_summary.new.sink) c.in-Ok.script c.in-Ok-run_listed.user.past c.in-Ok-run_listed.end c.in-Ok.ensures c.in-Ok-run_listed.ensures.run c.in-Ok-run_listed.ensures.end c.in-Err-Memory.ensures.err)
+    summary_told c.write_summary-outcome.result c.args.number (g.K.Sink.holds c.args.sink.now) (g.K.Sink.holds c.write_summary-outcome.new.sink) (g.K.Sink.faults c.args.sink.now) (g.K.Sink.faults c.write_summary-outcome.new.sink) c.in-Ok.script c.in-Ok-run_listed.user.past c.in-Ok-run_listed.end c.written_status.result
+    c.in-Ok.ensures c.in-Ok-run_listed.ensures.run c.in-Ok-run_listed.ensures.end c.in-Ok-run_listed.ensures.over c.write_summary-outcome.ensures.ok c.write_summary-outcome.ensures.err c.write_summary-outcome.ensures.failed c.written_status.ensures
+
+pub returns-clause-whole : goal.returns-clause-whole
+returns-clause-whole g c = λ whole. whole_told c.write_summary-outcome.result c.in-Ok-run_listed.end c.written_status.result (g.K.Sink.faults c.write_summary-outcome.new.sink ≡ g.K.Sink.faults c.args.sink.now) c.written_status.ensures whole c.write_summary-outcome.ensures.unfailed
