@@ -5,6 +5,7 @@ use crate::io::{MemSink, MemSource};
 use crate::refusing::Refusing;
 use script_proc::{Program, Turn, Worker};
 use script_text::read;
+use script_tree::Script;
 use std::alloc::{AllocError, Global};
 use std::test::Fail;
 use user_core::User;
@@ -116,6 +117,27 @@ fn runs(rt: HostRuntime) -> Result<(), Fail> {
     Ok(())
 }
 
+/// Three turns of the first thread of a script.
+fn three_turns(
+    alloc: Global,
+    script: &Script,
+    teller: &mut Alone<User>,
+) -> Result<[Turn; 3], AllocError> {
+    let program = Program::new(alloc, script)?;
+    let mut worker = Worker::new(alloc, &program, 1)?;
+    let first = worker.turn(&program, teller)?;
+    let second = worker.turn(&program, teller)?;
+    let third = worker.turn(&program, teller)?;
+    Ok([first, second, third])
+}
+
+/// The same at a machine of its own.
+fn turns_alone(alloc: Global, script: &Script) -> Result<[Turn; 3], AllocError> {
+    let machine = User::new(alloc, Setup::new(2, 8, 4))?;
+    let mut teller = Alone { machine };
+    three_turns(alloc, script, &mut teller)
+}
+
 #[test]
 fn turns_of_a_thread(rt: HostRuntime) -> Result<(), Fail> {
     let alloc: Global = rt.alloc();
@@ -125,34 +147,51 @@ fn turns_of_a_thread(rt: HostRuntime) -> Result<(), Fail> {
         (ONE_PASS, [Turn::Went, Turn::Spent, Turn::Spent]),
     ];
     for (text, turns) in cases {
-        let machine = User::new(alloc, Setup::new(2, 8, 4))?;
-        let mut teller = Alone { machine };
         let script = read(alloc, text).expect(&rt, "a script");
-        let program = Program::new(alloc, &script)?;
-        let mut worker = Worker::new(alloc, &program, 1)?;
-        for turn in turns {
-            assert_eq!(rt; worker.turn(&program, &mut teller)?, turn);
-        }
+        let told = turns_alone(alloc, &script)?;
+        assert_eq!(rt; told, turns);
     }
     Ok(())
 }
 
-#[test]
-fn a_turn_without_memory_is_tried_again(rt: HostRuntime) -> Result<(), Fail> {
-    let alloc: Global = rt.alloc();
+/// Whether the first turn wants memory, the entries after it, two more turns, and the entries after them.
+fn wanting_turns(
+    alloc: Global,
+    script: &Script,
+    teller: &mut Refusing,
+) -> Result<(bool, usize, [Turn; 2], usize), AllocError> {
+    let program = Program::new(alloc, script)?;
+    let mut worker = Worker::new(alloc, &program, 1)?;
+    let wants = worker.turn(&program, teller).is_err();
+    let before = teller.teller.machine.history().len();
+    let first = worker.turn(&program, teller)?;
+    let second = worker.turn(&program, teller)?;
+    let after = teller.teller.machine.history().len();
+    Ok((wants, before, [first, second], after))
+}
+
+/// The same at a machine whose first turn wants memory.
+fn turns_refused(
+    alloc: Global,
+    script: &Script,
+) -> Result<(bool, usize, [Turn; 2], usize), AllocError> {
     let machine = User::new(alloc, Setup::new(1, 8, 4))?;
     let mut teller = Refusing {
         teller: Alone { machine },
         refuses: true,
     };
+    wanting_turns(alloc, script, &mut teller)
+}
+
+#[test]
+fn a_turn_without_memory_is_tried_again(rt: HostRuntime) -> Result<(), Fail> {
+    let alloc: Global = rt.alloc();
     let script = read(alloc, ONE_END).expect(&rt, "a script");
-    let program = Program::new(alloc, &script)?;
-    let mut worker = Worker::new(alloc, &program, 1)?;
-    assert!(rt; worker.turn(&program, &mut teller).is_err());
-    assert_eq!(rt; teller.teller.machine.history().len(), 0usize);
-    assert_eq!(rt; worker.turn(&program, &mut teller)?, Turn::Went);
-    assert_eq!(rt; worker.turn(&program, &mut teller)?, Turn::Ended);
-    assert_eq!(rt; teller.teller.machine.history().len(), 1usize);
+    let (wants, before, turns, after) = turns_refused(alloc, &script)?;
+    assert!(rt; wants);
+    assert_eq!(rt; before, 0usize);
+    assert_eq!(rt; turns, [Turn::Went, Turn::Ended]);
+    assert_eq!(rt; after, 1usize);
     Ok(())
 }
 
