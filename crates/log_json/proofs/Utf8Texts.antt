@@ -34,7 +34,7 @@ use Rattle.log_json.specs.Texts.{IsText, AreTexts}
 -- ---- words and numbers
 
 -- all bytes are ASCII, as a test
-abbrev is_plain : List ℕ → Bool
+abbrev pub is_plain : List ℕ → Bool
 is_plain = list_all (λ c. nat_lt c 128)
 
 below : (c : ℕ) → nat_lt c 128 ≡ true → c < 128
@@ -43,7 +43,7 @@ below c h = grind (arith, nat_tests, h)
 byte_utf8 : (c : ℕ) → nat_lt c 128 ≡ true → IsUtf8 (c ∷ [])
 byte_utf8 c h = IsUtf8-from_ascii (c ∷ []) (IsAscii-cons c [] (below c h) IsAscii-nil)
 
-plain : (bs : List ℕ) → is_plain bs ≡ true → IsUtf8 bs
+pub plain : (bs : List ℕ) → is_plain bs ≡ true → IsUtf8 bs
 plain [] h = IsUtf8-nil
 plain (c ∷ cs) h = let two = and_parts (nat_lt c 128) (is_plain cs) h in IsUtf8-append (c ∷ []) cs (byte_utf8 c two.0) (plain cs two.1)
 

@@ -8,9 +8,11 @@
 
 mod ending;
 mod entry;
+mod laws;
 mod line;
 mod writer;
 
+pub use laws::{entry_line, names_are_texts};
 pub use writer::write_json;
 
 #[cfg(test)]
