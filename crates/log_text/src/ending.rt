@@ -28,7 +28,7 @@ pub fn put_end_line(out: &mut Vec<u8>, end: End) -> Result<(), AllocError>
 }
 
 /// Whether a thread has ended.
-fn has_ended(history: &[Entry], thread: u8) -> bool
+pub fn has_ended(history: &[Entry], thread: u8) -> bool
     ensures { result ≡ has_ended (reverse history.now) thread }
 {
     let mut ended = false;
@@ -40,8 +40,8 @@ fn has_ended(history: &[Entry], thread: u8) -> bool
     ended
 }
 
-/// The last call of a thread.
-fn last_call(history: &[Entry], thread: u8) -> Option<Call>
+/// The last call of a thread, if it has made one.
+pub fn last_call(history: &[Entry], thread: u8) -> Option<Call>
     ensures { result ≡ last_call (reverse history.now) thread }
 {
     let mut last = None;

@@ -88,7 +88,7 @@ pub fn put_call(out: &mut Vec<u8>, words: &Words, call: Call) -> Result<(), Allo
 }
 
 /// Adds an answer: its word and the values of its fields.
-fn put_answer(out: &mut Vec<u8>, words: &Words, answer: Answer) -> Result<(), AllocError>
+pub fn put_answer(out: &mut Vec<u8>, words: &Words, answer: Answer) -> Result<(), AllocError>
     ensures { OnOk result (Adds out.old.items out.new.items (answer_text words.now.script.now answer)) }
 {
     put_text(out, answer_form(answer_name(answer)).word)?;

@@ -15,8 +15,8 @@ mod words;
 mod writer;
 
 pub use end::End;
-pub use ending::{put_end_line, put_sends_line, put_spent, put_waits};
-pub use entry::put_entry;
+pub use ending::{has_ended, last_call, put_end_line, put_sends_line, put_spent, put_waits};
+pub use entry::{put_answer, put_call, put_entry};
 pub use summary::write_summary;
 pub use words::Words;
-pub use writer::{WriteFault, write_log};
+pub use writer::{WriteFault, pass_on, write_log};

@@ -50,8 +50,9 @@ impl From<WriteFailed> for WriteFault {
     }
 }
 
-/// Writes the text into the sink where it has grown large, and empties it.
-fn pass_on<K: Sink>(sink: &mut K, text: &mut Vec<u8>) -> Result<(), WriteFault>
+/// Writes the text into the sink where it has 64 KiB or more, and empties it. Where the sink fails (`Write`,
+/// only where its count of faults has risen), a front of the text was written.
+pub fn pass_on<K: Sink>(sink: &mut K, text: &mut Vec<u8>) -> Result<(), WriteFault>
     ensures ok { OnOk result (Passes (K.holds sink.old) (K.holds sink.new) text.old.items text.new.items []) }
     ensures err { OnErr result (AppendsPart (K.holds sink.old) (K.holds sink.new) text.old.items) }
     ensures faults { K.faults sink.old ≤ K.faults sink.new }

@@ -1,0 +1,4 @@
+pub mod EntryLines
+pub mod LineTexts
+pub mod NameTexts
+pub mod Utf8Texts

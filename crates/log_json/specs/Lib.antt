@@ -1,0 +1,3 @@
+pub mod Logs
+pub mod Objects
+pub mod Texts
