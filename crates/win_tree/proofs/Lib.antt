@@ -1,5 +1,6 @@
 pub mod Alone
 pub mod AloneSteps
+pub mod Copies
 pub mod Drops
 pub mod KinLists
 pub mod Marking

@@ -57,6 +57,9 @@ fn numbers_rise_and_are_refused_in_order(rt: HostRuntime) -> Result<(), Fail> {
     assert_eq!(rt; tree.unmake(Hwnd(17)), Unmade::Last(Hwnd(17)));
     assert_eq!(rt; tree.drop_one(Hwnd(17)), Ok(()));
     assert_eq!(rt; tree.drop_one(Hwnd(17)), Err(Code::Win(1400)));
+    let copy = tree.copy()?;
+    assert_eq!(rt; copy.windows(), tree.windows());
+    assert_eq!(rt; copy.last(), 17);
     assert_eq!(rt; tree.add(row(0, 0, 0)?), Ok(Hwnd(18)));
     Ok(())
 }

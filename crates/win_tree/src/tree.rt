@@ -62,6 +62,19 @@ impl Tree {
         }
     }
 
+    /// The same windows, and the same number that was given last.
+    pub fn copy(&self) -> Result<Tree, AllocError>
+        ensures { IfOk result (λ t. t ≡ self.now) }
+    {
+        let alloc = *self.numbers.allocator();
+        Ok(Tree {
+            last: self.last,
+            rows: copied(alloc, &self.rows)?,
+            numbers: Vec::from_slice(alloc, &self.numbers)?,
+            plans: Vec::new(alloc),
+        })
+    }
+
     /// Adds a window and answers its number, one above the last that was given: 16, 17 and so on, and
     /// none is given twice (Microsoft, CreateWindowEx function). A child has no owner, and an owner that
     /// is a child is replaced by its top-level ancestor. `Win(1400)` comes exactly where the parent or
@@ -372,6 +385,18 @@ impl Tree {
         }
         Hwnd(0)
     }
+}
+
+/// The same windows.
+fn copied(alloc: Global, windows: &Rows) -> Result<Rows, AllocError>
+    requires { RisesFrom 0 windows.now }
+    ensures { IfOk result (λ copy. copy ≡ windows.now) }
+{
+    let mut copy = Rows::new(alloc);
+    for i in 0..windows.len() {
+        copy.push(*windows.at(i))?;
+    }
+    Ok(copy)
 }
 
 /// The first step of x's destruction that wasn't given.
