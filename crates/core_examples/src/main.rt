@@ -1,8 +1,10 @@
 //! Worked examples of the parts below the machine: a state without entries, asked by each call that asks nothing of an entry, and a
-//! post and a send by the calls of delivery, and a window that is made and found. What each answered is written.
+//! post and a send by the calls of delivery, a window that is made and found, and the
+//! pixels that windows own. What each answered is written.
 #![tactic(auto)]
 
 mod deliveries;
+mod regions;
 mod states;
 mod windows;
 
@@ -29,8 +31,15 @@ fn tell_windows(rt: &impl Print, alloc: Global) -> anyhow::Result<()> {
     windows::tell_window(rt, &mut state)
 }
 
+/// The pixels that windows own.
+fn tell_regions(rt: &impl Print, alloc: Global) -> anyhow::Result<()> {
+    let mut state = CoreState::new(alloc, Setup::new(1, 8, 4))?;
+    regions::tell_regions(rt, &mut state)
+}
+
 fn main(rt: HostRuntime) -> anyhow::Result<()> {
     tell_state(&rt, rt.alloc())?;
     tell_deliveries(&rt, rt.alloc())?;
-    tell_windows(&rt, rt.alloc())
+    tell_windows(&rt, rt.alloc())?;
+    tell_regions(&rt, rt.alloc())
 }

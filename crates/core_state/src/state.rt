@@ -1,6 +1,6 @@
 //! The history, and the parts that stand for it.
 
-ghost use Rattle.std.specs.Prelude.{◌≡◌, ◌<◌, ◌≤◌, ◌+◌, ◌&&◌, [], ◌∷◌, length, nat_le, reverse, All, true, false, IfOk, OnOk, OnErr, Some, is_some, option_and_then, option_map};
+ghost use Rattle.std.specs.Prelude.{◌≡◌, ◌==◌, ◌<◌, ◌≤◌, ◌+◌, ◌&&◌, option_copied, unwrap_or, [], ◌∷◌, length, nat_le, reverse, All, true, false, IfOk, OnOk, OnErr, Some, is_some, option_and_then, option_map};
 ghost use Rattle.win_num.specs.Clocks.{clock_limit};
 ghost use Rattle.user_model.specs.Legal.{IsLegal};
 ghost use Rattle.user_model.specs.Past.{is_full};
@@ -21,7 +21,10 @@ ghost use Rattle.core_state.specs.Frames.{IsOnTop, wait_end};
 ghost use Rattle.user_model.specs.Windows.{live, window, is_live, parent_in, thread_of, up, next_top};
 ghost use Rattle.user_model.specs.Looks.{look, placed, is_shown};
 ghost use Rattle.user_model.specs.ZOrder.{titled};
-ghost use Rattle.user_model.specs.Pixels.{owner, point};
+ghost use Rattle.user_model.specs.Pixels.{owner, point, screen};
+ghost use Rattle.win_num.specs.declared.shapes.Point.{Point};
+ghost use Rattle.win_num.specs.PixelSets.{has_pixel};
+ghost use Rattle.screen_state.specs.Owned.{told_has};
 ghost use Rattle.user_model.specs.Refusals.{is_no_rect};
 ghost use Rattle.window_state.specs.Placings.{box_of};
 ghost use Rattle.user_model.specs.Destruction.{is_marked, was_given, ended};
@@ -35,12 +38,15 @@ use crate::delivery::Stamp;
 use crate::queues::{count_after, note_entry, time_after};
 use crate::sendings::take_effect_on_sends;
 use send_state::{SendRow, SendState, Tally, add_story, first_cause, named_send, note_answer};
+use band_region::Region;
 use std::alloc::{AllocError, Global};
 use std::marker::Model;
 use thread_state::ThreadState;
 use user_model::{Answer, Call, Entry, HISTORY_LIMIT, SendCount, SendStory, Setup};
 use win_class::Classes;
 use win_num::{Cause, Filter, Frame, Hwnd, Msg, Point, SendId, Thread};
+use screen_owners::Owners;
+use screen_state::{first_owners, owners_after};
 use win_order::Order;
 use win_tree::Tree;
 use window_state::{
@@ -55,6 +61,8 @@ pub struct CoreState {
     history: Vec<Entry>,
     tree: Tree,
     order: Order,
+    /// The pixels of the screen that windows own.
+    owners: Owners,
     classes: Classes,
     /// What is kept of each thread, from thread 1 on.
     threads: Vec<ThreadState>,
@@ -76,7 +84,7 @@ impl Model for CoreState {
 
     ghost view = { λ s. record { setup = s.setup; past = reverse s.history.items } };
 
-    ghost invariant = { λ s. Stands s.setup (reverse s.history.items) (parts s.tree s.order s.classes s.threads.items s.post_count s.time s.sends s.tally s.stories.items) };
+    ghost invariant = { λ s. Stands s.setup (reverse s.history.items) (parts s.tree s.order s.owners s.classes s.threads.items s.post_count s.time s.sends s.tally s.stories.items) };
 }
 
 impl CoreState {
@@ -90,6 +98,7 @@ impl CoreState {
             history: Vec::new(alloc),
             tree: Tree::new(alloc),
             order: Order::new(alloc),
+            owners: first_owners(alloc, setup)?,
             classes: Classes::new(alloc),
             threads: fresh_threads(alloc, setup.threads)?,
             post_count: 0,
@@ -494,6 +503,14 @@ impl CoreState {
         owner_at(&self.tree, &self.order, width, height, x, y)
     }
 
+    /// The pixels of the screen that a window owns, or for 0 those that no window owns. None comes where it
+    /// owns none.
+    pub fn owned_region(&self, w: Hwnd) -> Option<&Region>
+        ensures { (p : Point) → told_has (option_copied result) p ≡ (has_pixel (screen self.now.setup) p && ((owner self.now.setup self.now.past p).0 == w.0)) }
+    {
+        self.owners.region_of(w)
+    }
+
     /// How many windows are live.
     pub fn window_count(&self) -> usize
         ensures { result ≡ length (live self.now.past) }
@@ -568,6 +585,15 @@ impl CoreState {
         let cursor = self.cursor();
         let named = named_send(&self.sends, entry);
         let first = first_cause(&self.sends, named);
+        let alloc = *self.history.allocator();
+        let owners = owners_after(
+            alloc,
+            self.setup,
+            &self.tree,
+            &self.order,
+            &self.owners,
+            entry,
+        )?;
         self.history.reserve(1)?;
         self.stories.reserve(1)?;
         let place = self.history.len() as u32;
@@ -601,12 +627,22 @@ impl CoreState {
             &mut self.threads,
             entry,
         );
+        take_over(&mut self.owners, owners);
         note_entry(&mut self.threads, entry);
         self.post_count = count_after(self.post_count, entry.answer);
         self.time = time_after(self.time, entry);
         self.tally = self.tally.with(entry.answer, first, lost);
         self.history.push(entry).unwrap();
         Ok(())
+    }
+}
+
+/// Takes over the regions after an entry, where they came.
+fn take_over(owners: &mut Owners, after: Option<Owners>)
+    ensures { owners.new ≡ unwrap_or after owners.old }
+{
+    if let Some(after) = after {
+        *owners = after;
     }
 }
 

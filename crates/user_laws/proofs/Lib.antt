@@ -3,7 +3,6 @@ pub mod Forest
 pub mod KeptByRefusals
 pub mod LastLooks
 pub mod Once
-pub mod PixelLaws
 pub mod ReadyOrder
 pub mod Rows
 pub mod Standing

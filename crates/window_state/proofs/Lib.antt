@@ -13,6 +13,7 @@ pub mod OrdersLeft
 pub mod OrdersMade
 pub mod OrdersPlaced
 pub mod Outcomes
+pub mod PixelLaws
 pub mod PixelOwners
 pub mod Procs
 pub mod Reversed

@@ -94,7 +94,16 @@ rearranged_none past q (calls.Place v after l t r b flags) (answers.Value n) ws 
 rearranged_none past q (calls.Place v after l t r b flags) _ ws h all = refl
 rearranged_none past q _ a ws h all = all
 
--- any other entry leaves the order
+-- any other entry leaves the live windows
+pub live_rest : (setup : Setup) (past : Past) (e : Entry) → e.answer ≡ reply setup past e.who.0 e.call → changes_order e.call e.answer ≡ false → live (e ∷ past) ≡ live past
+live_rest setup past e right h = pick (is_refused e) refl
+  where
+    pick : (b : Bool) → is_refused e ≡ b → live (e ∷ past) ≡ live past
+    pick true refused = live-refused e past refused
+    pick false fine = live-same e past (makes_none e.who.0 e.call e.answer (live past) h)
+        (λ x. or_from (drops_kin e.call (live past) x) (ends_thread e x.thread) (drops_none setup past e.who.0 e.call e.answer (live past) x right fine h) (ends_none e.who e.call e.answer x.thread h))
+
+-- and the order
 pub order_rest : (setup : Setup) (past : Past) (e : Entry) (z : Layers) → IsOrderAt past z → e.answer ≡ reply setup past e.who.0 e.call → changes_order e.call e.answer ≡ false → IsOrderAt (e ∷ past) z
 order_rest setup past e z at right h = pick (is_refused e) refl
   where
@@ -105,8 +114,7 @@ order_rest setup past e z at right h = pick (is_refused e) refl
       kept = at.kept;
     }
     pick false fine =
-        let same : live (e ∷ past) ≡ live past = live-same e past (makes_none e.who.0 e.call e.answer (live past) h)
-        (λ x. or_from (drops_kin e.call (live past) x) (ends_thread e x.thread) (drops_none setup past e.who.0 e.call e.answer (live past) x right fine h) (ends_none e.who e.call e.answer x.thread h)) in
+        let same : live (e ∷ past) ≡ live past = live_rest setup past e right h in
         let all : (q : ℕ) → still_live (e ∷ past) (siblings past q) ≡ siblings past q = λ q.
         ap (still_live (e ∷ past)) (sym (at.lists q))
         ∙ (keep_all (λ (v : Hwnd). is_live (e ∷ past) v.0) (siblings_of q z)

@@ -1,4 +1,4 @@
-use Rattle.user_laws.proofs.PixelLaws.{owner_has, pixel_owned}
+use Rattle.window_state.proofs.PixelLaws.{owner_has, pixel_owned}
 use Rattle.user_laws.proofs.ranks.owners_have_their_pixels.Goals as goal
 
 pub returns : goal.returns

@@ -8,20 +8,22 @@ use Rattle.win_num.specs.declared.shapes.Point.{Point}
 use Rattle.win_num.specs.PixelSets.{has_pixel}
 use Rattle.win_order.specs.Kept.{is_child}
 use Rattle.win_order.specs.Layers.{Layers, siblings_of}
+use Rattle.win_order.specs.Standings.{parent_of}
 use Rattle.win_order.proofs.Booleans.{all_one, and_left, and_right, any_one}
 use Rattle.win_order.proofs.ChildLaws.{each_child}
+use Rattle.win_order.proofs.KeptLaws.{lone_child}
 use Rattle.win_order.proofs.StandingLaws.{child_among}
 use Rattle.user_model.specs.declared.entry.Setup.{Setup}
 use Rattle.user_model.specs.Legal.{IsLawful}
 use Rattle.user_model.specs.Past.{Past}
 use Rattle.user_model.specs.Pixels.{covers, deepest, highest, owner, screen}
-use Rattle.user_model.specs.Windows.{Window, is_live, live, parent_in, window}
+use Rattle.user_model.specs.Windows.{Window, find_window, is_live, live, parent_in, window}
 use Rattle.user_model.specs.ZOrder.{hwnd, siblings}
 use Rattle.user_model.proofs.WindowFacts.{live_window, too_low}
 use Rattle.window_state.specs.Orders.{IsOrderAt}
 use Rattle.window_state.proofs.OrderSteps.{order_of}
 use Rattle.window_state.proofs.Reversed.{all_rev, any_rev, found_any}
-use Rattle.window_state.proofs.Standings.{listed_at, parent_found, stands_at}
+use Rattle.window_state.proofs.Standings.{listed_at, parent_at, parent_found, stands_at}
 use Rattle.window_state.proofs.TreeFacts.{found_passes}
 
 found_all : {X : Type 0} (f r : X → Bool) (xs : List X) (x : X) → find f xs ≡ Some x → list_all r xs ≡ true → r x ≡ true
@@ -33,7 +35,7 @@ found_all {X = X} f r (y ∷ xs) x e all = pick (λ k. found_all f r xs x k (and
     pick rest false k = rest k
 
 -- a live window that is visible and has the pixel
-abbrev Has : Past → Point → Hwnd → Type 0
+abbrev pub Has : Past → Point → Hwnd → Type 0
 Has past p w = (is_live past w.0 ≡ true) × (covers past p w ≡ true)
 
 -- the highest child that has the pixel
@@ -113,3 +115,45 @@ pixel_owned setup past p w lawful lives top has on_screen none =
         let zero_is : (deepest (length ws) past p v).0 ≡ 0 = ap (λ (u : Hwnd). u.0) (sym (owner_is (x ∷ ws) k ∙ first)) ∙ none in
         let dead : is_live past (deepest (length ws) past p v).0 ≡ false = ap (is_live past) zero_is ∙ ap (λ o. is_some o) (too_low setup past 0 lawful (omega arith)) in
         false≢true (sym dead ∙ there.0)
+
+-- where a pixel has an owner, a top-level window has it
+pub record HasTop (past : Past) (p : Point) : Type 0 where
+  pub window : Hwnd
+  pub found : Window
+  pub lives : find_window (live past) window.0 ≡ Some found
+  pub is_top : found.parent ≡ 0
+  pub has : covers past p window ≡ true
+
+-- a live child of q has q as its parent
+pub parent_listed : (past : Past) (z : Layers) → IsOrderAt past z → (q : ℕ) (v : Hwnd) (x : Window) → is_child v.0 q z.standings ≡ true → window past v.0 ≡ Some x → x.parent ≡ q
+parent_listed past z at q v x child e =
+    sym (parent_at past z at v.0 x e) ∙ pick (eqb (parent_of z.standings v.0).0 q) refl
+  where
+    pick : (b : Bool) → eqb (parent_of z.standings v.0).0 q ≡ b → (parent_of z.standings v.0).0 ≡ q
+    pick true h = eqb-true (parent_of z.standings v.0).0 q h
+    pick false h = absurd (false≢true (sym (lone_child z.standings at.kept.older v.0 q h) ∙ child))
+
+highest_top : (past : Past) (z : Layers) → IsOrderAt past z → (p : Point) (v : Hwnd) → highest past p 0 ≡ Some v → HasTop past p
+highest_top past z at p v e =
+    let has = highest_has past z at p 0 v e in
+    let found = live_window past v.0 has.0 in
+    let child : is_child v.0 0 z.standings ≡ true = found_all (covers past p) (λ u. is_child u.0 0 z.standings) (reverse (siblings past 0)) v e
+    (all_rev (λ (u : Hwnd). is_child u.0 0 z.standings) (siblings past 0) ∙ (ap (list_all (λ (u : Hwnd). is_child u.0 0 z.standings)) (sym (at.lists 0)) ∙ each_child z at.kept 0)) in
+    record { window = v; found = found.0; lives = found.1; is_top = parent_listed past z at 0 v found.0 child found.1; has = has.1 }
+
+pub top_has : (setup : Setup) (past : Past) (p : Point) → IsLawful setup past → (owner setup past p).0 ≢ 0 → HasTop past p
+top_has setup past p lawful some = by (live past) refl (highest past p 0) refl
+  where
+    order : (z : Layers) × IsOrderAt past z
+    order = order_of setup past lawful
+
+    on_screen : has_pixel (screen setup) p ≡ true
+    on_screen = (owner_has setup past p lawful some).1
+
+    owner_is : (ws : List Window) → live past ≡ ws → owner setup past p ≡ deepest (length ws) past p (hwnd 0)
+    owner_is ws k = ap (λ c. cond c (deepest (length (live past)) past p (hwnd 0)) (hwnd 0)) on_screen ∙ ap (λ us. deepest (length us) past p (hwnd 0)) k
+
+    by : (ws : List Window) → live past ≡ ws → (o : Option Hwnd) → highest past p 0 ≡ o → HasTop past p
+    by [] k o e = absurd (some (ap (λ (u : Hwnd). u.0) (owner_is [] k)))
+    by (x ∷ ws) k None e = absurd (some (ap (λ (u : Hwnd). u.0) (owner_is (x ∷ ws) k ∙ ap (λ o. elim o as (λ c. Hwnd) [ Some u ↦ deepest (length ws) past p u | None ↦ hwnd 0 ]) e)))
+    by (x ∷ ws) k (Some v) e = highest_top past order.0 order.1 p v e

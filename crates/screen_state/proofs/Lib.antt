@@ -1,0 +1,4 @@
+pub mod Entered
+pub mod Followed
+pub mod OwnersKept
+pub mod QuietEntries
