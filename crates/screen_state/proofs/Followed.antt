@@ -32,14 +32,13 @@ use Rattle.window_state.specs.Orders.{IsOrderAt}
 use Rattle.window_state.specs.Trees.{IsTreeAt, as_made}
 use Rattle.window_state.proofs.LookSteps.{fits_looking}
 use Rattle.window_state.proofs.NewWindows.{doom_not_refused, drop_not_refused}
-use Rattle.window_state.proofs.OrderNeeds.{fits_order, fits_order_effect}
+use Rattle.window_state.proofs.OrderNeeds.{fits_order, fits_order_effect, ordered_at}
 use Rattle.window_state.proofs.OrderSteps.{changes_order, live_rest, order_after, order_rest}
-use Rattle.window_state.proofs.PixelLaws.{parent_listed}
 use Rattle.window_state.proofs.PixelOwners.{owner_at_past}
-use Rattle.window_state.proofs.TreeFacts.{window_at}
 use Rattle.window_state.proofs.TreeNeeds.{fits_making, fits_unmaking}
 use Rattle.window_state.proofs.TreeSteps.{tree_after}
 use Rattle.screen_owners.specs.declared.owners.Owned.{Owned}
+use Rattle.screen_owners.proofs.Children.{listed_children}
 use Rattle.screen_owners.specs.Owners.{AreChildren, AreOwners, IsChildOf, entry_of, owned_region, region_in}
 use Rattle.screen_state.specs.Entries.{FitsEntry, FitsTable, IsEntered}
 use Rattle.screen_state.specs.Owned.{AreOwnersAt, FollowsOwners, IsNext, keeps_owners, told_has}
@@ -66,22 +65,6 @@ entry_fits setup t z e n = record {
   effect = fits_order_effect setup n.past t z e.who e.answer e.call n.lawful n.tree n.order n.right;
 }
 
--- ---- listed children
-
-children_listed : (past : Past) (t : Windows) (z : Layers) → IsTreeAt past t → IsOrderAt past z → (w : ℕ) (vs : List Hwnd) → list_all (λ v. is_child v.0 w z.standings) vs ≡ true → All (IsChildOf t.live w) vs
-children_listed past t z tree order w [] h = All-nil (IsChildOf t.live w)
-children_listed past t z tree order w (v ∷ vs) h = by (children_listed past t z tree order w vs) (is_child v.0 w z.standings) refl h
-  where
-    child : is_child v.0 w z.standings ≡ true → IsChildOf t.live w v
-    child k x found = parent_listed past z order w v (as_made x) k (window_at past t tree v.0 ∙ ap (option_map as_made) found)
-
-    by : (list_all (λ u. is_child u.0 w z.standings) vs ≡ true → All (IsChildOf t.live w) vs) → (b : Bool) → is_child v.0 w z.standings ≡ b → (b && list_all (λ u. is_child u.0 w z.standings) vs) ≡ true → All (IsChildOf t.live w) (v ∷ vs)
-    by rest true k all = All-cons (IsChildOf t.live w) v vs (child k) (rest all)
-    by rest false k all = absurd (false≢true all)
-
-pub listed_children : (past : Past) (t : Windows) (z : Layers) → IsTreeAt past t → IsOrderAt past z → AreChildren t.live z
-listed_children past t z tree order w = children_listed past t z tree order w (siblings_of w z) (each_child z order.kept w)
-
 -- ---- new regions
 
 pub of_past : (setup : Setup) (past : Past) (t : Windows) (z : Layers) (os : List Owned) → IsLawful setup past → IsTreeAt past t → IsOrderAt past z → AreOwners t.live z setup.width setup.height os → AreOwnersAt setup past os
@@ -91,7 +74,7 @@ of_past setup past t z os lawful tree order own w p = own w p ∙ ap (λ (v : Hw
 pub entered_children : (setup : Setup) (t t2 : Windows) (z z2 : Layers) (e : Entry) → IsNext setup t z e → IsEntered e.who.0 e.answer e.call t t2 z z2 → AreChildren t2.live z2
 entered_children setup t t2 z z2 e n made =
     let tree = tree_after setup n.past e t made.grown t2 n.lawful n.tree n.right made.added made.settled in
-    listed_children (e ∷ n.past) t2 z2 tree (order_after setup n.past e t made.grown t2 z made.placed z2 n.lawful n.tree tree n.order n.right made.added made.put made.left)
+    listed_children (e ∷ n.past) t2 z2 (ordered_at setup (e ∷ n.past) t2 (n.lawful, n.right) tree) tree (order_after setup n.past e t made.grown t2 z made.placed z2 n.lawful n.tree tree n.order n.right made.added made.put made.left)
 
 pub entered_follow : (setup : Setup) (t t2 : Windows) (z z2 : Layers) (e : Entry) (old new : List Owned) → IsEntered e.who.0 e.answer e.call t t2 z z2 → AreOwners t2.live z2 setup.width setup.height new → FollowsOwners setup t z e old new
 entered_follow setup t t2 z z2 e old new made own past lawful tree order right was =

@@ -125,7 +125,7 @@ pub record HasTop (past : Past) (p : Point) : Type 0 where
   pub has : covers past p window ≡ true
 
 -- a live child of q has q as its parent
-pub parent_listed : (past : Past) (z : Layers) → IsOrderAt past z → (q : ℕ) (v : Hwnd) (x : Window) → is_child v.0 q z.standings ≡ true → window past v.0 ≡ Some x → x.parent ≡ q
+parent_listed : (past : Past) (z : Layers) → IsOrderAt past z → (q : ℕ) (v : Hwnd) (x : Window) → is_child v.0 q z.standings ≡ true → window past v.0 ≡ Some x → x.parent ≡ q
 parent_listed past z at q v x child e =
     sym (parent_at past z at v.0 x e) ∙ pick (eqb (parent_of z.standings v.0).0 q) refl
   where
