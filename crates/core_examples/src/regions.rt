@@ -6,18 +6,17 @@ use std::io::Print;
 use user_model::Call;
 use win_num::{Hwnd, Thread};
 
-/// WS_VISIBLE (Microsoft, Window Styles).
-const VISIBLE: u64 = 268435456;
-
 /// HWND_TOP for the one that lies below, with its place and size as they are (Microsoft, SetWindowPos).
 const RAISE: Call = Call::Place(16, 0, 0, 0, 1, 1, 3);
 
-/// What is done: two windows, the one over a corner of the other; the lower one comes to the top; the higher
-/// one is hidden; the one that is left is destroyed.
-const STEPS: [Call; 9] = [
+/// What is done: two windows are made and shown, the one over a corner of the other; the lower one comes to
+/// the top, and is hidden; the one that is left is destroyed.
+const STEPS: [Call; 11] = [
     Call::Register(1, 0, 0),
-    Call::NewWindow(1, 2, 0, VISIBLE, 0, 0, 0, 5, 3),
-    Call::NewWindow(1, 2, 0, VISIBLE, 0, 3, 1, 8, 4),
+    Call::NewWindow(1, 2, 0, 0, 0, 0, 0, 5, 3),
+    Call::Show(16, 1),
+    Call::NewWindow(1, 2, 0, 0, 0, 3, 1, 8, 4),
+    Call::Show(17, 1),
     RAISE,
     Call::Show(16, 0),
     Call::Doom(17),
