@@ -135,10 +135,10 @@ rank_within (s ∷ ss) w = by (eqb s.window.0 w) refl (rank_within ss w)
     by true e ih = omega (arith, rank_first s ss w e)
     by false e ih = omega (arith, rank_next s ss w e, ih)
 
-abbrev Stands : List Standing → ℕ → Type 0
+abbrev pub Stands : List Standing → ℕ → Type 0
 Stands ss o = (eqb o 0 ≡ true) ⊎ (among o ss ≡ true)
 
-new_stands : (s : Standing) (ss : List Standing) → CameNew s ss → Stands ss s.owner.0
+pub new_stands : (s : Standing) (ss : List Standing) → CameNew s ss → Stands ss s.owner.0
 new_stands s ss n = by (eqb s.owner.0 0) refl
   where
     by : (b : Bool) → eqb s.owner.0 0 ≡ b → Stands ss s.owner.0
@@ -149,7 +149,7 @@ more_stands : (s : Standing) (ss : List Standing) (o : ℕ) → Stands ss o → 
 more_stands s ss o (inl e) = inl e
 more_stands s ss o (inr e) = inr (or_second (eqb s.window.0 o) (among o ss) e)
 
-stands_apart : (s : Standing) (ss : List Standing) → CameNew s ss → (o : ℕ) → Stands ss o → eqb s.window.0 o ≡ false
+pub stands_apart : (s : Standing) (ss : List Standing) → CameNew s ss → (o : ℕ) → Stands ss o → eqb s.window.0 o ≡ false
 stands_apart s ss n o (inl e) = ap (λ m. eqb s.window.0 m) (eqb-true o 0 e) ∙ not-true (eqb s.window.0 0) n.window
 stands_apart s ss n o (inr e) = apart ss s.window.0 o n.fresh e
 

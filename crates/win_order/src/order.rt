@@ -87,7 +87,7 @@ impl Order {
         ensures ok { OnOk result (self.new ≡ placed w after self.old) }
         ensures err { OnErr result (self.new ≡ self.old) }
     {
-        let standings = self.standings.pinned(w, after)?;
+        let standings = self.standings.pinned(alloc, w, after)?;
         let parent = self.standings.parent_of(w);
         relist(alloc, &mut self.families, &standings, parent, w, after)?;
         self.standings = standings;
@@ -122,6 +122,10 @@ impl Order {
         requires along { IsTrue (may_stay staying.now self.old.standings) }
         ensures { self.new ≡ kept staying.now self.old }
     {
+        if let Some(window) = self.standings.alone_gone(staying) {
+            self.remove(window);
+            return;
+        }
         self.standings.keep(staying);
         families::keep(&mut self.families, staying);
     }
