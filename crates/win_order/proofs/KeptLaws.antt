@@ -102,16 +102,16 @@ empty_kept = record { older = tt; listed = λ p w. refl; families = refl; mended
 
 -- The lists with one made anew.
 
-with_first : (p : Hwnd) (ws : List Hwnd) (f : Siblings) (fs : List Siblings) → eqb f.parent.0 p.0 ≡ true → with_windows p ws (f ∷ fs) ≡ record { parent = p; windows = ws } ∷ fs
+pub with_first : (p : Hwnd) (ws : List Hwnd) (f : Siblings) (fs : List Siblings) → eqb f.parent.0 p.0 ≡ true → with_windows p ws (f ∷ fs) ≡ record { parent = p; windows = ws } ∷ fs
 with_first p ws f fs e = rw (e, with_windows) refl
 
-with_next : (p : Hwnd) (ws : List Hwnd) (f : Siblings) (fs : List Siblings) → eqb f.parent.0 p.0 ≡ false → with_windows p ws (f ∷ fs) ≡ f ∷ with_windows p ws fs
+pub with_next : (p : Hwnd) (ws : List Hwnd) (f : Siblings) (fs : List Siblings) → eqb f.parent.0 p.0 ≡ false → with_windows p ws (f ∷ fs) ≡ f ∷ with_windows p ws fs
 with_next p ws f fs e = rw (e, with_windows) refl
 
-windows_first : (f : Siblings) (fs : List Siblings) (q : ℕ) → eqb f.parent.0 q ≡ true → windows_of (f ∷ fs) q ≡ f.windows
+pub windows_first : (f : Siblings) (fs : List Siblings) (q : ℕ) → eqb f.parent.0 q ≡ true → windows_of (f ∷ fs) q ≡ f.windows
 windows_first f fs q e = rw (e, windows_of) refl
 
-windows_next : (f : Siblings) (fs : List Siblings) (q : ℕ) → eqb f.parent.0 q ≡ false → windows_of (f ∷ fs) q ≡ windows_of fs q
+pub windows_next : (f : Siblings) (fs : List Siblings) (q : ℕ) → eqb f.parent.0 q ≡ false → windows_of (f ∷ fs) q ≡ windows_of fs q
 windows_next f fs q e = rw (e, windows_of) refl
 
 windows_same_by : (p : Hwnd) (ws : List Hwnd) (f : Siblings) (fs : List Siblings) (b : Bool) → eqb f.parent.0 p.0 ≡ b → windows_of (with_windows p ws fs) p.0 ≡ ws → windows_of (with_windows p ws (f ∷ fs)) p.0 ≡ ws

@@ -4,6 +4,7 @@ pub mod EntryLaws
 pub mod GoneLaws
 pub mod InsertLaws
 pub mod KeptLaws
+pub mod ListedLaws
 pub mod LoneLaws
 pub mod MarkLaws
 pub mod MendingLaws

@@ -29,11 +29,11 @@ filter_alike r p q same (x ∷ xs) all =
     ap (λ b. cond b (x ∷ filter p xs) (filter p xs)) (same x (and_left (r x) (list_all r xs) all))
     ∙ ap (λ l. cond (q x) (x ∷ l) l) (filter_alike r p q same xs (and_right (r x) (list_all r xs) all))
 
-map_alike : {X Y : Type 0} (r : X → Bool) (f g : X → Y) → ((x : X) → r x ≡ true → f x ≡ g x) → (xs : List X) → list_all r xs ≡ true → map f xs ≡ map g xs
+pub map_alike : {X Y : Type 0} (r : X → Bool) (f g : X → Y) → ((x : X) → r x ≡ true → f x ≡ g x) → (xs : List X) → list_all r xs ≡ true → map f xs ≡ map g xs
 map_alike r f g same [] all = refl
 map_alike r f g same (x ∷ xs) all = ap (λ y. y ∷ map f xs) (same x (and_left (r x) (list_all r xs) all)) ∙ ap (λ l. g x ∷ l) (map_alike r f g same xs (and_right (r x) (list_all r xs) all))
 
-all_kept_of : {X : Type 0} (r p : X → Bool) (xs : List X) → list_all r xs ≡ true → list_all r (filter p xs) ≡ true
+pub all_kept_of : {X : Type 0} (r p : X → Bool) (xs : List X) → list_all r xs ≡ true → list_all r (filter p xs) ≡ true
 all_kept_of r p [] all = refl
 all_kept_of r p (x ∷ xs) all = by (p x) (all_kept_of r p xs (and_right (r x) (list_all r xs) all))
   where

@@ -110,10 +110,10 @@ newest_front fs es = ap reverse (map-append standing fs es) ∙ reverse-append (
 new_front : (fs es : List (ℕ × Known)) → AllCameNew (newest_first (fs ++ es)) → AllCameNew (newest_first fs)
 new_front fs es n = new_rest (newest_first es) (newest_first fs) (subst AllCameNew (newest_front fs es) n)
 
-one_more : (es : List (ℕ × Known)) (i : ℕ) (e : ℕ × Known) → slice_get es i ≡ Some e → take (i + 1) es ≡ take i es ++ e ∷ []
-one_more es i e is =
+pub one_more : {X : Type 0} (es : List X) (i : ℕ) (e : X) → slice_get es i ≡ Some e → take (i + 1) es ≡ take i es ++ e ∷ []
+one_more {X} es i e is =
     ap (λ n. take n es) (add-one i)
-    ∙ (take-suc es i e (slice_get_within es i e is) ∙ ap (λ (x : ℕ × Known). take i es ++ x ∷ []) (get_or_from_slice_get es i e e is))
+    ∙ (take-suc es i e (slice_get_within es i e is) ∙ ap (λ (x : X). take i es ++ x ∷ []) (get_or_from_slice_get es i e e is))
 
 -- with the next of them
 pub topmost_next_one : (es : List (ℕ × Known)) (i : ℕ) (e : ℕ × Known) (ks : List ℕ) → slice_get es i ≡ Some e → AllCameNew (newest_first es) → AreTopmost ks (newest_first (take i es)) → AreTopmost (marked ks e.0 e.1) (newest_first (take (i + 1) es))

@@ -2,6 +2,7 @@ pub mod Entries
 pub mod Families
 pub mod Kept
 pub mod Layers
+pub mod Listed
 pub mod Lone
 pub mod Marks
 pub mod Mended
