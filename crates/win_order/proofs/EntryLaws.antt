@@ -135,10 +135,10 @@ rank_within (s ∷ ss) w = by (eqb s.window.0 w) refl (rank_within ss w)
     by true e ih = omega (arith, rank_first s ss w e)
     by false e ih = omega (arith, rank_next s ss w e, ih)
 
-abbrev Stands : List Standing → ℕ → Type 0
+abbrev pub Stands : List Standing → ℕ → Type 0
 Stands ss o = (eqb o 0 ≡ true) ⊎ (among o ss ≡ true)
 
-new_stands : (s : Standing) (ss : List Standing) → CameNew s ss → Stands ss s.owner.0
+pub new_stands : (s : Standing) (ss : List Standing) → CameNew s ss → Stands ss s.owner.0
 new_stands s ss n = by (eqb s.owner.0 0) refl
   where
     by : (b : Bool) → eqb s.owner.0 0 ≡ b → Stands ss s.owner.0
@@ -149,7 +149,7 @@ more_stands : (s : Standing) (ss : List Standing) (o : ℕ) → Stands ss o → 
 more_stands s ss o (inl e) = inl e
 more_stands s ss o (inr e) = inr (or_second (eqb s.window.0 o) (among o ss) e)
 
-stands_apart : (s : Standing) (ss : List Standing) → CameNew s ss → (o : ℕ) → Stands ss o → eqb s.window.0 o ≡ false
+pub stands_apart : (s : Standing) (ss : List Standing) → CameNew s ss → (o : ℕ) → Stands ss o → eqb s.window.0 o ≡ false
 stands_apart s ss n o (inl e) = ap (λ m. eqb s.window.0 m) (eqb-true o 0 e) ∙ not-true (eqb s.window.0 0) n.window
 stands_apart s ss n o (inr e) = apart ss s.window.0 o n.fresh e
 
@@ -247,19 +247,19 @@ filter_reverse p (x ∷ xs) = by (p x) refl (filter_reverse p xs)
 pub newest_filter : (q : Standing → Bool) (es : List (ℕ × Known)) → newest_first (filter (λ e. q (standing e)) es) ≡ filter q (newest_first es)
 newest_filter q es = ap reverse (sym (filter_over standing q es)) ∙ filter_reverse q (map standing es)
 
-remove_absent : (es : List (ℕ × Known)) (w : ℕ) → AllByRecursion (λ k. nat_eq w k ≡ false) (keys_of es) → filter (λ e. not (eqb e.0 w)) es ≡ es
-remove_absent [] w far = refl
-remove_absent (e ∷ es) w far = keep_first (λ d. not (eqb d.0 w)) e es (ap not (same_test w e.0 false far.0)) ∙ ap (λ (l : List (ℕ × Known)). e ∷ l) (remove_absent es w far.1)
+remove_absent : {V : Type 0} (es : List (ℕ × V)) (w : ℕ) → AllByRecursion (λ k. nat_eq w k ≡ false) (keys_of es) → filter (λ e. not (eqb e.0 w)) es ≡ es
+remove_absent {V} [] w far = refl
+remove_absent {V} (e ∷ es) w far = keep_first (λ d. not (eqb d.0 w)) e es (ap not (same_test w e.0 false far.0)) ∙ ap (λ (l : List (ℕ × V)). e ∷ l) (remove_absent es w far.1)
 
-pub remove_entry : (es : List (ℕ × Known)) (w : ℕ) → IsDistinct nat_eq (keys_of es) → shift_remove_entry (nat_eq w) es ≡ filter (λ e. not (eqb e.0 w)) es
-remove_entry [] w d = refl
-remove_entry (e ∷ es) w d = by (nat_eq w e.0) refl (remove_entry es w (IsDistinct-tail nat_eq e.0 (keys_of es) d))
+pub remove_entry : {V : Type 0} (es : List (ℕ × V)) (w : ℕ) → IsDistinct nat_eq (keys_of es) → shift_remove_entry (nat_eq w) es ≡ filter (λ e. not (eqb e.0 w)) es
+remove_entry {V} [] w d = refl
+remove_entry {V} (e ∷ es) w d = by (nat_eq w e.0) refl (remove_entry es w (IsDistinct-tail nat_eq e.0 (keys_of es) d))
   where
     by : (b : Bool) → nat_eq w e.0 ≡ b → shift_remove_entry (nat_eq w) es ≡ filter (λ d. not (eqb d.0 w)) es → shift_remove_entry (nat_eq w) (e ∷ es) ≡ filter (λ d. not (eqb d.0 w)) (e ∷ es)
     by true hit ih =
         let far : AllByRecursion (λ k. nat_eq w k ≡ false) (keys_of es) = subst (λ (n : ℕ). AllByRecursion (λ k. nat_eq n k ≡ false) (keys_of es)) (sym (eqb-true w e.0 hit)) (IsDistinct-head nat_eq e.0 (keys_of es) d) in
         rw (hit, shift_remove_entry) (sym (skip_first (λ d. not (eqb d.0 w)) e es (ap not (same_test w e.0 true hit)) ∙ remove_absent es w far))
-    by false miss ih = rw (miss, shift_remove_entry) (ap (λ (l : List (ℕ × Known)). e ∷ l) ih ∙ sym (keep_first (λ d. not (eqb d.0 w)) e es (ap not (same_test w e.0 false miss))))
+    by false miss ih = rw (miss, shift_remove_entry) (ap (λ (l : List (ℕ × V)). e ∷ l) ih ∙ sym (keep_first (λ d. not (eqb d.0 w)) e es (ap not (same_test w e.0 false miss))))
 
 -- a window without its entry is left out
 pub newest_without : (es : List (ℕ × Known)) (w : ℕ) → IsDistinct nat_eq (keys_of es) → newest_first (shift_remove_entry (nat_eq w) es) ≡ filter (λ s. not (eqb s.window.0 w)) (newest_first es)

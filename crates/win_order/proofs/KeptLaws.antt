@@ -12,16 +12,16 @@ use Rattle.win_order.specs.declared.after.After.TheVariants.{Bottom, Below, Top,
 use Rattle.win_order.specs.Standing.{Standing}
 use Rattle.win_order.specs.declared.top_level.TopLevel.{TopLevel}
 use Rattle.win_order.specs.Families.{place_in, put, windows_of, with_windows, without}
-use Rattle.win_order.specs.Kept.{AllCameNew, IsKept, age_in, is_child, times, top_levels}
+use Rattle.win_order.specs.Kept.{AllCameNew, IsKept, age_in, is_child, is_family, times, top_levels}
 use Rattle.win_order.specs.Layers.{IsNew, IsPlace, Layers, empty, has_none, inserted, is_gone, kept, may_stay, placed, relisted, removed, settled, stands}
 use Rattle.win_order.specs.Mended.{AreOwned, IsMended, goes_along, has_older_owner, staying}
 use Rattle.win_order.specs.Mending.{has, may_follow}
 use Rattle.win_order.specs.Siblings.{Siblings}
 use Rattle.win_order.specs.Standings.{is_topmost, owner_of, parent_of, pinned, top_level}
-use Rattle.win_order.proofs.Booleans.{and_left, and_right, and_true, or_first, or_second, all_one, all_both, all_kept, all_filtered, any_over, filter_over, keep_first, skip_first}
+use Rattle.win_order.proofs.Booleans.{and_left, and_right, and_true, or_both, or_first, or_second, all_one, all_both, all_kept, all_filtered, any_over, filter_over, keep_first, skip_first}
 use Rattle.win_order.proofs.MendingLaws.{staying_mended}
 use Rattle.win_order.proofs.OrderLaws.{settled_is_mended, settled_moves}
-use Rattle.win_order.proofs.StandingLaws.{Owner, among, apart, child_along, child_among, child_flagged, child_left, flagged_stays, goes_with, left, left_stays, new_flagged, new_left, newer_stays, owner_along, owner_stands}
+use Rattle.win_order.proofs.StandingLaws.{Owner, among, among_flagged, among_left, apart, child_along, child_among, child_flagged, child_left, flagged_stays, goes_with, left, left_stays, new_flagged, new_left, newer_stays, owner_along, owner_stands}
 
 -- How often a window is in a list.
 
@@ -98,20 +98,20 @@ pub kept_owned : (z : Layers) → IsKept z → AreOwned (age_in z.standings) (to
 kept_owned z k = owned_of z.standings k.older (windows_of z.families 0) (k.listed 0)
 
 pub empty_kept : IsKept empty
-empty_kept = record { older = tt; listed = λ p w. refl; mended = record { parted = refl; above = refl } }
+empty_kept = record { older = tt; listed = λ p w. refl; families = refl; mended = record { parted = refl; above = refl } }
 
 -- The lists with one made anew.
 
-with_first : (p : Hwnd) (ws : List Hwnd) (f : Siblings) (fs : List Siblings) → eqb f.parent.0 p.0 ≡ true → with_windows p ws (f ∷ fs) ≡ record { parent = p; windows = ws } ∷ fs
+pub with_first : (p : Hwnd) (ws : List Hwnd) (f : Siblings) (fs : List Siblings) → eqb f.parent.0 p.0 ≡ true → with_windows p ws (f ∷ fs) ≡ record { parent = p; windows = ws } ∷ fs
 with_first p ws f fs e = rw (e, with_windows) refl
 
-with_next : (p : Hwnd) (ws : List Hwnd) (f : Siblings) (fs : List Siblings) → eqb f.parent.0 p.0 ≡ false → with_windows p ws (f ∷ fs) ≡ f ∷ with_windows p ws fs
+pub with_next : (p : Hwnd) (ws : List Hwnd) (f : Siblings) (fs : List Siblings) → eqb f.parent.0 p.0 ≡ false → with_windows p ws (f ∷ fs) ≡ f ∷ with_windows p ws fs
 with_next p ws f fs e = rw (e, with_windows) refl
 
-windows_first : (f : Siblings) (fs : List Siblings) (q : ℕ) → eqb f.parent.0 q ≡ true → windows_of (f ∷ fs) q ≡ f.windows
+pub windows_first : (f : Siblings) (fs : List Siblings) (q : ℕ) → eqb f.parent.0 q ≡ true → windows_of (f ∷ fs) q ≡ f.windows
 windows_first f fs q e = rw (e, windows_of) refl
 
-windows_next : (f : Siblings) (fs : List Siblings) (q : ℕ) → eqb f.parent.0 q ≡ false → windows_of (f ∷ fs) q ≡ windows_of fs q
+pub windows_next : (f : Siblings) (fs : List Siblings) (q : ℕ) → eqb f.parent.0 q ≡ false → windows_of (f ∷ fs) q ≡ windows_of fs q
 windows_next f fs q e = rw (e, windows_of) refl
 
 windows_same_by : (p : Hwnd) (ws : List Hwnd) (f : Siblings) (fs : List Siblings) (b : Bool) → eqb f.parent.0 p.0 ≡ b → windows_of (with_windows p ws fs) p.0 ≡ ws → windows_of (with_windows p ws (f ∷ fs)) p.0 ≡ ws
@@ -217,6 +217,32 @@ relisted_mended_by ss p w after fs true is new listed stays =
 relisted_mended_by ss p w after fs false is new listed stays =
     subst (λ l. IsMended (map (top_level ss) l)) (sym (windows_else p (settled ss p.0 (put after w (windows_of fs p.0))) fs 0 is)) (stays refl)
 
+-- The lists are those of parents that stand.
+
+each_counted : (t : ℕ → Bool) (ws : List Hwnd) → ((v : ℕ) → times v ws ≡ cond (t v) 1 0) → list_all (λ w. t w.0) ws ≡ true
+each_counted t ws listed = all_one (λ (w : Hwnd). list_any (λ u. eqb u.0 w.0) ws) (λ w. t w.0) (λ w e. sym (listed_any w.0 ws ∙ (ap (ltb 0) (listed w.0) ∙ test_of_count (t w.0))) ∙ e) ws (each_here [] ws)
+
+all_with : (q : Siblings → Bool) (p : Hwnd) (ws : List Hwnd) (fs : List Siblings) → q (record { parent = p; windows = ws }) ≡ true → list_all q fs ≡ true → list_all q (with_windows p ws fs) ≡ true
+all_with q p ws [] new a = and_true (q (record { parent = p; windows = ws })) true new refl
+all_with q p ws (f ∷ fs) new a = by (eqb f.parent.0 p.0) refl (all_with q p ws fs new (and_right (q f) (list_all q fs) a))
+  where
+    by : (b : Bool) → eqb f.parent.0 p.0 ≡ b → list_all q (with_windows p ws fs) ≡ true → list_all q (with_windows p ws (f ∷ fs)) ≡ true
+    by true is ih = ap (list_all q) (with_first p ws f fs is) ∙ and_true (q (record { parent = p; windows = ws })) (list_all q fs) new (and_right (q f) (list_all q fs) a)
+    by false is ih = ap (list_all q) (with_next p ws f fs is) ∙ and_true (q f) (list_all q (with_windows p ws fs)) (and_left (q f) (list_all q fs) a) ih
+
+family_more : (old ss : List Standing) → ((v : ℕ) → among v old ≡ true → among v ss ≡ true) → ((v p : ℕ) → is_child v p old ≡ true → is_child v p ss ≡ true) → (f : Siblings) → is_family old f ≡ true → is_family ss f ≡ true
+family_more old ss more child f is =
+    let p = f.parent.0 in
+    let parent = and_left (eqb p 0 || among p old) (list_all (λ v. is_child v.0 p old) f.windows) is in
+    let windows = and_right (eqb p 0 || among p old) (list_all (λ v. is_child v.0 p old) f.windows) is in
+    and_true (eqb p 0 || among p ss) (list_all (λ v. is_child v.0 p ss) f.windows) (or_both (eqb p 0) (eqb p 0) (among p old) (among p ss) (λ h. h) (more p) parent) (all_one (λ (v : Hwnd). is_child v.0 p old) (λ v. is_child v.0 p ss) (λ v. child v.0 p) f.windows windows)
+
+relisted_families : (ss old : List Standing) (p w : Hwnd) (after : After) (fs : List Siblings) → ((v : ℕ) → among v old ≡ true → among v ss ≡ true) → ((v q : ℕ) → is_child v q old ≡ true → is_child v q ss ≡ true) → (eqb p.0 0 || among p.0 ss) ≡ true → ((q v : ℕ) → times v (windows_of (relisted ss p w after fs) q) ≡ cond (is_child v q ss) 1 0) → list_all (is_family old) fs ≡ true → list_all (is_family ss) (relisted ss p w after fs) ≡ true
+relisted_families ss old p w after fs more child parent listed families =
+    let anew = settled ss p.0 (put after w (windows_of fs p.0)) in
+    let counted : (v : ℕ) → times v anew ≡ cond (is_child v p.0 ss) 1 0 = λ v. ap (times v) (sym (windows_same p anew fs)) ∙ listed p.0 v in
+    all_with (is_family ss) p anew fs (and_true (eqb p.0 0 || among p.0 ss) (list_all (λ v. is_child v.0 p.0 ss) anew) parent (each_counted (λ v. is_child v p.0 ss) anew counted)) (all_one (is_family old) (is_family ss) (family_more old ss more child) fs families)
+
 -- Tops that stay the same.
 
 pub tops_same : (f g : Hwnd → TopLevel) (p : Hwnd → Bool) → ((w : Hwnd) → p w ≡ true → f w ≡ g w) → (ws : List Hwnd) → list_all p ws ≡ true → map f ws ≡ map g ws
@@ -231,21 +257,23 @@ inserted_kept w p owner topmost z k n =
     let new : AllCameNew (s ∷ old) = (record { window = n.window; fresh = n.fresh; parent = n.parent; owner = n.owner }, k.older) in
     let listed = relisted_listed (s ∷ old) old p w Top z.families k.listed (λ q v. refl) in
     let same = tops_same (top_level (s ∷ old)) (top_level old) (λ v. is_child v.0 0 old) (λ v e. newer_stays s old v (apart old w.0 v.0 n.fresh (child_among v.0 0 old e))) (windows_of z.families 0) (each_stands old (windows_of z.families 0) (k.listed 0)) in
-    record { older = new; listed = listed; mended = relisted_mended_by (s ∷ old) p w Top z.families (eqb p.0 0) refl new (listed 0) (λ child. subst IsMended (sym same) k.mended) }
+    let families = relisted_families (s ∷ old) old p w Top z.families (λ v. or_second (eqb w.0 v) (among v old)) (λ v q. or_second (eqb w.0 v && eqb p.0 q) (is_child v q old)) (or_both (eqb p.0 0) (eqb p.0 0) (among p.0 old) (among p.0 (s ∷ old)) (λ h. h) (or_second (eqb w.0 p.0) (among p.0 old)) n.parent) listed k.families in
+    record { older = new; listed = listed; families = families; mended = relisted_mended_by (s ∷ old) p w Top z.families (eqb p.0 0) refl new (listed 0) (λ child. subst IsMended (sym same) k.mended) }
 
 -- A window that is put elsewhere.
 
 pub record Pins (ss us : List Standing) (w : ℕ) : Type 0 where
   pub new : AllCameNew us
+  pub there : (v : ℕ) → among v us ≡ among v ss
   pub child : (v p : ℕ) → is_child v p us ≡ is_child v p ss
   pub stays : is_child w 0 ss ≡ false → (v : Hwnd) → is_child v.0 0 ss ≡ true → top_level us v ≡ top_level ss v
 
 pins : (after : After) (w : ℕ) (ss : List Standing) → AllCameNew ss → Pins ss (pinned after w ss) w
-pins Topmost w ss n = record { new = new_flagged w true ss n; child = child_flagged w true ss; stays = flagged_stays w true ss n }
-pins NoTopmost w ss n = record { new = new_flagged w false ss n; child = child_flagged w false ss; stays = flagged_stays w false ss n }
-pins Top w ss n = record { new = n; child = λ v p. refl; stays = λ lone v there. refl }
-pins Bottom w ss n = record { new = n; child = λ v p. refl; stays = λ lone v there. refl }
-pins (Below sibling) w ss n = record { new = n; child = λ v p. refl; stays = λ lone v there. refl }
+pins Topmost w ss n = record { new = new_flagged w true ss n; there = among_flagged w true ss; child = child_flagged w true ss; stays = flagged_stays w true ss n }
+pins NoTopmost w ss n = record { new = new_flagged w false ss n; there = among_flagged w false ss; child = child_flagged w false ss; stays = flagged_stays w false ss n }
+pins Top w ss n = record { new = n; there = λ v. refl; child = λ v p. refl; stays = λ lone v there. refl }
+pins Bottom w ss n = record { new = n; there = λ v. refl; child = λ v p. refl; stays = λ lone v there. refl }
+pins (Below sibling) w ss n = record { new = n; there = λ v. refl; child = λ v p. refl; stays = λ lone v there. refl }
 
 parent_first : (s : Standing) (ss : List Standing) (w : ℕ) → eqb s.window.0 w ≡ true → parent_of (s ∷ ss) w ≡ s.parent
 parent_first s ss w e = rw (e, parent_of) refl
@@ -282,6 +310,17 @@ child_again_by ss w v p q true true isw isp there = ap (λ n. is_child n q ss) (
 child_again_by ss w v p q true false isw isp there = refl
 child_again_by ss w v p q false b isw isp there = refl
 
+parent_stands_by : (s : Standing) (ss : List Standing) → (eqb s.parent.0 0 || among s.parent.0 ss) ≡ true → (w : ℕ) (b : Bool) → eqb s.window.0 w ≡ b → (eqb (parent_of ss w).0 0 || among (parent_of ss w).0 ss) ≡ true → (eqb (parent_of (s ∷ ss) w).0 0 || among (parent_of (s ∷ ss) w).0 (s ∷ ss)) ≡ true
+parent_stands_by s ss own w true is ih = subst (λ (h : Hwnd). (eqb h.0 0 || among h.0 (s ∷ ss)) ≡ true) (sym (parent_first s ss w is)) (or_both (eqb s.parent.0 0) (eqb s.parent.0 0) (among s.parent.0 ss) (among s.parent.0 (s ∷ ss)) (λ h. h) (or_second (eqb s.window.0 s.parent.0) (among s.parent.0 ss)) own)
+parent_stands_by s ss own w false is ih =
+    let p = (parent_of ss w).0 in
+    subst (λ (h : Hwnd). (eqb h.0 0 || among h.0 (s ∷ ss)) ≡ true) (sym (parent_next s ss w is)) (or_both (eqb p 0) (eqb p 0) (among p ss) (among p (s ∷ ss)) (λ h. h) (or_second (eqb s.window.0 p) (among p ss)) ih)
+
+-- a parent is 0 or stands
+parent_stands : (ss : List Standing) → AllCameNew ss → (w : ℕ) → (eqb (parent_of ss w).0 0 || among (parent_of ss w).0 ss) ≡ true
+parent_stands [] n w = refl
+parent_stands (s ∷ ss) n w = parent_stands_by s ss n.0.parent w (eqb s.window.0 w) refl (parent_stands ss n.1 w)
+
 pub placed_kept : (w : Hwnd) (after : After) (z : Layers) → IsKept z → IsPlace w.0 after z → IsKept (placed w after z)
 placed_kept w after z k place =
     let old = z.standings in
@@ -291,7 +330,8 @@ placed_kept w after z k place =
     let there = parent_is old w.0 place.window in
     let listed = relisted_listed us old p w after z.families k.listed (λ q v. g.child v q ∙ child_again_by old w.0 v p.0 q (eqb w.0 v) (eqb p.0 q) refl refl there) in
     let same : is_child w.0 0 old ≡ false → map (top_level us) (windows_of z.families 0) ≡ map (top_level old) (windows_of z.families 0) = λ lone. tops_same (top_level us) (top_level old) (λ v. is_child v.0 0 old) (λ v e. g.stays lone v e) (windows_of z.families 0) (each_stands old (windows_of z.families 0) (k.listed 0)) in
-    record { older = g.new; listed = listed; mended = relisted_mended_by us p w after z.families (eqb p.0 0) refl g.new (listed 0) (λ child. subst IsMended (sym (same (lone_child old k.older w.0 0 child))) k.mended) }
+    let families = relisted_families us old p w after z.families (λ v e. g.there v ∙ e) (λ v q e. g.child v q ∙ e) (or_both (eqb p.0 0) (eqb p.0 0) (among p.0 old) (among p.0 us) (λ h. h) (λ e. g.there p.0 ∙ e) (parent_stands old k.older w.0)) listed k.families in
+    record { older = g.new; listed = listed; families = families; mended = relisted_mended_by us p w after z.families (eqb p.0 0) refl g.new (listed 0) (λ child. subst IsMended (sym (same (lone_child old k.older w.0 0 child))) k.mended) }
 
 -- Windows that go.
 
@@ -349,6 +389,21 @@ along_tops gone ss nobody along (w ∷ ws) = and_true (goes_along gone (top_leve
     along_by true is = or_second (not (gone (owner_of ss w.0).0)) (gone w.0) is
     along_by false is = or_first (not (gone (owner_of ss w.0).0)) (gone w.0) (ap not (owner_along gone ss w.0 nobody along is))
 
+family_left : (gone : ℕ → Bool) (ss : List Standing) (f : Siblings) → is_family ss f ≡ true → not (gone f.parent.0) ≡ true → is_family (left gone ss) (cut_out gone f) ≡ true
+family_left gone ss f is stays =
+    let p = f.parent.0 in
+    let parent = and_left (eqb p 0 || among p ss) (list_all (λ v. is_child v.0 p ss) f.windows) is in
+    let windows = and_right (eqb p 0 || among p ss) (list_all (λ v. is_child v.0 p ss) f.windows) is in
+    let some = filter (λ (v : Hwnd). not (gone v.0)) f.windows in
+    and_true (eqb p 0 || among p (left gone ss)) (list_all (λ v. is_child v.0 p (left gone ss)) some)
+    (or_both (eqb p 0) (eqb p 0) (among p ss) (among p (left gone ss)) (λ h. h) (λ e. among_left gone ss p (not-true (gone p) stays) ∙ e) parent)
+    (all_both (λ (v : Hwnd). is_child v.0 p ss) (λ v. not (gone v.0)) (λ v. is_child v.0 p (left gone ss)) (λ v c g. child_left gone ss v.0 p ∙ and_true (not (gone v.0)) (is_child v.0 p ss) g c) some (all_kept (λ v. is_child v.0 p ss) (λ v. not (gone v.0)) f.windows windows) (all_filtered (λ v. not (gone v.0)) f.windows))
+
+families_left : (gone : ℕ → Bool) (ss : List Standing) (fs : List Siblings) → list_all (is_family ss) fs ≡ true → list_all (is_family (left gone ss)) (keeps gone fs) ≡ true
+families_left gone ss fs families =
+    list_all-map (is_family (left gone ss)) (cut_out gone) (filter (λ f. not (gone f.parent.0)) fs)
+    ∙ all_both (is_family ss) (λ f. not (gone f.parent.0)) (λ f. is_family (left gone ss) (cut_out gone f)) (family_left gone ss) (filter (λ f. not (gone f.parent.0)) fs) (all_kept (is_family ss) (λ f. not (gone f.parent.0)) fs families) (all_filtered (λ f. not (gone f.parent.0)) fs)
+
 pub cleared_kept : (gone : ℕ → Bool) (z : Layers) → gone 0 ≡ false → list_all (goes_with gone) z.standings ≡ true → IsKept z → IsKept (cleared gone z)
 cleared_kept gone z nobody along k =
     let ss = z.standings in
@@ -359,6 +414,7 @@ cleared_kept gone z nobody along k =
     record {
       older = new_left gone ss along k.older;
       listed = λ q v. cleared_listed_by gone z k along q v (gone q) refl;
+      families = families_left gone ss z.families k.families;
       mended = subst IsMended (sym (ap (map (top_level (left gone ss))) (windows_left gone z.families 0 nobody) ∙ tops)) (staying_mended gone (map (top_level ss) ws) (along_tops gone ss nobody along ws) k.mended);
     }
 
@@ -369,7 +425,7 @@ nobody_stands (s ∷ ss) n = ap (λ b. b || among 0 ss) (not-true (eqb s.window.
 stands_apart_from_nobody : (w : ℕ) (ss : List Standing) → AllCameNew ss → among w ss ≡ true → eqb 0 w ≡ false
 stands_apart_from_nobody w ss older there = ne_eqb 0 w (λ e. false≢true (sym (nobody_stands ss older) ∙ (ap (λ n. among n ss) e ∙ there)))
 
-alone : (w : ℕ) (ss : List Standing) → list_all (λ s. not (eqb s.parent.0 w) && not (eqb s.owner.0 w)) ss ≡ true → list_all (goes_with (λ v. eqb v w)) ss ≡ true
+pub alone : (w : ℕ) (ss : List Standing) → list_all (λ s. not (eqb s.parent.0 w) && not (eqb s.owner.0 w)) ss ≡ true → list_all (goes_with (λ v. eqb v w)) ss ≡ true
 alone w ss none = all_one (λ (s : Standing). not (eqb s.parent.0 w) && not (eqb s.owner.0 w)) (goes_with (λ v. eqb v w)) (λ s e. or_second (eqb s.window.0 w) (not (eqb s.parent.0 w) && not (eqb s.owner.0 w)) e) ss none
 
 pub new_without : (w : ℕ) (ss : List Standing) → AllCameNew ss → among w ss ≡ true → list_all (λ s. not (eqb s.parent.0 w) && not (eqb s.owner.0 w)) ss ≡ true → AllCameNew (filter (λ s. not (eqb s.window.0 w)) ss)

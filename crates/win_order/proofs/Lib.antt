@@ -4,10 +4,13 @@ pub mod EntryLaws
 pub mod GoneLaws
 pub mod InsertLaws
 pub mod KeptLaws
+pub mod ListedLaws
+pub mod LoneLaws
 pub mod MarkLaws
 pub mod MendingLaws
 pub mod OrderLaws
 pub mod Places
 pub mod Rewriting
 pub mod StandingLaws
+pub mod TopLaws
 pub mod Walks

@@ -17,14 +17,14 @@ or_absorbs false true f = f refl
 or_absorbs false false f = refl
 
 -- a number is among those with one more where it was, or is the new one
-any_key : (ks : List ℕ) (k o : ℕ) → list_any (nat_eq o) (insert_key nat_eq ks k) ≡ (list_any (nat_eq o) ks || (nat_eq o k || false))
+pub any_key : (ks : List ℕ) (k o : ℕ) → list_any (nat_eq o) (insert_key nat_eq ks k) ≡ (list_any (nat_eq o) ks || (nat_eq o k || false))
 any_key ks k o = by (list_any (nat_eq k) ks) refl
   where
     by : (b : Bool) → list_any (nat_eq k) ks ≡ b → list_any (nat_eq o) (if b then ks else ks ++ k ∷ []) ≡ (list_any (nat_eq o) ks || (nat_eq o k || false))
     by true there = or_absorbs (list_any (nat_eq o) ks) (nat_eq o k) (λ e. ap (λ n. list_any (nat_eq n) ks) (eqb-true o k e) ∙ there)
     by false new = list_any-append (nat_eq o) ks (k ∷ [])
 
-same_way : (a b : ℕ) (t : Bool) → eqb a b ≡ t → eqb b a ≡ t
+pub same_way : (a b : ℕ) (t : Bool) → eqb a b ≡ t → eqb b a ≡ t
 same_way a b true e = eq-eqb b a (sym (eqb-true a b e))
 same_way a b false e = ne_eqb b a (λ s. eqb-false a b e (sym s))
 

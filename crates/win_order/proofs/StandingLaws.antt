@@ -113,7 +113,7 @@ any_flagged t same w flag (s ∷ ss) = ap (λ b. b || list_any t (map (flagged w
 pub child_flagged : (w : ℕ) (flag : Bool) (ss : List Standing) (v p : ℕ) → is_child v p (map (flagged w flag) ss) ≡ is_child v p ss
 child_flagged w flag ss v p = any_flagged (λ s. eqb s.window.0 v && eqb s.parent.0 p) (λ s f. refl) w flag ss
 
-among_flagged : (w : ℕ) (flag : Bool) (ss : List Standing) (v : ℕ) → among v (map (flagged w flag) ss) ≡ among v ss
+pub among_flagged : (w : ℕ) (flag : Bool) (ss : List Standing) (v : ℕ) → among v (map (flagged w flag) ss) ≡ among v ss
 among_flagged w flag ss v = any_flagged (λ s. eqb s.window.0 v) (λ s f. refl) w flag ss
 
 new_over : (s : Standing) (ss us : List Standing) → ((v : ℕ) → among v us ≡ among v ss) → ((v : ℕ) → is_child v 0 us ≡ is_child v 0 ss) → CameNew s ss → CameNew s us
@@ -177,7 +177,7 @@ goes_with gone s = gone s.window.0 || (not (gone s.parent.0) && not (gone s.owne
 abbrev pub left : (ℕ → Bool) → List Standing → List Standing
 left gone ss = filter (λ s. not (gone s.window.0)) ss
 
-among_left : (gone : ℕ → Bool) (ss : List Standing) (w : ℕ) → gone w ≡ false → among w (left gone ss) ≡ among w ss
+pub among_left : (gone : ℕ → Bool) (ss : List Standing) (w : ℕ) → gone w ≡ false → among w (left gone ss) ≡ among w ss
 among_left gone ss w stays = any-filter_same (λ s. eqb s.window.0 w) (λ s. not (gone s.window.0)) true (λ s e. ap (λ n. not (gone n)) (eqb-true s.window.0 w e) ∙ ap not stays) ss
 
 pub child_left : (gone : ℕ → Bool) (ss : List Standing) (w p : ℕ) → is_child w p (left gone ss) ≡ (not (gone w) && is_child w p ss)
@@ -253,7 +253,7 @@ topmost_left_by gone s ss w false true is isw along stays ih =
 topmost_left_by gone s ss w false false is isw along stays ih =
     ap (λ l. is_topmost l w) (keep_first (λ u. not (gone u.window.0)) s ss (ap not is)) ∙ (topmost_next s (left gone ss) w isw ∙ (ih w stays ∙ sym (topmost_next s ss w isw)))
 
-topmost_left : (gone : ℕ → Bool) (ss : List Standing) → list_all (goes_with gone) ss ≡ true → (w : ℕ) → gone w ≡ false → is_topmost (left gone ss) w ≡ is_topmost ss w
+pub topmost_left : (gone : ℕ → Bool) (ss : List Standing) → list_all (goes_with gone) ss ≡ true → (w : ℕ) → gone w ≡ false → is_topmost (left gone ss) w ≡ is_topmost ss w
 topmost_left gone [] along w stays = refl
 topmost_left gone (s ∷ ss) along w stays = topmost_left_by gone s ss w (gone s.window.0) (eqb s.window.0 w) refl refl (and_left (goes_with gone s) (list_all (goes_with gone) ss) along) stays (λ u there. topmost_left gone ss (and_right (goes_with gone s) (list_all (goes_with gone) ss) along) u there)
 

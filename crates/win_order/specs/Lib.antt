@@ -2,9 +2,12 @@ pub mod Entries
 pub mod Families
 pub mod Kept
 pub mod Layers
+pub mod Listed
+pub mod Lone
 pub mod Marks
 pub mod Mended
 pub mod Mending
 pub mod Siblings
 pub mod Standing
 pub mod Standings
+pub mod Tops

@@ -1,12 +1,14 @@
 //! The lists of siblings.
 
-ghost use Rattle.std.specs.Prelude.{◌≡◌, ◌≤◌, ◌∷◌, ◌++◌, [], map, length, not, position, ◌==◌, IfOk, OnOk, OnErr};
+ghost use Rattle.std.specs.Prelude.{◌≡◌, ◌≤◌, [], map, length, not, position, ◌==◌, IfOk, OnOk, OnErr};
 ghost use Rattle.std.specs.List.{filter, insert};
 ghost use Rattle.std.specs.List.Sorted.{IsNonDecreasingBy};
-ghost use Rattle.win_order.specs.Families.{place_in, put, windows_of, with_windows, without, without_window};
+ghost use Rattle.win_order.specs.Families.{place_in, put, windows_of, with_windows, without};
 ghost use Rattle.win_order.specs.Layers.{is_among, is_gone, staying_in};
+ghost use Rattle.win_order.specs.Listed.{without_child};
 
 use crate::after::After;
+use indexmap::IndexMap;
 use std::alloc::{AllocError, Global};
 use std::marker::Model;
 use win_num::Hwnd;
@@ -14,128 +16,138 @@ use win_num::Hwnd;
 /// The children of one parent, from the bottom to the top.
 #[derive(Drop)]
 pub struct Family {
-    parent: Hwnd,
     windows: Vec<Hwnd>,
 }
 
 impl Model for Family {
-    ghost use Rattle.win_order.specs.Siblings.{Siblings};
+    ghost use Rattle.std.specs.Prelude.{List};
+    ghost use Rattle.win_num.specs.declared.message.Hwnd.{Hwnd};
 
-    ghost Value = { Siblings };
+    ghost Value = { List Hwnd };
 
-    ghost view = { λ f. record { parent = f.parent; windows = f.windows.items } };
+    ghost view = { λ f. f.windows.items };
 }
 
 impl Family {
-    /// The window whose children these are, or 0 for the top-level windows.
-    fn parent(&self) -> Hwnd
-        ensures { result ≡ self.now.parent }
-    {
-        self.parent
-    }
-
     /// The children, from the bottom to the top.
     fn windows(&self) -> &[Hwnd]
-        ensures { result.now ≡ self.now.windows }
+        ensures { result.now ≡ self.now }
     {
         &self.windows
     }
 
     /// Takes a window out.
     fn take_out(&mut self, window: Hwnd)
-        ensures { self.new ≡ without_window window.0 self.old }
+        ensures { self.new ≡ without window.0 self.old }
     {
         self.windows.retain(|w| *w != window);
     }
 
-    /// Keeps these windows alone.
+    /// Keeps these windows alone, whose numbers rise.
     fn keep(&mut self, staying: &[Hwnd])
-        requires { IsNonDecreasingBy (λ v. v.0) staying.now }
-        ensures { self.new ≡ staying_in staying.now self.old }
+        ensures { IsNonDecreasingBy (λ v. v.0) staying.now → (self.new ≡ filter (λ v. not (is_gone staying.now v.0)) self.old) }
     {
         self.windows.retain(|w| !is_gone(staying, w.0));
     }
 
-    /// The same children of the same parent.
+    /// The same children.
     fn copy(&self, alloc: Global) -> Result<Family, AllocError>
         ensures { IfOk result (λ f. f ≡ self.now) }
     {
         Ok(Family {
-            parent: self.parent,
             windows: Vec::from_slice(alloc, &self.windows)?,
         })
     }
 }
 
-/// The children of the parent, from the bottom to the top.
-pub fn windows_of(families: &[Family], parent: Hwnd) -> &[Hwnd]
-    ensures { result.now ≡ windows_of families.now parent.0 }
-{
-    for family in families {
-        if family.parent() == parent {
-            return family.windows();
+/// The lists of siblings, each found by its parent, which is 0 for the top-level windows. No parent has two.
+#[derive(Drop)]
+pub struct Families {
+    lists: IndexMap<u32, Family>,
+}
+
+impl Model for Families {
+    ghost use Rattle.std.specs.Prelude.{List, map, nat_eq};
+    ghost use Rattle.indexmap.specs.IndexMap.{IsUnique};
+    ghost use Rattle.win_order.specs.Listed.{siblings};
+    ghost use Rattle.win_order.specs.Siblings.{Siblings};
+
+    ghost Value = { List Siblings };
+
+    ghost view = { λ f. map siblings f.lists.entries };
+
+    ghost invariant = { λ f. IsUnique nat_eq f.lists };
+}
+
+impl Families {
+    /// No list.
+    pub fn new(alloc: Global) -> Families
+        ensures { result ≡ [] }
+    {
+        Families {
+            lists: IndexMap::new(alloc),
         }
     }
-    &[]
-}
 
-/// Makes these the children of the parent.
-pub fn set_windows(
-    families: &mut Vec<Family>,
-    parent: Hwnd,
-    windows: Vec<Hwnd>,
-) -> Result<(), AllocError>
-    ensures ok { OnOk result (families.new.items ≡ with_windows parent windows.items families.old.items) }
-    ensures err { OnErr result (families.new.items ≡ families.old.items) }
-{
-    match family_of(families, parent) {
-        Some(at) => families[at] = Family { parent, windows },
-        None => families.push(Family { parent, windows })?,
+    /// The children of the parent, from the bottom to the top.
+    pub fn windows_of(&self, parent: Hwnd) -> &[Hwnd]
+        ensures { result.now ≡ windows_of self.now parent.0 }
+    {
+        match self.lists.get(&parent.0) {
+            Some(family) => family.windows(),
+            None => &[],
+        }
     }
-    Ok(())
-}
 
-/// The place of the parent's list, where it has one.
-fn family_of(families: &[Family], parent: Hwnd) -> Option<usize>
-    ensures { result ≡ position (λ f. f.parent.0 == parent.0) families.now }
-{
-    families.iter().position(|f| f.parent() == parent)
-}
+    /// Makes these the children of the parent.
+    pub fn set_windows(&mut self, parent: Hwnd, windows: Vec<Hwnd>) -> Result<(), AllocError>
+        ensures ok { OnOk result (self.new ≡ with_windows parent windows.items self.old) }
+        ensures err { OnErr result (self.new ≡ self.old) }
+    {
+        self.lists.insert(parent.0, Family { windows })?;
+        Ok(())
+    }
 
-/// Takes a window and the list of its children out of all lists.
-pub fn take_out(families: &mut Vec<Family>, window: Hwnd)
-    ensures { families.new.items ≡ map (without_window window.0) (filter (λ f. not (f.parent.0 == window.0)) families.old.items) }
-{
-    families.retain(|f| f.parent() != window);
-    leave_out(families, window);
-}
+    /// Takes a window out of the list of this parent, and the list of its own children out of all.
+    pub fn take_out(&mut self, parent: Hwnd, window: Hwnd)
+        ensures { self.new ≡ map (without_child parent.0 window.0) (filter (λ f. not (f.parent.0 == window.0)) self.old) }
+    {
+        let _ = self.lists.shift_remove(&window.0);
+        if let Some(at) = self.lists.get_index_of(&parent.0) {
+            let (_, family) = self.lists.pair_mut(at);
+            family.take_out(window);
+        }
+    }
 
-/// Takes a window out of each list.
-fn leave_out(families: &mut [Family], window: Hwnd)
-    ensures { families.new ≡ map (without_window window.0) families.old }
-{
-    for family in families.iter_mut() {
-        family.take_out(window);
+    /// Keeps these windows, and the lists of their children, alone.
+    pub fn keep(&mut self, staying: &[Hwnd])
+        requires { IsNonDecreasingBy (λ v. v.0) staying.now }
+        ensures { self.new ≡ map (staying_in staying.now) (filter (λ f. not (is_gone staying.now f.parent.0)) self.old) }
+    {
+        self.lists
+            .retain(|parent, family| stays(staying, *parent, family));
+    }
+
+    /// The same lists.
+    pub fn copy(&self, alloc: Global) -> Result<Families, AllocError>
+        ensures { IfOk result (λ f. f ≡ self.now) }
+    {
+        let mut lists = IndexMap::new(alloc);
+        for i in 0..self.lists.len() {
+            let (parent, family) = self.lists.get_index(i).unwrap();
+            lists.insert(*parent, family.copy(alloc)?)?;
+        }
+        Ok(Families { lists })
     }
 }
 
-/// Keeps these windows, and the lists of their children, alone.
-pub fn keep(families: &mut Vec<Family>, staying: &[Hwnd])
-    requires { IsNonDecreasingBy (λ v. v.0) staying.now }
-    ensures { families.new.items ≡ map (staying_in staying.now) (filter (λ f. not (is_gone staying.now f.parent.0)) families.old.items) }
+/// Whether the list of this parent stays where these windows do, which are kept in it alone.
+fn stays(staying: &[Hwnd], parent: u32, family: &mut Family) -> bool
+    ensures stays { IsNonDecreasingBy (λ v. v.0) staying.now → (result ≡ not (is_gone staying.now parent)) }
+    ensures kept { IsNonDecreasingBy (λ v. v.0) staying.now → (family.new ≡ filter (λ v. not (is_gone staying.now v.0)) family.old) }
 {
-    families.retain(|f| !is_gone(staying, f.parent().0));
-    keep_in_each(families, staying);
-}
-
-/// Keeps these windows alone in each list.
-fn keep_in_each(families: &mut [Family], staying: &[Hwnd])
-    requires { IsNonDecreasingBy (λ v. v.0) staying.now }
-    ensures { families.new ≡ map (staying_in staying.now) families.old }
-{
-    for family in families.iter_mut() {
-        family.keep(staying);
-    }
+    family.keep(staying);
+    !is_gone(staying, parent)
 }
 
 /// Whether a window isn't among those that stay, whose numbers rise. 0 is no window.
@@ -150,17 +162,6 @@ fn is_among(windows: &[Hwnd], window: u32) -> bool
     ensures { IsNonDecreasingBy (λ v. v.0) windows.now → (result ≡ is_among windows.now window) }
 {
     windows.binary_search_by_key(&window, |v| v.0).is_ok()
-}
-
-/// The same families.
-pub fn copy(alloc: Global, families: &[Family]) -> Result<Vec<Family>, AllocError>
-    ensures { IfOk result (λ v. v.items ≡ families.now) }
-{
-    let mut all = Vec::with_capacity(alloc, families.len())?;
-    for family in families {
-        all.push(family.copy(alloc)?)?;
-    }
-    Ok(all)
 }
 
 /// The siblings with a new window at this place.

@@ -9,7 +9,7 @@ ghost use Rattle.win_order.specs.Standings.{is_topmost, top_level};
 ghost use Rattle.win_order.specs.Layers.{empty, inserted, placed, removed, siblings_of, IsNew, IsPlace, kept, may_stay, stands, has_none, settled, relisted};
 
 use crate::after::After;
-use crate::families::{self, Family};
+use crate::families::{self, Families};
 use crate::mending::mended;
 use crate::standings::{Known, Standings};
 use crate::top_level::TopLevel;
@@ -22,7 +22,7 @@ use win_num::Hwnd;
 #[derive(Drop)]
 pub struct Order {
     standings: Standings,
-    families: Vec<Family>,
+    families: Families,
 }
 
 impl Model for Order {
@@ -31,9 +31,9 @@ impl Model for Order {
 
     ghost Value = { Layers };
 
-    ghost view = { λ o. record { standings = o.standings; families = o.families.items } };
+    ghost view = { λ o. record { standings = o.standings; families = o.families } };
 
-    ghost invariant = { λ o. IsKept (record { standings = o.standings; families = o.families.items }) };
+    ghost invariant = { λ o. IsKept (record { standings = o.standings; families = o.families }) };
 }
 
 impl Order {
@@ -43,7 +43,7 @@ impl Order {
     {
         Order {
             standings: Standings::new(alloc),
-            families: Vec::new(alloc),
+            families: Families::new(alloc),
         }
     }
 
@@ -68,11 +68,11 @@ impl Order {
             owner,
             topmost,
         };
-        let siblings = families::windows_of(&self.families, parent);
+        let siblings = self.families.windows_of(parent);
         let at = new_place(&self.standings, siblings, new);
         let windows = families::with_new(alloc, siblings, at, w)?;
         self.standings.insert(w, new)?;
-        let listed = families::set_windows(&mut self.families, parent, windows);
+        let listed = self.families.set_windows(parent, windows);
         if listed.is_err() {
             self.standings.forget_newest();
         }
@@ -87,7 +87,7 @@ impl Order {
         ensures ok { OnOk result (self.new ≡ placed w after self.old) }
         ensures err { OnErr result (self.new ≡ self.old) }
     {
-        let standings = self.standings.pinned(w, after)?;
+        let standings = self.standings.pinned(alloc, w, after)?;
         let parent = self.standings.parent_of(w);
         relist(alloc, &mut self.families, &standings, parent, w, after)?;
         self.standings = standings;
@@ -100,7 +100,7 @@ impl Order {
     {
         Ok(Order {
             standings: self.standings.copy()?,
-            families: families::copy(alloc, &self.families)?,
+            families: self.families.copy(alloc)?,
         })
     }
 
@@ -111,8 +111,9 @@ impl Order {
         requires last { IsTrue (has_none w.0 self.old) }
         ensures { self.new ≡ removed w.0 self.old }
     {
+        let parent = self.standings.parent_of(w);
         self.standings.remove(w);
-        families::take_out(&mut self.families, w);
+        self.families.take_out(parent, w);
     }
 
     /// All windows but these are taken out at once. Their numbers rise, and none of them has a parent or
@@ -122,15 +123,19 @@ impl Order {
         requires along { IsTrue (may_stay staying.now self.old.standings) }
         ensures { self.new ≡ kept staying.now self.old }
     {
+        if let Some(window) = self.standings.alone_gone(staying) {
+            self.remove(window);
+            return;
+        }
         self.standings.keep(staying);
-        families::keep(&mut self.families, staying);
+        self.families.keep(staying);
     }
 
     /// The children of the parent, or for 0 the top-level windows, from the bottom to the top.
     pub fn siblings(&self, parent: Hwnd) -> &[Hwnd]
         ensures { result.now ≡ siblings_of parent.0 self.now }
     {
-        families::windows_of(&self.families, parent)
+        self.families.windows_of(parent)
     }
 }
 
@@ -151,18 +156,18 @@ fn new_place(standings: &Standings, siblings: &[Hwnd], new: Known) -> usize
 /// Puts a window of this parent where it belongs among its siblings.
 fn relist(
     alloc: Global,
-    families: &mut Vec<Family>,
+    families: &mut Families,
     standings: &Standings,
     parent: Hwnd,
     window: Hwnd,
     after: After,
 ) -> Result<(), AllocError>
-    ensures ok { OnOk result (families.new.items ≡ relisted standings.now parent window after families.old.items) }
-    ensures err { OnErr result (families.new.items ≡ families.old.items) }
+    ensures ok { OnOk result (families.new ≡ relisted standings.now parent window after families.old) }
+    ensures err { OnErr result (families.new ≡ families.old) }
 {
-    let windows = families::put(alloc, families::windows_of(families, parent), window, after)?;
+    let windows = families::put(alloc, families.windows_of(parent), window, after)?;
     let windows = settled(alloc, standings, parent, windows)?;
-    families::set_windows(families, parent, windows)
+    families.set_windows(parent, windows)
 }
 
 /// The siblings, mended where they are the top-level windows.

@@ -1,17 +1,22 @@
 //! What is known of each window that stands in the order.
 
-ghost use Rattle.std.specs.Prelude.{◌≡◌, ◌∷◌, [], List, ◌==◌, not, ◌&&◌, map, IsTrue, IfOk, OnOk, OnErr};
+ghost use Rattle.std.specs.Prelude.{◌≡◌, ◌<◌, ◌≤◌, ◌∷◌, [], List, ◌==◌, nat_eq, true, not, ◌&&◌, length, map, take, IsTrue, IfOk, IfSome, OnOk, OnErr};
 ghost use Rattle.std.specs.List.{filter, list_all, list_any};
-ghost use Rattle.win_order.specs.Entries.{known_of, standing};
 ghost use Rattle.std.specs.List.Sorted.{IsNonDecreasingBy};
+ghost use Rattle.indexmap.specs.IndexMap.{IsUnique};
+ghost use Rattle.indexmap.specs.IndexSet.{spare};
+ghost use Rattle.win_order.specs.Entries.{known_of, newest_first, standing};
+ghost use Rattle.win_order.specs.Kept.{AllCameNew};
+ghost use Rattle.win_order.specs.Tops.{AreTopmost, marked};
 ghost use Rattle.win_order.specs.Layers.{IsNew, is_gone, may_stay};
+ghost use Rattle.win_order.specs.Lone.{GoesAlone};
 ghost use Rattle.win_order.specs.Standing.{Standing};
 ghost use Rattle.win_order.specs.Standings.{parent_of, owner_of, is_topmost, top_level, flagged, pinned};
 
 use crate::after::After;
 use crate::families::is_gone;
 use crate::top_level::TopLevel;
-use indexmap::IndexMap;
+use indexmap::{IndexMap, IndexSet};
 use std::alloc::{AllocError, Global};
 use std::marker::Model;
 use win_num::Hwnd;
@@ -32,6 +37,8 @@ pub struct Known {
 #[derive(Drop)]
 pub struct Standings {
     windows: IndexMap<u32, Known>,
+    /// Those that are topmost, by their own flag or by that of an owner up the chain.
+    topmost: IndexSet<u32>,
 }
 
 impl Model for Standings {
@@ -40,12 +47,13 @@ impl Model for Standings {
     ghost use Rattle.win_order.specs.Entries.{newest_first};
     ghost use Rattle.win_order.specs.Kept.{AllCameNew};
     ghost use Rattle.win_order.specs.Standing.{Standing};
+    ghost use Rattle.win_order.specs.Tops.{AreTopmost};
 
     ghost Value = { List Standing };
 
     ghost view = { λ s. newest_first s.windows.entries };
 
-    ghost invariant = { λ s. IsUnique nat_eq s.windows × AllCameNew (newest_first s.windows.entries) };
+    ghost invariant = { λ s. IsUnique nat_eq s.windows × AllCameNew (newest_first s.windows.entries) × AreTopmost s.topmost.keys (newest_first s.windows.entries) };
 }
 
 impl Standings {
@@ -55,6 +63,7 @@ impl Standings {
     {
         Standings {
             windows: IndexMap::new(alloc),
+            topmost: IndexSet::new(alloc),
         }
     }
 
@@ -89,15 +98,7 @@ impl Standings {
     pub fn is_topmost(&self, window: Hwnd) -> bool
         ensures { result ≡ is_topmost self.now window.0 }
     {
-        let _ = &self.windows;
-        let mut at = window;
-        'chain: while let Some(known) = self.known(at) {
-            if known.topmost {
-                return true;
-            }
-            at = known.owner;
-        }
-        false
+        self.topmost.contains(&window.0)
     }
 
     /// The window as mending sees it.
@@ -117,7 +118,9 @@ impl Standings {
         ensures ok { OnOk result (self.new ≡ standing (window.0, known) ∷ self.old) }
         ensures err { OnErr result (self.new ≡ self.old) }
     {
+        self.topmost.reserve(1)?;
         self.windows.insert(window.0, known)?;
+        mark(&mut self.topmost, window.0, known);
         Ok(())
     }
 
@@ -125,29 +128,30 @@ impl Standings {
     pub fn forget_newest(&mut self)
         ensures { (s : Standing) (ss : List Standing) → self.old ≡ s ∷ ss → self.new ≡ ss }
     {
-        let _ = self.windows.pop();
+        if let Some((window, _known)) = self.windows.pop() {
+            self.topmost.swap_remove(&window);
+        }
     }
 
     /// The same with the window's topmost flag set or cleared where its new place says so.
-    pub fn pinned(&self, window: Hwnd, after: After) -> Result<Standings, AllocError>
+    pub fn pinned(&self, alloc: Global, window: Hwnd, after: After) -> Result<Standings, AllocError>
         ensures { IfOk result (λ s. s ≡ pinned after window.0 self.now) }
     {
-        let mut pinned = self.copy()?;
         match after {
-            After::Topmost => pinned.set_flag(window, true),
-            After::NoTopmost => pinned.set_flag(window, false),
-            After::Top | After::Bottom | After::Below(_) => {}
+            After::Topmost => self.flagged(alloc, window, true),
+            After::NoTopmost => self.flagged(alloc, window, false),
+            After::Top | After::Bottom | After::Below(_) => self.copy(),
         }
-        Ok(pinned)
     }
 
-    /// Sets the window's topmost flag to this, where the window stands.
-    fn set_flag(&mut self, window: Hwnd, topmost: bool)
-        ensures { self.new ≡ map (flagged window.0 topmost) self.old }
+    /// The same with this as the window's topmost flag, where it stands.
+    fn flagged(&self, alloc: Global, window: Hwnd, flag: bool) -> Result<Standings, AllocError>
+        ensures { IfOk result (λ s. s ≡ map (flagged window.0 flag) self.now) }
     {
-        if let Some(known) = self.known(window) {
-            let _ = self.windows.insert(window.0, Known { topmost, ..known });
-        }
+        let Standings { mut windows, .. } = self.copy()?;
+        set_flag(&mut windows, window, flag);
+        let topmost = topmost_among(alloc, &windows)?;
+        Ok(Standings { windows, topmost })
     }
 
     /// A window goes that no other has as its parent or owner.
@@ -157,6 +161,23 @@ impl Standings {
         ensures { self.new ≡ filter (λ s. not (s.window.0 == window.0)) self.old }
     {
         let _ = self.windows.shift_remove(&window.0);
+        self.topmost.swap_remove(&window.0);
+    }
+
+    /// The window that goes alone where these stay, which are all others in their order. None comes where
+    /// several go or none, or the others lie in another order.
+    pub fn alone_gone(&self, staying: &[Hwnd]) -> Option<Hwnd>
+        ensures { IfSome result (λ w. GoesAlone staying.now w.0 self.now) }
+    {
+        let windows = self.windows.keys().as_slice();
+        if windows.len() != staying.len() + 1 {
+            return None;
+        }
+        let at = same_front(windows, staying);
+        if !is_same(&windows[at + 1..], &staying[at..]) {
+            return None;
+        }
+        Some(Hwnd(windows[at]))
     }
 
     /// These windows alone stay, and none has a parent or an owner that goes.
@@ -167,6 +188,7 @@ impl Standings {
     {
         self.windows
             .retain(|window, _known| !is_gone(staying, *window));
+        self.topmost.retain(|window| !is_gone(staying, *window));
     }
 
     /// The same windows.
@@ -175,6 +197,63 @@ impl Standings {
     {
         Ok(Standings {
             windows: self.windows.clone()?,
+            topmost: self.topmost.clone()?,
         })
+    }
+}
+
+/// How many numbers from the front on are those of these windows.
+fn same_front(numbers: &[u32], windows: &[Hwnd]) -> usize
+    requires { length windows.now ≤ length numbers.now }
+    ensures within { result ≤ length windows.now }
+    ensures same { take result numbers.now ≡ map (λ v. v.0) (take result windows.now) }
+{
+    for i in 0..windows.len() {
+        if numbers[i] != windows[i].0 {
+            return i;
+        }
+    }
+    windows.len()
+}
+
+/// Whether the numbers are those of these windows.
+fn is_same(numbers: &[u32], windows: &[Hwnd]) -> bool
+    ensures { result ≡ true → numbers.now ≡ map (λ v. v.0) windows.now }
+{
+    numbers.len() == windows.len() && same_front(numbers, windows) == windows.len()
+}
+
+/// Sets the window's topmost flag to this, where the window stands.
+fn set_flag(windows: &mut IndexMap<u32, Known>, window: Hwnd, topmost: bool)
+    requires { IsUnique nat_eq windows.old }
+    ensures unique { IsUnique nat_eq windows.new }
+    ensures flag { newest_first windows.new.entries ≡ map (flagged window.0 topmost) (newest_first windows.old.entries) }
+{
+    if let Some(known) = windows.get(&window.0).copied() {
+        let _old = windows.insert(window.0, Known { topmost, ..known });
+    }
+}
+
+/// The windows that are topmost, by their own flag or by that of an owner up the chain.
+fn topmost_among(alloc: Global, windows: &IndexMap<u32, Known>) -> Result<IndexSet<u32>, AllocError>
+    requires { AllCameNew (newest_first windows.now.entries) }
+    ensures { IfOk result (λ s. AreTopmost s.keys (newest_first windows.now.entries)) }
+{
+    let mut topmost = IndexSet::new(alloc);
+    for i in 0..windows.len() {
+        let (window, known) = windows.get_index(i).unwrap();
+        topmost.reserve(1)?;
+        mark(&mut topmost, *window, *known);
+    }
+    Ok(topmost)
+}
+
+/// Adds a new window to those that are topmost, if it is.
+fn mark(topmost: &mut IndexSet<u32>, window: u32, known: Known)
+    requires { 0 < spare topmost.old }
+    ensures { topmost.new.keys ≡ marked topmost.old.keys window known }
+{
+    if known.topmost || topmost.contains(&known.owner.0) {
+        topmost.insert(window).unwrap();
     }
 }
