@@ -22,7 +22,7 @@ use Rattle.user_model.specs.Posts.{PostedMsg, first_post, passes, posted}
 use Rattle.user_model.specs.Next.{is_empty, next_quit}
 use Rattle.user_model.specs.Refusals.{refuse, invalid_parameter}
 use Rattle.user_model.specs.Looks.{place_of, is_shown}
-use Rattle.user_model.specs.Pixels.{box_of, corner_from, covers, deepest, highest, origin_within, owner, point, screen, shifted}
+use Rattle.user_model.specs.Pixels.{owner, point}
 use Rattle.user_model.specs.Replies.{is_barred_by, row, thread_reply}
 use Rattle.user_model.specs.Stacks.{top}
 use Rattle.user_model.specs.Threads.{is_running}
@@ -32,37 +32,12 @@ use Rattle.user_model.specs.Idle.{reply, clock_row}
 use Rattle.user_model.specs.Legal.{IsLawful}
 use Rattle.user_model.specs.Machines.{entry_of}
 use Rattle.user_model.proofs.PostLaws.{IsRising, posted_rises}
+use Rattle.screen_state.proofs.OwnersKept.{owner_same}
 use Rattle.user_laws.specs.Kept.{ChangesNothing}
 
--- what a refused entry leaves of the owners of pixels
-module _ (past : Past) (by : Thread) (asked : Call) (code : Code) where
-  abbrev later : Past
-  later = entry_of by asked (Refused code) ∷ past
-
-  origin_same : (n w : ℕ) → origin_within n later w ≡ origin_within n past w
-  origin_same zero w = refl
-  origin_same (suc n) w = ap (λ (o : Point). elim (eqb w 0) as (λ c. Point) [ true ↦ point (pos 0) (pos 0) | false ↦ corner_from o (place_of past w) ]) (origin_same n (parent_in (live past) w))
-
-  box_same : (w : ℕ) → box_of later w ≡ box_of past w
-  box_same w = ap (λ (o : Point). shifted o (place_of past w)) (origin_same (parent_in (live past) w) (parent_in (live past) w))
-
-  covers_same : (p : Point) (w : Hwnd) → covers later p w ≡ covers past p w
-  covers_same p w = ap (λ (b : Box). is_shown past w.0 && has_pixel b p) (box_same w.0)
-
-  found_same : (p : Point) (ws : List Hwnd) → find (covers later p) ws ≡ find (covers past p) ws
-  found_same p [] = refl
-  found_same p (w ∷ ws) = ap (λ b. cond b (Some w) (find (covers later p) ws)) (covers_same p w) ∙ ap (λ o. cond (covers past p w) (Some w) o) (found_same p ws)
-
-  deepest_same : (n : ℕ) (p : Point) (w : Hwnd) → deepest n later p w ≡ deepest n past p w
-  deepest_same zero p w = refl
-  deepest_same (suc n) p w = ap (λ o. elim o as (λ c. Hwnd) [ Some v ↦ deepest n later p v | None ↦ w ]) (found_same p (reverse (siblings past w.0))) ∙ further (highest past p w.0) (λ v. deepest_same n p v)
-    where
-      further : (o : Option Hwnd) → ((v : Hwnd) → deepest n later p v ≡ deepest n past p v) → (elim o as (λ c. Hwnd) [ Some v ↦ deepest n later p v | None ↦ w ]) ≡ (elim o as (λ c. Hwnd) [ Some v ↦ deepest n past p v | None ↦ w ])
-      further None rest = refl
-      further (Some v) rest = rest v
-
-  owner_same : (setup : Setup) (p : Point) → owner setup later p ≡ owner setup past p
-  owner_same setup p = ap (λ (w : Hwnd). cond (has_pixel (screen setup) p) w (hwnd 0)) (deepest_same (length (live past)) p (hwnd 0))
+-- a refused entry leaves the owners of pixels
+owner_kept : (past : Past) (by : Thread) (asked : Call) (code : Code) (setup : Setup) (p : Point) → owner setup (entry_of by asked (Refused code) ∷ past) p ≡ owner setup past p
+owner_kept past by asked code setup p = owner_same past (entry_of by asked (Refused code)) refl (λ w. refl) (λ q. refl) setup p
 
 changes_none : (past : Past) (who : Thread) (call : Call) (a : Answer) → is_refusal a ≡ true → ChangesNothing past (entry_of who call a)
 changes_none past who call (Refused code) is = record {
@@ -73,7 +48,7 @@ changes_none past who call (Refused code) is = record {
   same_numbers = refl;
   same_looks = λ w. refl;
   same_siblings = λ p. refl;
-  same_owners = λ setup p. owner_same past who call code setup p;
+  same_owners = λ setup p. owner_kept past who call code setup p;
   same_marks = λ w. refl;
   same_steps = λ step. refl;
   same_classes = refl;
@@ -100,7 +75,7 @@ fewer : (n : ℕ) → nat_le 2097152 (suc n) ≡ false → nat_le 2097152 n ≡ 
 fewer n is = grind (arith, nat_tests, is)
 
 row_same : (setup : Setup) (past : Past) (by : Thread) (asked : Call) (code : Code) (who : ℕ) (call : Call) → row setup (entry_of by asked (Refused code) ∷ past) who call ≡ row setup past who call
-row_same setup past by asked code who (WindowAt x y) = ap (λ (w : Hwnd). WindowTold w) (owner_same past by asked code setup (point x y))
+row_same setup past by asked code who (WindowAt x y) = ap (λ (w : Hwnd). WindowTold w) (owner_kept past by asked code setup (point x y))
 row_same setup past by asked code who _ = refl
 
 thread_same : (setup : Setup) (past : Past) (by : Thread) (asked : Call) (a : Answer) → is_refusal a ≡ true → (who : ℕ) (call : Call) → thread_reply setup (entry_of by asked a ∷ past) who call ≡ thread_reply setup past who call
