@@ -1,7 +1,7 @@
 -- The lists of siblings as the code keeps them, and as contracts see them.
-use Rattle.std.proofs.Common.{◌≡◌, ◌∙◌, ℕ, suc, ◌+◌, List, [], ◌∷◌, ◌++◌, take, drop, map, Bool, true, false, cond, not, ◌&&◌, ◌||◌, eqb, nat_eq, if◌then◌else◌, slice_get, position, Option, Some, None, is_some, add-one, drop-cons, refl, sym, ap, subst}
+use Rattle.std.proofs.Common.{◌≡◌, ◌∙◌, ℕ, suc, ◌+◌, List, [], ◌∷◌, ◌++◌, take, drop, map, Bool, true, false, cond, not, ◌||◌, eqb, nat_eq, slice_get, position, Option, Some, None, is_some, add-one, drop-cons, refl, sym, ap, subst}
 use Rattle.std.specs.Cmp.{nat_eq_equiv}
-use Rattle.std.specs.List.{filter, list_any, list_all, IsDistinct, AllByRecursion}
+use Rattle.std.specs.List.{filter, list_all, IsDistinct, AllByRecursion}
 use Rattle.std.specs.Map.{keys_of, lookup, values_of}
 use Rattle.std.specs.Option.{option_map}
 use Rattle.std.specs.Map.Calls.{RetainsPairs}
@@ -13,7 +13,7 @@ use Rattle.indexmap.specs.IndexMap.{insert_entry, set_value_at, shift_remove_ent
 use Rattle.indexmap.proofs.MapLemmas.{Found-position, absent_before, insert_entry-first}
 use Rattle.win_num.specs.declared.message.Hwnd.{Hwnd}
 use Rattle.win_order.specs.Families.{windows_of, with_windows, without, without_window}
-use Rattle.win_order.specs.Kept.{AllCameNew, IsKept, is_child, is_family}
+use Rattle.win_order.specs.Kept.{IsKept, is_child, is_family}
 use Rattle.win_order.specs.Layers.{Layers, is_gone, removed, staying_in}
 use Rattle.win_order.specs.Listed.{siblings, without_child}
 use Rattle.win_order.specs.Siblings.{Siblings}
@@ -25,7 +25,6 @@ use Rattle.win_order.proofs.KeptLaws.{lone_child, windows_first, windows_next, w
 use Rattle.win_order.proofs.LoneLaws.{all_kept_of, map_alike}
 use Rattle.win_order.proofs.MarkLaws.{same_way}
 use Rattle.win_order.proofs.StandingLaws.{among}
-use Rattle.win_order.proofs.TopLaws.{one_more}
 
 abbrev pub Entries : Type 0
 Entries = List (ℕ × List Hwnd)

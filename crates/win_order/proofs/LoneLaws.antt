@@ -15,11 +15,11 @@ use Rattle.win_order.specs.Layers.{Layers, goes_along_with, is_among, is_gone, k
 use Rattle.win_order.specs.Lone.{GoesAlone}
 use Rattle.win_order.specs.Siblings.{Siblings}
 use Rattle.win_order.specs.Standing.{Standing}
-use Rattle.win_order.proofs.Booleans.{all_both, all_one, and_left, and_right, and_true, any_over, or_first, or_rest, or_second}
+use Rattle.win_order.proofs.Booleans.{all_both, and_left, and_right, and_true, any_over, or_first, or_rest, or_second}
 use Rattle.win_order.proofs.EntryLaws.{new_stands, newest_cons, stands_apart}
 use Rattle.win_order.proofs.KeptLaws.{nobody_stands}
 use Rattle.win_order.proofs.MarkLaws.{same_way}
-use Rattle.win_order.proofs.StandingLaws.{CameNew, among, child_among}
+use Rattle.win_order.proofs.StandingLaws.{among, child_among}
 
 -- ---- what stays and goes
 

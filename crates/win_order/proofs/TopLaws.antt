@@ -1,7 +1,7 @@
 -- The numbers of the windows that are topmost, when windows come and go.
-use Rattle.std.proofs.Common.{◌≡◌, ◌∙◌, ℕ, ◌+◌, List, [], ◌∷◌, ◌++◌, take, drop, map, reverse, slice_get, Some, add-one, Bool, true, false, cond, not, ◌&&◌, ◌||◌, eqb, nat_eq, if◌then◌else◌, refl, sym, ap, subst}
+use Rattle.std.proofs.Common.{◌≡◌, ◌∙◌, ℕ, ◌+◌, List, [], ◌∷◌, ◌++◌, take, drop, map, reverse, slice_get, Some, add-one, Bool, true, false, cond, not, ◌&&◌, ◌||◌, eqb, nat_eq, refl, sym, ap, subst}
 use Rattle.std.specs.List.{filter, list_any, list_all}
-use Rattle.std.proofs.lemmas.Bool.{false≢true, eqb-true, eq-eqb, cond-true, cond-false, not-true}
+use Rattle.std.proofs.lemmas.Bool.{eqb-true, cond-true, cond-false, not-true}
 use Rattle.std.proofs.lemmas.Map.Views.{any-filter_same}
 use Rattle.std.proofs.lemmas.List.{map-append, reverse-append, take-append-drop}
 use Rattle.std.proofs.lemmas.Option.{get_or_from_slice_get, slice_get_within}
@@ -13,7 +13,7 @@ use Rattle.win_order.specs.Kept.{AllCameNew}
 use Rattle.win_order.specs.Standing.{Standing}
 use Rattle.win_order.specs.Standings.{is_topmost}
 use Rattle.win_order.specs.Tops.{AreTopmost, marked}
-use Rattle.win_order.proofs.EntryLaws.{new_topmost, newest_cons, newest_push, topmost_absent}
+use Rattle.win_order.proofs.EntryLaws.{new_topmost, newest_push, topmost_absent}
 use Rattle.win_order.proofs.MarkLaws.{any_key, same_way}
 use Rattle.win_order.proofs.StandingLaws.{CameNew, among, goes_with, left, topmost_left, topmost_next}
 

@@ -1,8 +1,7 @@
-use Rattle.std.proofs.Common.{◌≡◌, ◌∙◌, ℕ, List, [], ◌∷◌, ◌++◌, ap, subst}
+use Rattle.std.proofs.Common.{◌≡◌, ◌∙◌, ℕ, [], ◌∷◌, ◌++◌, ap, subst}
 use Rattle.win_order.specs.declared.standings.Known.{Known}
 use Rattle.win_order.specs.Entries.{newest_first, standing}
 use Rattle.win_order.specs.Kept.{AllCameNew}
-use Rattle.win_order.specs.Standing.{Standing}
 use Rattle.win_order.specs.Tops.{AreTopmost}
 use Rattle.win_order.proofs.EntryLaws.{newest_push}
 use Rattle.win_order.proofs.TopLaws.{topmost_older}
