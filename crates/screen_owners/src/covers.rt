@@ -138,12 +138,15 @@ fn cut(alloc: Global, region: Region, part: Rect) -> Result<Region, AllocError>
     region.diff(alloc, &hidden)
 }
 
-/// What the covers leave of a region, taken out one after the other.
+/// What the covers leave of a region, taken out one after the other as long as a pixel is left.
 fn without(alloc: Global, region: Region, covers: &[Cover]) -> Result<Region, AllocError>
     ensures { IfOk result (λ x. (p : Point) → region_has x p ≡ (region_has region p && not (any_covers covers.now p))) }
 {
     let mut left = region;
     for c in covers {
+        if left.rects().is_empty() {
+            return Ok(left);
+        }
         left = cut(alloc, left, c.part)?;
     }
     Ok(left)
