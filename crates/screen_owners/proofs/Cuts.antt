@@ -248,3 +248,15 @@ taken_is whole one both new cs above i d within at same h k m c p is =
     tests : (w a b : Bool) → ((w && a) && not b) ≡ (w && a && not b)
     tests true a b = refl
     tests false a b = refl
+
+-- nothing is left after some of the covers, and so after all
+pub emptied : (whole left : Bool) (cs : List Cover) (i : ℕ) (p : Point) → left ≡ (whole && not (any_covers (take i cs) p)) → left ≡ false → false ≡ (whole && not (any_covers cs p))
+emptied whole left cs i p before none = tests whole (any_covers (take i cs) p) (any_covers (drop i cs) p) (sym before ∙ none) ∙ ap (λ b. whole && not b) (sym split)
+  where
+    split : any_covers cs p ≡ (any_covers (take i cs) p || any_covers (drop i cs) p)
+    split = ap (λ xs. any_covers xs p) (sym (take-append-drop i cs)) ∙ list_any-append (λ (c : Cover). rect_has c.part p) (take i cs) (drop i cs)
+
+    tests : (w a b : Bool) → (w && not a) ≡ false → false ≡ (w && not (a || b))
+    tests true true b h = refl
+    tests true false b h = absurd (true≢false h)
+    tests false a b h = refl

@@ -126,25 +126,28 @@ fn meets(region: &Region, r: Rect) -> bool
     false
 }
 
-/// What a rectangle leaves of a region, which is that region where they don't meet.
-#[tactic(auto, using(crate::proofs::Cuts::cut_none))]
-fn cut(alloc: Global, region: Region, part: Rect) -> Result<Region, AllocError>
-    ensures { IfOk result (λ x. (p : Point) → region_has x p ≡ (region_has region p && not (rect_has part p))) }
+/// What a rectangle leaves of a region.
+fn cut(alloc: Global, region: &Region, part: Rect) -> Result<Region, AllocError>
+    ensures { IfOk result (λ x. (p : Point) → region_has x p ≡ (region_has region.now p && not (rect_has part p))) }
 {
-    if !meets(&region, part) {
-        return Ok(region);
-    }
     let hidden = Region::of_rect(alloc, part)?;
-    region.diff(alloc, &hidden)
+    let left = region.diff(alloc, &hidden)?;
+    Ok(left)
 }
 
-/// What the covers leave of a region, taken out one after the other.
+/// What the covers leave of a region, taken out one after the other where they meet what is left, as long
+/// as a pixel is left.
 fn without(alloc: Global, region: Region, covers: &[Cover]) -> Result<Region, AllocError>
     ensures { IfOk result (λ x. (p : Point) → region_has x p ≡ (region_has region p && not (any_covers covers.now p))) }
 {
     let mut left = region;
     for c in covers {
-        left = cut(alloc, left, c.part)?;
+        if left.rects().is_empty() {
+            return Ok(left);
+        }
+        if meets(&left, c.part) {
+            left = cut(alloc, &left, c.part)?;
+        }
     }
     Ok(left)
 }
