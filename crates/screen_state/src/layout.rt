@@ -36,12 +36,7 @@ pub fn layout_after(
 }
 
 /// Does to the table and to the order what an entry does.
-fn enter(
-    alloc: Global,
-    tree: &mut Tree,
-    order: &mut Order,
-    entry: Entry,
-) -> Result<(), AllocError>
+fn enter(alloc: Global, tree: &mut Tree, order: &mut Order, entry: Entry) -> Result<(), AllocError>
     requires { FitsEntry entry.who.0 entry.answer entry.call tree.old order.old }
     ensures { OnOk result (IsEntered entry.who.0 entry.answer entry.call tree.old tree.new order.old order.new) }
 {
@@ -66,12 +61,7 @@ fn enter(
 }
 
 /// Puts a window at a place and among its siblings, or shows or hides it, as the call says.
-fn place(
-    alloc: Global,
-    tree: &mut Tree,
-    order: &mut Order,
-    call: Call,
-) -> Result<(), AllocError>
+fn place(alloc: Global, tree: &mut Tree, order: &mut Order, call: Call) -> Result<(), AllocError>
     requires table { FitsLooking tree.old call }
     requires order { FitsReordering call order.old }
     ensures table { OnOk result (IsLookedAt call tree.old tree.new) }

@@ -27,10 +27,10 @@ pub returns-in-Tell : goal.returns-in-Tell
 returns-in-Tell c =
     let e = c.args.entry in
     elim c.in-Tell.is [
-      inl x ↦ subst (λ (a : Answer). IsEntered e.who.0 a e.call c.args.tree.now c.unmake.new.tree c.args.order.now c.args.order.now) (sym x.1)
-      (told e.who.0 e.call c.args.tree.now c.unmake.new.tree c.args.order.now c.args.order.now x.0 c.unmake.ensures)
-    | inr x ↦ subst (λ (a : Answer). IsEntered e.who.0 a e.call c.args.tree.now c.unmake.new.tree c.args.order.now c.args.order.now) (sym x.1)
-      (given_last e.who.0 e.call c.args.tree.now c.unmake.new.tree c.args.order.now c.args.order.now x.0 c.unmake.ensures)
+      | inl x ↦ subst (λ (a : Answer). IsEntered e.who.0 a e.call c.args.tree.now c.unmake.new.tree c.args.order.now c.args.order.now) (sym x.1)
+          (told e.who.0 e.call c.args.tree.now c.unmake.new.tree c.args.order.now c.args.order.now x.0 c.unmake.ensures)
+      | inr x ↦ subst (λ (a : Answer). IsEntered e.who.0 a e.call c.args.tree.now c.unmake.new.tree c.args.order.now c.args.order.now) (sym x.1)
+          (given_last e.who.0 e.call c.args.tree.now c.unmake.new.tree c.args.order.now c.args.order.now x.0 c.unmake.ensures)
     ]
 
 pub returns-in-Ended : goal.returns-in-Ended
