@@ -18,7 +18,7 @@ abbrev pub point : ℕ → ℕ → Point
 point x y = record { x = pos x; y = pos y }
 
 -- what holds of each point of a row, or of a screen
-row_all : (P : Point → Type 0) (y : ℕ) (n : ℕ) → ((x : ℕ) → x < n → P (point x y)) → All P (row_points (pos y) n)
+pub row_all : (P : Point → Type 0) (y : ℕ) (n : ℕ) → ((x : ℕ) → x < n → P (point x y)) → All P (row_points (pos y) n)
 unfolding row_points
 row_all P y zero h = All-nil P
 row_all P y (suc n) h = All-push P (row_points (pos y) n) (point n y) (row_all P y n (λ x k. h x (omega arith))) (h n (omega arith))

@@ -2,6 +2,8 @@
 //! points (Microsoft, GetRgnBox function).
 #![tactic(auto)]
 
+mod laws;
 mod told;
 
-pub use told::{screens_have_their_points, told_bounds, told_kind};
+pub use laws::{lists_tell_their_pixels, screens_have_their_points};
+pub use told::{told_bounds, told_kind};

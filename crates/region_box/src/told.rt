@@ -1,10 +1,10 @@
 //! The kind and the bounds of a region, as definitions over lists of points have them.
 
-ghost use Rattle.std.specs.Prelude.{◌≡◌, ℕ, Bool, cond, count_by, filter};
+ghost use Rattle.std.specs.Prelude.{◌≡◌, ℕ, Bool, filter};
 ghost use Rattle.win_num.specs.declared.shapes.Point.{Point};
-ghost use Rattle.win_num.specs.PixelSets.{bounds, has_pixel, kind_of};
+ghost use Rattle.win_num.specs.PixelSets.{bounds, kind_of};
 ghost use Rattle.win_num.specs.Rects.{box_in};
-ghost use Rattle.region_box.specs.Screens.{IsPassing, same_point, screen_box, screen_points};
+ghost use Rattle.region_box.specs.Screens.{IsPassing, screen_points};
 
 use band_region::Region;
 use win_num::Rect;
@@ -27,7 +27,5 @@ pub fn told_bounds(region: &Region) -> Rect
     region.bounds()
 }
 
-/// The list of a screen's points has each pixel of the screen once, and no other point.
-pub fn screens_have_their_points()
-    ensures { (width height : ℕ) (p : Point) → count_by (same_point p) (screen_points width height) ≡ cond (has_pixel (screen_box width height) p) 1 0 }
-{}
+#[cfg(test)]
+mod tests;
