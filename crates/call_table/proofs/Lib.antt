@@ -1,4 +1,1 @@
-pub mod AnswerLaws
 pub mod CallLaws
-pub mod Finding
-pub mod ValueEquality

@@ -1,5 +1,9 @@
-pub mod Answers
 pub mod Calls
-pub mod Forms
-pub mod Values
-pub mod Words
+pub mod Clock
+pub mod Delivery
+pub mod Lookups
+pub mod Registrations
+pub mod Replies
+pub mod Sends
+pub mod Splits
+pub mod Windows

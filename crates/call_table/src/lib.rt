@@ -1,23 +1,31 @@
-//! One row for each call of the machine and for each form of answer: its word and the kinds of its fields.
+//! One row for each call of the machine: its word and the kinds of its fields.
 //!
 //! A call is its name and the values of its fields, in the order in which scripts and logs write them
-//! (`call_name`, `call_parts`), and is made of them again (`call_of_parts`); an answer likewise. What reads or
-//! writes calls and answers is a loop over fields.
+//! (`split_call`), and is made of them again (`call_of_parts`). What reads or writes calls is a loop over
+//! fields. Each group of calls has its rows in a file of its own.
 #![tactic(auto)]
 
-mod answers;
 mod calls;
-mod form;
-mod value;
-mod words;
+mod clock;
+mod delivery;
+mod lookups;
+mod registrations;
+mod replies;
+mod sends;
+mod split;
+mod windows;
 
-pub use answers::{
-    AnswerName, answer_form, answer_name, answer_named, answer_of_parts, answer_parts,
+pub use calls::{
+    CallName, call_form, call_name, call_named, call_of_parts, call_parts, split_call,
 };
-pub use calls::{CallName, call_form, call_name, call_named, call_of_parts, call_parts};
-pub use form::{Field, Form};
-pub use value::{FIELD_LIMIT, Value, Values, field_of};
-pub use words::{cause_word, code_word, source_word};
+pub use clock::ClockCall;
+pub use delivery::DeliveryCall;
+pub use lookups::LookupCall;
+pub use registrations::RegistrationCall;
+pub use replies::ReplyCall;
+pub use sends::SendCall;
+pub use split::SplitCall;
+pub use windows::WindowCall;
 
 #[cfg(test)]
 mod tests;

@@ -39,39 +39,7 @@ pub fn posting(tree: &Tree, stamp: Stamp, entry: Entry) -> Option<(u64, Msg)>
             to,
             message(Hwnd(0), number, wparam, lparam, stamp),
         )),
-        Call::Peek(..)
-        | Call::Get(..)
-        | Call::PostQuit(..)
-        | Call::Dispatch(..)
-        | Call::Send(..)
-        | Call::SendTimeout(..)
-        | Call::SendNotify(..)
-        | Call::SendCallback(..)
-        | Call::Await(..)
-        | Call::Leave(..)
-        | Call::Reply(..)
-        | Call::InSend
-        | Call::Message(..)
-        | Call::Register(..)
-        | Call::Unregister(..)
-        | Call::NewWindow(..)
-        | Call::Doom(..)
-        | Call::Unmake(..)
-        | Call::Drop(..)
-        | Call::Place(..)
-        | Call::Show(..)
-        | Call::Find(..)
-        | Call::AwaitTitle(..)
-        | Call::NextTop(..)
-        | Call::WindowAt(..)
-        | Call::IsWindow(..)
-        | Call::Parent(..)
-        | Call::EndThread
-        | Call::Clock
-        | Call::SleepUntil(..)
-        | Call::Yield
-        | Call::Tick(..)
-        | Call::Advance => None,
+        _ => None,
     }
 }
 

@@ -78,39 +78,7 @@ fn removes(call: Call) -> bool
     match call {
         Call::Get(..) => true,
         Call::Peek(_, _, _, flags) => flags & names::PM_REMOVE == names::PM_REMOVE,
-        Call::Post(..)
-        | Call::PostThread(..)
-        | Call::PostQuit(..)
-        | Call::Dispatch(..)
-        | Call::Send(..)
-        | Call::SendTimeout(..)
-        | Call::SendNotify(..)
-        | Call::SendCallback(..)
-        | Call::Await(..)
-        | Call::Leave(..)
-        | Call::Reply(..)
-        | Call::InSend
-        | Call::Message(..)
-        | Call::Register(..)
-        | Call::Unregister(..)
-        | Call::NewWindow(..)
-        | Call::Doom(..)
-        | Call::Unmake(..)
-        | Call::Drop(..)
-        | Call::Place(..)
-        | Call::Show(..)
-        | Call::Find(..)
-        | Call::AwaitTitle(..)
-        | Call::NextTop(..)
-        | Call::WindowAt(..)
-        | Call::IsWindow(..)
-        | Call::Parent(..)
-        | Call::EndThread
-        | Call::Clock
-        | Call::SleepUntil(..)
-        | Call::Yield
-        | Call::Tick(..)
-        | Call::Advance => false,
+        _ => false,
     }
 }
 

@@ -18,15 +18,15 @@ use Rattle.user_model.specs.declared.call.Call.{Call}
 use Rattle.user_model.specs.declared.entry.Answer.{Answer}
 use Rattle.user_model.specs.declared.entry.Origin.{Origin}
 use Rattle.user_model.specs.declared.entry.Origin.TheVariants as origins
-use Rattle.call_table.specs.declared.answers.AnswerName.{AnswerName}
-use Rattle.call_table.specs.declared.answers.AnswerName.TheVariants as answer_names
+use Rattle.answer_table.specs.declared.answers.AnswerName.{AnswerName}
 use Rattle.call_table.specs.declared.calls.CallName.{CallName}
-use Rattle.call_table.specs.declared.calls.CallName.TheVariants as call_names
-use Rattle.call_table.specs.declared.value.Value.{Value}
-use Rattle.call_table.specs.declared.value.Value.TheVariants as values
-use Rattle.call_table.specs.Answers.{answer_row, answer_name, answer_parts}
+use Rattle.call_fields.specs.declared.value.Value.{Value}
+use Rattle.call_fields.specs.declared.value.Value.TheVariants as values
+use Rattle.answer_table.specs.Answers.{answer_row, answer_name, answer_parts}
 use Rattle.call_table.specs.Calls.{call_row, call_name, call_parts}
-use Rattle.call_table.specs.Words.{source_word, cause_word}
+use Rattle.call_table.proofs.CallLaws.{each_call_word}
+use Rattle.answer_table.proofs.AnswerLaws.{each_answer_word}
+use Rattle.call_fields.specs.Words.{source_word, cause_word}
 use Rattle.script_tree.specs.Tree.{Tree, ProcedureTree}
 use Rattle.log_text.specs.Entries.{procedure_name, code_text, value_text, call_text, answer_text}
 use Rattle.log_json.specs.Texts.{IsText, AreTexts}
@@ -146,12 +146,10 @@ values_utf8 s h (v ∷ vs) = IsUtf8-append (value_text s v) (flat_map (value_tex
 -- ---- calls and answers
 
 call_plain : (n : CallName) → is_plain (call_row n).word ≡ true
-call_plain call_names.Clock = refl
-call_plain n = refl
+call_plain = each_call_word is_plain refl
 
 answer_plain : (n : AnswerName) → is_plain (answer_row n).word ≡ true
-answer_plain answer_names.Okay = refl
-answer_plain n = refl
+answer_plain = each_answer_word is_plain refl
 
 pub call_utf8 : (s : Tree) → AreTexts s → (c : Call) → IsUtf8 (call_text s c)
 call_utf8 s h c = IsUtf8-append (call_row (call_name c)).word (flat_map (value_text s) (call_parts c)) (plain _ (call_plain (call_name c))) (values_utf8 s h (call_parts c))

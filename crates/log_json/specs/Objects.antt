@@ -15,7 +15,7 @@ use Rattle.log_text.specs.declared.end.End.{End}
 use Rattle.log_text.specs.declared.end.End.TheVariants.{Done, Stuck, Spent, Cut}
 use Rattle.log_text.specs.Ends.{setup_of}
 use Rattle.log_text.specs.Entries.{call_text, answer_text}
-use Rattle.log_text.specs.Endings.{last_call}
+use Rattle.log_text.specs.Endings.{end_word, last_call}
 
 -- a value on a line of its own, with no blank
 abbrev pub line : Data → List ℕ
@@ -30,12 +30,6 @@ abbrev pub entry_object : Tree → Entry → Data
 entry_object s e = object (member (codes "answer") (string (answer_text s e.answer)) (member (codes "call") (string (call_text s e.call)) (member (codes "who") (number (unsigned e.who.0)) no_members)))
 
 -- how the run ended
-abbrev pub end_word : End → List ℕ
-end_word Done = codes "done"
-end_word Stuck = codes "stuck"
-end_word Spent = codes "spent"
-end_word Cut = codes "cut"
-
 abbrev pub end_object : End → Data
 end_object end = one_member (codes "end") (string (end_word end))
 

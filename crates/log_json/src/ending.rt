@@ -5,28 +5,16 @@ ghost use Rattle.std.specs.Prelude.{◌≡◌, ◌<◌, ◌≤◌, length, codes
 ghost use Rattle.user_io.specs.Text.{Adds};
 ghost use Rattle.serde_json.specs.View.{view};
 ghost use Rattle.log_text.specs.Ends.{setup_of};
-ghost use Rattle.log_json.specs.Objects.{line, end_word, end_object, waits_text, waits_object, waits_line, spent_object, counts_object, extra, extras, ending};
+ghost use Rattle.log_json.specs.Objects.{line, end_object, waits_text, waits_object, waits_line, spent_object, counts_object, extra, extras, ending};
 ghost use Rattle.log_json.specs.Texts.{AreTexts};
 
 use crate::line::{put_line, text_of};
-use log_text::{End, Words, has_ended, last_call, put_call};
+use log_text::{End, Words, end_word, has_ended, last_call, put_call};
 use serde_json::{Value, json};
 use std::alloc::{AllocError, Global};
 use user_io::text::{put_number, put_text};
 use user_model::{Call, Machine, SendCount};
 use win_num::Thread;
-
-/// The word of an end.
-fn end_word(end: End) -> &'static str
-    ensures { result.now ≡ end_word end }
-{
-    match end {
-        End::Done => "done",
-        End::Stuck => "stuck",
-        End::Spent => "spent",
-        End::Cut => "cut",
-    }
-}
 
 /// The object of an end.
 fn end_object(alloc: Global, end: End) -> Result<Value, AllocError>

@@ -6,14 +6,14 @@ use Rattle.win_num.specs.declared.message.Thread.{Thread}
 use Rattle.user_model.specs.declared.call.Call.{Call}
 use Rattle.user_model.specs.declared.entry.Answer.{Answer}
 use Rattle.user_model.specs.declared.entry.Entry.{Entry}
-use Rattle.call_table.specs.declared.answers.AnswerName.{AnswerName}
+use Rattle.answer_table.specs.declared.answers.AnswerName.{AnswerName}
 use Rattle.call_table.specs.declared.calls.CallName.{CallName}
-use Rattle.call_table.specs.declared.form.Field.{Field}
-use Rattle.call_table.specs.declared.value.Value.{Value}
-use Rattle.call_table.specs.Answers.{answer_row, answer_name, answer_parts}
+use Rattle.call_fields.specs.declared.form.Field.{Field}
+use Rattle.call_fields.specs.declared.value.Value.{Value}
+use Rattle.answer_table.specs.Answers.{answer_row, answer_name, answer_parts}
 use Rattle.call_table.specs.Calls.{call_row, call_name, call_parts}
-use Rattle.call_table.specs.Values.{field_of}
-use Rattle.call_table.proofs.AnswerLaws as answer_laws
+use Rattle.call_fields.specs.Values.{field_of}
+use Rattle.answer_table.proofs.AnswerLaws as answer_laws
 use Rattle.call_table.proofs.CallLaws as call_laws
 use Rattle.script_tree.specs.Tree.{Tree}
 use Rattle.script_lines.specs.Known.{known_of}

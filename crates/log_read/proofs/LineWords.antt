@@ -18,15 +18,15 @@ use Rattle.user_model.specs.declared.entry.Entry.{Entry}
 use Rattle.user_model.specs.declared.entry.Origin.{Origin}
 use Rattle.user_model.specs.declared.entry.Origin.TheVariants as origins
 use Rattle.user_model.specs.declared.entry.SendCount.{SendCount}
-use Rattle.call_table.specs.declared.answers.AnswerName.{AnswerName}
-use Rattle.call_table.specs.declared.answers.AnswerName.TheVariants as answer_names
+use Rattle.answer_table.specs.declared.answers.AnswerName.{AnswerName}
 use Rattle.call_table.specs.declared.calls.CallName.{CallName}
-use Rattle.call_table.specs.declared.calls.CallName.TheVariants as call_names
-use Rattle.call_table.specs.declared.value.Value.{Value}
-use Rattle.call_table.specs.declared.value.Value.TheVariants as values
-use Rattle.call_table.specs.Answers.{answer_row, answer_name, answer_parts}
+use Rattle.call_fields.specs.declared.value.Value.{Value}
+use Rattle.call_fields.specs.declared.value.Value.TheVariants as values
+use Rattle.answer_table.specs.Answers.{answer_row, answer_name, answer_parts}
 use Rattle.call_table.specs.Calls.{call_row, call_name, call_parts}
-use Rattle.call_table.specs.Words.{source_word, cause_word}
+use Rattle.call_table.proofs.CallLaws.{each_call_word}
+use Rattle.answer_table.proofs.AnswerLaws.{each_answer_word}
+use Rattle.call_fields.specs.Words.{source_word, cause_word}
 use Rattle.user_io.specs.Text.{Adds}
 use Rattle.script_tree.specs.Tree.{Tree, ProcedureTree}
 use Rattle.script_lines.specs.Known.{known_of}
@@ -235,12 +235,10 @@ values_are_words s [] rest h fits all = all
 values_are_words s (v ∷ vs) rest h fits all = and_from _ _ (value_is_word s v h fits.0) (values_are_words s vs rest h fits.1 all)
 
 call_is_word : (n : CallName) → is_word (call_row n).word ≡ true
-call_is_word call_names.Clock = refl
-call_is_word n = refl
+call_is_word = each_call_word is_word refl
 
 answer_is_word : (n : AnswerName) → is_word (answer_row n).word ≡ true
-answer_is_word answer_names.Okay = refl
-answer_is_word n = refl
+answer_is_word = each_answer_word is_word refl
 
 call_are_words : (s : Tree) (c : Call) (rest : Words) → AreKnown (known_of s) → IsCall s c → list_all is_word rest ≡ true → list_all is_word (call_words s c rest) ≡ true
 call_are_words s c rest h fits all = and_from _ _ (call_is_word (call_name c)) (values_are_words s (call_parts c) rest h fits all)

@@ -12,14 +12,14 @@ use Rattle.user_model.specs.declared.call.Call.{Call}
 use Rattle.user_model.specs.declared.entry.Answer.{Answer}
 use Rattle.user_model.specs.declared.entry.Entry.{Entry}
 use Rattle.user_model.specs.declared.entry.SendCount.{SendCount}
-use Rattle.call_table.specs.declared.answers.AnswerName.{AnswerName}
+use Rattle.answer_table.specs.declared.answers.AnswerName.{AnswerName}
 use Rattle.call_table.specs.declared.calls.CallName.{CallName}
-use Rattle.call_table.specs.declared.form.Field.{Field}
-use Rattle.call_table.specs.declared.value.Value.{Value}
-use Rattle.call_table.specs.Answers.{answer_row, answer_name, answer_parts, answer_named, made_answer}
+use Rattle.call_fields.specs.declared.form.Field.{Field}
+use Rattle.call_fields.specs.declared.value.Value.{Value}
+use Rattle.answer_table.specs.Answers.{answer_row, answer_name, answer_parts, answer_named, made_answer}
 use Rattle.call_table.specs.Calls.{call_row, call_name, call_parts, call_named, made_call}
-use Rattle.call_table.specs.Values.{field_of}
-use Rattle.call_table.proofs.AnswerLaws as answer_laws
+use Rattle.call_fields.specs.Values.{field_of}
+use Rattle.answer_table.proofs.AnswerLaws as answer_laws
 use Rattle.call_table.proofs.CallLaws as call_laws
 use Rattle.script_tree.specs.Tree.{Tree}
 use Rattle.script_lines.specs.Known.{known_of}
@@ -28,12 +28,13 @@ use Rattle.script_lines.specs.LineTexts.{joined}
 use Rattle.script_lines.specs.NameLimits.{AreKnown}
 use Rattle.script_lines.proofs.TextsAgain.{is_line_of_words, line_split}
 use Rattle.log_text.specs.declared.end.End.{End}
+use Rattle.log_text.specs.Endings.{end_word}
 use Rattle.log_read.specs.declared.log.Extra.{Extra}
 use Rattle.log_read.specs.declared.log.Extra.TheVariants as extras
 use Rattle.log_read.specs.Limits.{IsValue, IsCall, IsAnswer, IsEntry, IsExtra, AreCounts, IsLog}
 use Rattle.log_read.specs.Logs.{LogTree, spelling}
 use Rattle.log_read.specs.Reading.{value_at, end_at}
-use Rattle.log_read.specs.Words.{value_word, call_words, answer_words, entry_words, end_word, end_words, extra_words, counts_words, inner_words, log_words}
+use Rattle.log_read.specs.Words.{value_word, call_words, answer_words, entry_words, end_words, extra_words, counts_words, inner_words, log_words}
 use Rattle.log_read.proofs.LineWords.{Words, log_are_words, log_split}
 use Rattle.log_read.proofs.ValuesAgain.{value_again, end_again}
 

@@ -1,8 +1,8 @@
 -- Reading values one after the other, as the loop does.
 use Rattle.std.proofs.Common.{◌≡◌, ℕ, ◌+◌, ◌<◌, ◌≤◌, List, [], ◌∷◌, ◌++◌, length, Option, Some, None, refl, sym, ap, ◌∙◌, append_assoc, append-nil, drop, get_or, arith}
 use Rattle.std.proofs.lemmas.List.{drop_more, drop_all}
-use Rattle.call_table.specs.declared.form.Field.{Field}
-use Rattle.call_table.specs.declared.value.Value.{Value}
+use Rattle.call_fields.specs.declared.form.Field.{Field}
+use Rattle.call_fields.specs.declared.value.Value.{Value}
 use Rattle.script_tree.specs.Tree.{Tree}
 use Rattle.script_lines.specs.LineReading.{◌>>=◌, word_at}
 use Rattle.log_read.specs.Reading.{value_at, values_from}

@@ -23,10 +23,10 @@ use Rattle.name_table.specs.Messages.{message_rows}
 use Rattle.name_table.proofs.RowsLemmas.{number_in-name_in}
 use Rattle.user_model.specs.declared.entry.Origin.{Origin}
 use Rattle.user_model.specs.declared.entry.Origin.TheVariants as origins
-use Rattle.call_table.specs.declared.value.Value.{Value}
-use Rattle.call_table.specs.declared.value.Value.TheVariants as values
-use Rattle.call_table.specs.Values.{field_of}
-use Rattle.call_table.specs.Words.{source_word, cause_word}
+use Rattle.call_fields.specs.declared.value.Value.{Value}
+use Rattle.call_fields.specs.declared.value.Value.TheVariants as values
+use Rattle.call_fields.specs.Values.{field_of}
+use Rattle.call_fields.specs.Words.{source_word, cause_word}
 use Rattle.script_tree.specs.Tree.{Tree, ProcedureTree}
 use Rattle.script_lines.specs.Known.{known_of}
 use Rattle.script_lines.specs.LineReading.{◌>>=◌, number_at, word_at}
@@ -36,7 +36,8 @@ use Rattle.log_text.specs.declared.end.End.{End}
 use Rattle.log_text.specs.declared.end.End.TheVariants as ends
 use Rattle.log_read.specs.Limits.{IsCode, IsValue}
 use Rattle.log_read.specs.Reading.{small_at, signed_at, pixel_at, number_or, message_at, source_at, cause_at, code_at, name_at, procedure_at, value_at, values_from, end_at, actor_at}
-use Rattle.log_read.specs.Words.{code_word, message_word, value_word, end_word}
+use Rattle.log_text.specs.Endings.{end_word}
+use Rattle.log_read.specs.Words.{code_word, message_word, value_word}
 
 -- ---- numbers
 

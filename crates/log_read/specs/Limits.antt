@@ -8,10 +8,10 @@ use Rattle.user_model.specs.declared.call.Call.{Call}
 use Rattle.user_model.specs.declared.entry.Answer.{Answer}
 use Rattle.user_model.specs.declared.entry.Entry.{Entry}
 use Rattle.user_model.specs.declared.entry.SendCount.{SendCount}
-use Rattle.call_table.specs.declared.value.Value.{Value}
-use Rattle.call_table.specs.declared.value.Value.TheVariants as values
+use Rattle.call_fields.specs.declared.value.Value.{Value}
+use Rattle.call_fields.specs.declared.value.Value.TheVariants as values
 use Rattle.call_table.specs.Calls.{call_parts}
-use Rattle.call_table.specs.Answers.{answer_parts}
+use Rattle.answer_table.specs.Answers.{answer_parts}
 use Rattle.script_tree.specs.Tree.{Tree}
 use Rattle.log_text.specs.declared.end.End.{End}
 use Rattle.log_text.specs.declared.end.End.TheVariants.{Stuck, Spent}

@@ -12,16 +12,16 @@ use Rattle.name_table.specs.Rows.{number_in}
 use Rattle.name_table.specs.Messages.{message_rows}
 use Rattle.user_model.specs.declared.entry.Origin.{Origin}
 use Rattle.user_model.specs.declared.entry.Origin.TheVariants as origins
-use Rattle.call_table.specs.declared.form.Field.{Field}
-use Rattle.call_table.specs.declared.form.Field.TheVariants as fields
-use Rattle.call_table.specs.declared.value.Value.{Value}
-use Rattle.call_table.specs.declared.value.Value.TheVariants as values
-use Rattle.call_table.specs.Words.{source_word, cause_word}
+use Rattle.call_fields.specs.declared.form.Field.{Field}
+use Rattle.call_fields.specs.declared.form.Field.TheVariants as fields
+use Rattle.call_fields.specs.declared.value.Value.{Value}
+use Rattle.call_fields.specs.declared.value.Value.TheVariants as values
+use Rattle.call_fields.specs.Words.{source_word, cause_word}
 use Rattle.script_tree.specs.Tree.{Tree}
 use Rattle.script_lines.specs.LineReading.{◌>>=◌, number_at, word_at}
 use Rattle.log_text.specs.declared.end.End.{End}
 use Rattle.log_text.specs.declared.end.End.TheVariants.{Done, Stuck, Spent, Cut}
-use Rattle.log_read.specs.Words.{end_word}
+use Rattle.log_text.specs.Endings.{end_word}
 
 -- a number, or the greatest of so many bits where it is too large
 abbrev pub small_at : ℕ → List ℕ → ℕ

@@ -9,14 +9,14 @@ use Rattle.user_model.specs.declared.call.Call.{Call}
 use Rattle.user_model.specs.declared.entry.Answer.{Answer}
 use Rattle.user_model.specs.declared.entry.Entry.{Entry}
 use Rattle.user_model.specs.declared.entry.SendCount.{SendCount}
-use Rattle.call_table.specs.declared.value.Value.{Value}
-use Rattle.call_table.specs.declared.value.Value.TheVariants as values
+use Rattle.call_fields.specs.declared.value.Value.{Value}
+use Rattle.call_fields.specs.declared.value.Value.TheVariants as values
 use Rattle.call_table.specs.Calls.{call_row, call_name, call_parts}
-use Rattle.call_table.specs.Answers.{answer_row, answer_name, answer_parts}
-use Rattle.call_table.specs.Words.{source_word, cause_word}
+use Rattle.answer_table.specs.Answers.{answer_row, answer_name, answer_parts}
+use Rattle.call_fields.specs.Words.{source_word, cause_word}
 use Rattle.script_tree.specs.Tree.{Tree}
 use Rattle.log_text.specs.declared.end.End.{End}
-use Rattle.log_text.specs.declared.end.End.TheVariants.{Done, Stuck, Spent, Cut}
+use Rattle.log_text.specs.Endings.{end_word}
 use Rattle.log_text.specs.Entries.{procedure_name}
 use Rattle.log_read.specs.declared.log.Extra.{Extra}
 use Rattle.log_read.specs.declared.log.Extra.TheVariants as extras
@@ -63,12 +63,6 @@ abbrev pub entry_words : Tree → Entry → List (List ℕ)
 entry_words s e = decimal e.who.0 ∷ call_words s e.call (codes "=" ∷ answer_words s e.answer)
 
 -- the line of the end
-abbrev pub end_word : End → List ℕ
-end_word Done = codes "done"
-end_word Stuck = codes "stuck"
-end_word Spent = codes "spent"
-end_word Cut = codes "cut"
-
 abbrev pub end_words : End → List (List ℕ)
 end_words end = codes "end" ∷ end_word end ∷ []
 

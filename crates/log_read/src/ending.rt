@@ -11,12 +11,13 @@ ghost use Rattle.log_text.specs.declared.end.End.{End};
 ghost use Rattle.log_read.specs.declared.log.Extra.{Extra};
 ghost use Rattle.log_read.specs.Limits.{IsExtra, AreCounts};
 ghost use Rattle.log_read.specs.Reading.{end_at, end_place, is_end_line};
-ghost use Rattle.log_read.specs.Words.{end_word, extra_words, counts_words};
+ghost use Rattle.log_text.specs.Endings.{end_word};
+ghost use Rattle.log_read.specs.Words.{extra_words, counts_words};
 
 use crate::entries::{actor_at, call_at};
 use crate::log::Extra;
 use crate::values::small_at;
-use log_text::{End, Words};
+use log_text::{End, Words, end_word};
 use script_lines::{split_at, word_at};
 use std::alloc::{AllocError, Global};
 use user_model::SendCount;
@@ -44,24 +45,12 @@ pub fn end_place(lines: &[&[u8]]) -> Option<usize>
     None
 }
 
-/// The word of an end.
-fn end_word(end: End) -> &'static [u8]
-    ensures { result.now ≡ end_word end }
-{
-    match end {
-        End::Done => b"done",
-        End::Stuck => b"stuck",
-        End::Spent => b"spent",
-        End::Cut => b"cut",
-    }
-}
-
 /// The first of these ends that has the word.
 fn end_in(all: &[End], word: &[u8]) -> Option<End>
     ensures { result ≡ find (λ e. bytes_eq (end_word e) word.now) all.now }
 {
     for end in all {
-        if end_word(*end) == word {
+        if end_word(*end).as_bytes() == word {
             return Some(*end);
         }
     }

@@ -13,9 +13,8 @@ ghost use Rattle.log_read.specs.Reading.{actor_at};
 ghost use Rattle.log_read.specs.Words.{call_words, answer_words, entry_words};
 
 use crate::values::values_at;
-use call_table::{
-    answer_form, answer_named, answer_of_parts, call_form, call_name, call_named, call_of_parts,
-};
+use answer_table::{answer_form, answer_named, answer_of_parts};
+use call_table::{call_form, call_name, call_named, call_of_parts};
 use log_text::Words;
 use script_lines::{number_at, split_at, word_at};
 use std::alloc::{AllocError, Global};

@@ -3,14 +3,14 @@
 ghost use Rattle.std.specs.Prelude.{◌≡◌, ◌≤◌, ◌<◌, ◌^◌, length, IfSome, find, map, option_map};
 ghost use Rattle.std.specs.List.{AllByRecursion, position_from};
 ghost use Rattle.std.specs.Str.{bytes_eq};
-ghost use Rattle.call_table.specs.Words.{source_word, cause_word};
+ghost use Rattle.call_fields.specs.Words.{source_word, cause_word};
 ghost use Rattle.script_lines.specs.Known.{known_of};
 ghost use Rattle.script_lines.specs.NameLimits.{AreKnown};
 ghost use Rattle.log_read.specs.Limits.{IsValue};
 ghost use Rattle.log_read.specs.Reading.{small_at, signed_at, pixel_at, message_at, short_message_at, source_at, cause_at, code_at, name_at, procedure_at, value_at, values_from};
 
 use arrayvec::ArrayVec;
-use call_table::{Field, Value, Values, cause_word, source_word};
+use call_fields::{Field, Value, Values, cause_word, source_word};
 use log_text::Words;
 use script_lines::{number_at, word_at};
 use script_tree::{Name, Procedure, Script};

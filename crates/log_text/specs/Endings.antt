@@ -16,11 +16,15 @@ use Rattle.log_text.specs.Ends.{setup_of}
 use Rattle.log_text.specs.Entries.{counted, call_text}
 
 -- the word of an end
+abbrev pub end_word : End → List ℕ
+end_word Done = codes "done"
+end_word Stuck = codes "stuck"
+end_word Spent = codes "spent"
+end_word Cut = codes "cut"
+
+-- its line
 abbrev pub end_line : End → List ℕ
-end_line Done = codes "end done\n"
-end_line Stuck = codes "end stuck\n"
-end_line Spent = codes "end spent\n"
-end_line Cut = codes "end cut\n"
+end_line end = codes "end " ++ (end_word end ++ codes "\n")
 
 -- the call of an entry, if there is one
 abbrev pub call_in : Option Entry → Option Call

@@ -10,11 +10,11 @@ use Rattle.user_model.specs.declared.call.Call.{Call}
 use Rattle.user_model.specs.declared.entry.Answer.{Answer}
 use Rattle.user_model.specs.declared.entry.Entry.{Entry}
 use Rattle.user_model.specs.Past.{Past}
-use Rattle.call_table.specs.declared.value.Value.{Value}
-use Rattle.call_table.specs.declared.value.Value.TheVariants as values
+use Rattle.call_fields.specs.declared.value.Value.{Value}
+use Rattle.call_fields.specs.declared.value.Value.TheVariants as values
 use Rattle.call_table.specs.Calls.{call_row, call_name, call_parts}
-use Rattle.call_table.specs.Answers.{answer_row, answer_name, answer_parts}
-use Rattle.call_table.specs.Words.{source_word, cause_word}
+use Rattle.answer_table.specs.Answers.{answer_row, answer_name, answer_parts}
+use Rattle.call_fields.specs.Words.{source_word, cause_word}
 use Rattle.user_io.specs.Text.{operand}
 use Rattle.script_tree.specs.Tree.{Tree, ProcedureTree}
 

@@ -7,7 +7,7 @@ ghost use Rattle.user_model.specs.Places.{has_ended};
 ghost use Rattle.log_text.specs.Ends.{setup_of};
 ghost use Rattle.log_text.specs.Endings.{end_line, last_call, waits_line, spent_line, extra, extras, causes_text, counts_line, ending};
 
-use crate::end::End;
+use crate::end::{End, end_word};
 use crate::entry::{put_call, put_counted};
 use crate::words::Words;
 use std::alloc::AllocError;
@@ -15,16 +15,14 @@ use user_io::text::{put_operand, put_text};
 use user_model::{Answer, Call, Entry, Machine, SendCount};
 use win_num::Thread;
 
-/// Adds the word of an end.
+/// Adds the line of an end.
 pub fn put_end_line(out: &mut Vec<u8>, end: End) -> Result<(), AllocError>
     ensures { OnOk result (Adds out.old.items out.new.items (end_line end)) }
 {
-    match end {
-        End::Done => put_text(out, b"end done\n"),
-        End::Stuck => put_text(out, b"end stuck\n"),
-        End::Spent => put_text(out, b"end spent\n"),
-        End::Cut => put_text(out, b"end cut\n"),
-    }
+    put_text(out, b"end ")?;
+    put_text(out, end_word(end).as_bytes())?;
+    put_text(out, b"\n")?;
+    Ok(())
 }
 
 /// Whether a thread has ended.

@@ -7,10 +7,9 @@ ghost use Rattle.user_io.specs.Text.{Adds};
 ghost use Rattle.log_text.specs.Entries.{counted, code_text, value_text, call_text, answer_text, entry_line};
 
 use crate::words::Words;
-use call_table::{
-    Value, answer_form, answer_name, answer_parts, call_form, call_name, call_parts, cause_word,
-    code_word, source_word,
-};
+use answer_table::{answer_form, split_answer};
+use call_fields::{Value, cause_word, source_word};
+use call_table::{call_form, split_call};
 use std::alloc::AllocError;
 use user_io::text::{put_number, put_operand, put_signed, put_text};
 use user_model::{Answer, Call, Entry};
@@ -82,8 +81,9 @@ fn put_values(out: &mut Vec<u8>, words: &Words, values: &[Value]) -> Result<(), 
 pub fn put_call(out: &mut Vec<u8>, words: &Words, call: Call) -> Result<(), AllocError>
     ensures { OnOk result (Adds out.old.items out.new.items (call_text words.now.script.now call)) }
 {
-    put_text(out, call_form(call_name(call)).word)?;
-    put_values(out, words, &call_parts(call))?;
+    let split = split_call(call);
+    put_text(out, call_form(split.name).word)?;
+    put_values(out, words, &split.values)?;
     Ok(())
 }
 
@@ -91,8 +91,9 @@ pub fn put_call(out: &mut Vec<u8>, words: &Words, call: Call) -> Result<(), Allo
 pub fn put_answer(out: &mut Vec<u8>, words: &Words, answer: Answer) -> Result<(), AllocError>
     ensures { OnOk result (Adds out.old.items out.new.items (answer_text words.now.script.now answer)) }
 {
-    put_text(out, answer_form(answer_name(answer)).word)?;
-    put_values(out, words, &answer_parts(answer))?;
+    let split = split_answer(answer);
+    put_text(out, answer_form(split.name).word)?;
+    put_values(out, words, &split.values)?;
     Ok(())
 }
 

@@ -14,7 +14,7 @@ mod summary;
 mod words;
 mod writer;
 
-pub use end::End;
+pub use end::{End, end_word};
 pub use ending::{has_ended, last_call, put_end_line, put_sends_line, put_spent, put_waits};
 pub use entry::{put_answer, put_call, put_entry};
 pub use summary::write_summary;

@@ -1,6 +1,7 @@
 //! The lines of worked examples.
 
-use call_table::{Field, Value, Values, call_form, call_named, call_of_parts};
+use call_fields::{Field, Value, Values};
+use call_table::{call_form, call_named, call_of_parts};
 use user_model::Call;
 use win_num::Thread;
 

@@ -1,8 +1,7 @@
 //! Answers in the words of a log.
 
-use call_table::{
-    Value, answer_form, answer_name, answer_parts, cause_word, code_word, source_word,
-};
+use answer_table::{answer_form, split_answer};
+use call_fields::{Value, cause_word, code_word, source_word};
 use std::fmt::{self, Display, Formatter, Write};
 use user_model::Answer;
 
@@ -12,8 +11,9 @@ pub struct Told(pub Answer);
 
 impl Display for Told {
     fn fmt<W: Write>(&self, f: &mut Formatter<W>) -> fmt::Result {
-        write_word(f, answer_form(answer_name(self.0)).word)?;
-        for value in &answer_parts(self.0) {
+        let split = split_answer(self.0);
+        write_word(f, answer_form(split.name).word)?;
+        for value in &split.values {
             f.write_str(" ")?;
             write_value(f, *value)?;
         }

@@ -9,16 +9,16 @@ use Rattle.std.proofs.lemmas.List.{take_more, take_all}
 use Rattle.std.proofs.lemmas.Slice.Eq.{bytes_eq-Decides}
 use Rattle.script_lines.specs.declared.line.Line.{Line}
 use Rattle.script_lines.specs.declared.line.Command.{Command}
-use Rattle.script_lines.specs.declared.line.Part.{Part}
-use Rattle.script_lines.specs.declared.line.Part.TheVariants as parts
-use Rattle.script_lines.specs.declared.line.Place.{Place}
+use Rattle.statement_table.specs.declared.part.Part.{Part}
+use Rattle.statement_table.specs.declared.part.Part.TheVariants as parts
+use Rattle.statement_table.specs.declared.part.Place.{Place}
 use Rattle.script_lines.specs.Known.{Known}
 use Rattle.script_lines.specs.LineLimits.{IsPart, IsLine}
 use Rattle.script_lines.specs.LineParts.{line_command, line_parts, made_line}
 use Rattle.script_lines.specs.LineReading.{◌>>=◌, Names, split_at, word_at, place_in, new_place, place_or_new, name_at, with_names, absent_or_none, with_procedures, begun_at, procedure_at, part_at, parts_from, line_at, lines_at}
 use Rattle.script_lines.specs.LineTexts.{joined}
 use Rattle.script_lines.specs.NameLimits.{AreNames, AreKnown, is_name, is_distinct, seen_with, seen_with_part, seen_after, seen_all, begun_with_part, begun_after, begun_all, all_seen}
-use Rattle.script_lines.specs.Parts.{place_of_part}
+use Rattle.statement_table.specs.Parts.{place_of_part}
 use Rattle.script_lines.specs.Rows.{command_places}
 use Rattle.script_lines.specs.Words.{part_word, line_words}
 use Rattle.script_lines.proofs.WordsAgain.{letter_again, operator_again, comparison_again, operand_again}

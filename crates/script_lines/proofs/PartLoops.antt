@@ -1,8 +1,8 @@
 -- Reading parts one after the other, as the loop does.
 use Rattle.std.proofs.Common.{◌≡◌, ℕ, ◌+◌, ◌<◌, ◌≤◌, List, [], ◌∷◌, ◌++◌, length, Option, Some, None, refl, sym, ap, ◌∙◌, append_assoc, append-nil, drop, get_or}
 use Rattle.std.proofs.lemmas.List.{drop_more, drop_all}
-use Rattle.script_lines.specs.declared.line.Part.{Part}
-use Rattle.script_lines.specs.declared.line.Place.{Place}
+use Rattle.statement_table.specs.declared.part.Part.{Part}
+use Rattle.statement_table.specs.declared.part.Place.{Place}
 use Rattle.script_lines.specs.Known.{Known}
 use Rattle.script_lines.specs.LineReading.{◌>>=◌, word_at, part_at, parts_from}
 

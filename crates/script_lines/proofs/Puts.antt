@@ -4,7 +4,7 @@ use Rattle.std.specs.Prelude.{map}
 use Rattle.std.specs.List.{flat_map}
 use Rattle.std.proofs.lemmas.List.Folds.{flat_map-map}
 use Rattle.user_io.specs.Text.{Adds}
-use Rattle.script_lines.specs.declared.line.Part.{Part}
+use Rattle.statement_table.specs.declared.part.Part.{Part}
 use Rattle.script_lines.specs.Known.{Known}
 use Rattle.script_lines.specs.LineTexts.{blank_word, line_text}
 use Rattle.script_lines.specs.Words.{part_word}

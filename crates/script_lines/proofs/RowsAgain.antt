@@ -3,7 +3,13 @@ use Rattle.std.proofs.Common.{◌≡◌, ℕ, zero, suc, List, [], ◌∷◌, le
 use Rattle.std.specs.Prelude.{map, option_map, IfSome}
 use Rattle.std.specs.List.{AllByRecursion}
 use Rattle.call_table.specs.declared.calls.CallName.{CallName}
-use Rattle.call_table.specs.declared.calls.CallName.TheVariants as names
+use Rattle.call_table.specs.declared.calls.CallName.TheVariants as groups
+use Rattle.call_table.specs.declared.clock.ClockCall.TheVariants as clock
+use Rattle.call_table.specs.declared.delivery.DeliveryCall.TheVariants as delivery
+use Rattle.call_table.specs.declared.lookups.LookupCall.TheVariants as lookups
+use Rattle.call_table.specs.declared.registrations.RegistrationCall.TheVariants as registrations
+use Rattle.call_table.specs.declared.replies.ReplyCall.TheVariants as replies
+use Rattle.call_table.specs.declared.sends.SendCall.TheVariants as sends
 use Rattle.call_table.specs.Calls.{call_named, call_row}
 use Rattle.call_table.proofs.CallLaws.{named_again}
 use Rattle.script_tree.specs.declared.statement.CallStatement.{CallStatement}
@@ -12,14 +18,15 @@ use Rattle.script_lines.specs.declared.line.Line.{Line}
 use Rattle.script_lines.specs.declared.line.Line.TheVariants as lines
 use Rattle.script_lines.specs.declared.line.Command.{Command}
 use Rattle.script_lines.specs.declared.line.Command.TheVariants as commands
-use Rattle.script_lines.specs.declared.line.Part.{Part}
-use Rattle.script_lines.specs.declared.line.Part.TheVariants as parts
+use Rattle.statement_table.specs.declared.part.Part.{Part}
+use Rattle.statement_table.specs.declared.part.Part.TheVariants as parts
 use Rattle.script_lines.specs.Known.{Known}
 use Rattle.script_lines.specs.LineLimits.{IsOperand, IsPart, IsLine}
 use Rattle.script_lines.specs.LineParts.{line_command, line_parts, made_line}
-use Rattle.script_lines.specs.Parts.{place_of_part, operand_in}
-use Rattle.script_lines.specs.Rows.{command_word, call_places, command_places, own_command, own_or_call, with_words, command_at}
-use Rattle.script_lines.specs.Statements.{statement_name, statement_parts, made_statement}
+use Rattle.statement_table.specs.Parts.{place_of_part, operand_in}
+use Rattle.script_lines.specs.Rows.{command_word, command_places, own_command, own_or_call, with_words, command_at}
+use Rattle.statement_table.specs.Statements.{statement_name, made_statement}
+use Rattle.statement_table.proofs.StatementLaws.{statement_again, statement_fits}
 use Rattle.script_lines.specs.Words.{line_words}
 
 -- ---- statements of calls
@@ -29,14 +36,6 @@ not_own : (c : CallStatement) → own_command (call_row (statement_name c)).word
 unfolding own_command
 not_own calls.Clock = refl
 not_own c = refl
-
-statement_fits : (c : CallStatement) → call_places (statement_name c) ≡ map place_of_part (statement_parts c)
-statement_fits calls.Clock = refl
-statement_fits c = refl
-
-statement_again : (c : CallStatement) → made_statement (statement_name c) (statement_parts c) ≡ Some c
-statement_again calls.Clock = refl
-statement_again c = refl
 
 -- ---- lines
 
@@ -73,7 +72,7 @@ line_fits lines.Else = refl
 line_fits (lines.While t) = refl
 line_fits lines.End = refl
 line_fits (lines.Return a) = refl
-line_fits (lines.Call c) = statement_fits c
+line_fits (lines.Call c) = sym (statement_fits c)
 line_fits (lines.Sleep a) = refl
 line_fits (lines.Create c) = refl
 line_fits (lines.Destroy a) = refl
@@ -112,41 +111,13 @@ module _ (ps : List Part) (h : AllByRecursion IsPart ps) where
   o k = at_fits ps k h
 
   statement_made_fits : (n : CallName) → IfSome (made_statement n ps) (λ c. IsLine (lines.Call c))
-  statement_made_fits names.Peek = (o 0, (o 1, (o 2, (o 3, tt))))
-  statement_made_fits names.Get = (o 0, (o 1, (o 2, tt)))
-  statement_made_fits names.Post = (o 0, (o 1, (o 2, (o 3, tt))))
-  statement_made_fits names.PostThread = (o 0, (o 1, (o 2, (o 3, tt))))
-  statement_made_fits names.PostQuit = (o 0, tt)
-  statement_made_fits names.Dispatch = tt
-  statement_made_fits names.Send = (o 0, (o 1, (o 2, (o 3, tt))))
-  statement_made_fits names.SendTimeout = (o 0, (o 1, (o 2, (o 3, (o 4, (o 5, tt))))))
-  statement_made_fits names.SendNotify = (o 0, (o 1, (o 2, (o 3, tt))))
-  statement_made_fits names.SendCallback = (o 0, (o 1, (o 2, (o 3, (tt, (o 5, tt))))))
-  statement_made_fits names.Await = tt
-  statement_made_fits names.Leave = tt
-  statement_made_fits names.Reply = (o 0, tt)
-  statement_made_fits names.InSend = tt
-  statement_made_fits names.Message = (tt, tt)
-  statement_made_fits names.Register = (tt, (tt, (o 2, tt)))
-  statement_made_fits names.Unregister = (tt, tt)
-  statement_made_fits names.NewWindow = tt
-  statement_made_fits names.Doom = tt
-  statement_made_fits names.Unmake = tt
-  statement_made_fits names.Drop = tt
-  statement_made_fits names.Place = tt
-  statement_made_fits names.Show = tt
-  statement_made_fits names.Find = (tt, tt)
-  statement_made_fits names.AwaitTitle = (tt, tt)
-  statement_made_fits names.NextTop = (o 0, tt)
-  statement_made_fits names.WindowAt = (o 0, (o 1, tt))
-  statement_made_fits names.IsWindow = (o 0, tt)
-  statement_made_fits names.Parent = (o 0, tt)
-  statement_made_fits names.EndThread = tt
-  statement_made_fits names.Clock = tt
-  statement_made_fits names.SleepUntil = tt
-  statement_made_fits names.Yield = tt
-  statement_made_fits names.Tick = tt
-  statement_made_fits names.Advance = tt
+  statement_made_fits (groups.Delivery delivery.Get) = search (o, tt)
+  statement_made_fits (groups.Send sends.Send) = search (o, tt)
+  statement_made_fits (groups.Reply replies.Reply) = search (o, tt)
+  statement_made_fits (groups.Registration registrations.Message) = search (o, tt)
+  statement_made_fits (groups.Lookup lookups.Find) = search (o, tt)
+  statement_made_fits (groups.Clock clock.Clock) = search (o, tt)
+  statement_made_fits n = search (o, tt)
 
   made_call_fits : (c : Option CallStatement) → IfSome c (λ x. IsLine (lines.Call x)) → IfSome (option_map (λ x. lines.Call x) c) IsLine
   made_call_fits None fits = tt

@@ -22,13 +22,13 @@ use Rattle.script_tree.specs.declared.operand.Operator.TheVariants as operators
 use Rattle.script_tree.specs.declared.operand.Comparison.{Comparison}
 use Rattle.script_tree.specs.declared.operand.Comparison.TheVariants as comparisons
 use Rattle.call_table.specs.declared.calls.CallName.{CallName}
-use Rattle.call_table.specs.declared.calls.CallName.TheVariants as names
 use Rattle.call_table.specs.Calls.{call_row}
+use Rattle.call_table.proofs.CallLaws.{each_call_word}
 use Rattle.script_lines.specs.declared.line.Command.{Command}
 use Rattle.script_lines.specs.declared.line.Command.TheVariants as commands
 use Rattle.script_lines.specs.declared.line.Line.{Line}
-use Rattle.script_lines.specs.declared.line.Part.{Part}
-use Rattle.script_lines.specs.declared.line.Part.TheVariants as parts
+use Rattle.statement_table.specs.declared.part.Part.{Part}
+use Rattle.statement_table.specs.declared.part.Part.TheVariants as parts
 use Rattle.script_lines.specs.Known.{Known}
 use Rattle.script_lines.specs.LineLimits.{IsOperand, IsPart, IsLine}
 use Rattle.script_lines.specs.LineReading.{split_at}
@@ -101,8 +101,7 @@ comparison_is_word comparisons.Different = refl
 comparison_is_word comparisons.Below = refl
 
 call_is_word : (n : CallName) → is_word (call_row n).word ≡ true
-call_is_word names.Clock = refl
-call_is_word n = refl
+call_is_word = each_call_word is_word refl
 
 command_is_word : (v : Command) → is_word (command_word v) ≡ true
 command_is_word commands.Procedure = refl

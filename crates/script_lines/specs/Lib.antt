@@ -1,6 +1,4 @@
 pub mod Known
-pub mod Parts
-pub mod Statements
 pub mod Rows
 pub mod LineParts
 pub mod Words

@@ -7,8 +7,8 @@ use Rattle.name_table.specs.Constants.{constant_rows}
 use Rattle.script_tree.specs.declared.operand.Operand.{Operand}
 use Rattle.script_tree.specs.declared.operand.Operand.TheVariants.{Number, Minus, Message, Constant, Variable}
 use Rattle.script_lines.specs.declared.line.Line.{Line}
-use Rattle.script_lines.specs.declared.line.Part.{Part}
-use Rattle.script_lines.specs.declared.line.Part.TheVariants as parts
+use Rattle.statement_table.specs.declared.part.Part.{Part}
+use Rattle.statement_table.specs.declared.part.Part.TheVariants as parts
 use Rattle.script_lines.specs.LineParts.{line_parts}
 
 -- its number is in range, and its name is one of the table's

@@ -6,10 +6,10 @@ use Rattle.script_lines.specs.declared.line.Line.{Line}
 use Rattle.script_lines.specs.declared.line.Line.TheVariants as lines
 use Rattle.script_lines.specs.declared.line.Command.{Command}
 use Rattle.script_lines.specs.declared.line.Command.TheVariants as commands
-use Rattle.script_lines.specs.declared.line.Part.{Part}
-use Rattle.script_lines.specs.declared.line.Part.TheVariants as parts
-use Rattle.script_lines.specs.Parts.{letter_in, operand_in, operator_in, comparison_in, name_in, beginning_in}
-use Rattle.script_lines.specs.Statements.{statement_name, statement_parts, made_statement}
+use Rattle.statement_table.specs.declared.part.Part.{Part}
+use Rattle.statement_table.specs.declared.part.Part.TheVariants as parts
+use Rattle.statement_table.specs.Parts.{letter_in, operand_in, operator_in, comparison_in, name_in, beginning_in}
+use Rattle.statement_table.specs.Statements.{statement_name, statement_parts, made_statement}
 
 -- which line it is
 abbrev pub line_command : Line → Command

@@ -18,10 +18,10 @@ use Rattle.script_tree.specs.declared.operand.Operator.TheVariants as operators
 use Rattle.script_tree.specs.declared.operand.Comparison.{Comparison}
 use Rattle.script_tree.specs.declared.operand.Comparison.TheVariants as comparisons
 use Rattle.script_lines.specs.declared.line.Line.{Line}
-use Rattle.script_lines.specs.declared.line.Part.{Part}
-use Rattle.script_lines.specs.declared.line.Part.TheVariants as parts
-use Rattle.script_lines.specs.declared.line.Place.{Place}
-use Rattle.script_lines.specs.declared.line.Place.TheVariants as places
+use Rattle.statement_table.specs.declared.part.Part.{Part}
+use Rattle.statement_table.specs.declared.part.Part.TheVariants as parts
+use Rattle.statement_table.specs.declared.part.Place.{Place}
+use Rattle.statement_table.specs.declared.part.Place.TheVariants as places
 use Rattle.script_lines.specs.Known.{Known}
 use Rattle.script_lines.specs.LineParts.{made_line}
 use Rattle.script_lines.specs.NameLimits.{is_name}

@@ -1,15 +1,15 @@
 -- One row for each line.
-use Rattle.std.specs.Prelude.{ℕ, nat_le, if◌then◌else◌, List, [], ◌∷◌, map, codes, find, option_map, Option, Some, None}
+use Rattle.std.specs.Prelude.{ℕ, nat_le, if◌then◌else◌, List, [], ◌∷◌, codes, find, option_map, Option, Some, None}
 use Rattle.std.specs.Str.{bytes_eq}
 use Rattle.call_table.specs.declared.calls.CallName.{CallName}
-use Rattle.call_table.specs.declared.calls.CallName.TheVariants as names
-use Rattle.call_table.specs.declared.form.Field.{Field}
-use Rattle.call_table.specs.declared.form.Field.TheVariants as fields
+use Rattle.call_table.specs.declared.calls.CallName.TheVariants as groups
+use Rattle.call_table.specs.declared.windows.WindowCall.TheVariants as windows
 use Rattle.call_table.specs.Calls.{call_row, call_named}
 use Rattle.script_lines.specs.declared.line.Command.{Command}
 use Rattle.script_lines.specs.declared.line.Command.TheVariants as commands
-use Rattle.script_lines.specs.declared.line.Place.{Place}
-use Rattle.script_lines.specs.declared.line.Place.TheVariants as places
+use Rattle.statement_table.specs.declared.part.Place.{Place}
+use Rattle.statement_table.specs.declared.part.Place.TheVariants as places
+use Rattle.statement_table.specs.Places.{field_places, statement_places}
 
 -- the first word of a line; that of a statement of a call is the call's
 abbrev pub command_word : Command → List ℕ
@@ -28,32 +28,6 @@ command_word commands.Create = codes "create"
 command_word commands.Destroy = codes "destroy"
 command_word commands.Default = codes "default"
 
--- the place of a statement for a field of its call; no call has a field of the last kinds
-abbrev pub place_of : Field → Place
-place_of fields.Number = places.Operand
-place_of fields.Message = places.Operand
-place_of fields.Signed = places.Operand
-place_of fields.Name = places.Name
-place_of fields.Procedure = places.Procedure
-place_of fields.Window = places.Operand
-place_of fields.Send = places.Operand
-place_of fields.Thread = places.Operand
-place_of fields.Count = places.Operand
-place_of fields.ShortMessage = places.Operand
-place_of fields.Pixel = places.Operand
-place_of fields.Source = places.Operand
-place_of fields.Cause = places.Operand
-place_of fields.Code = places.Operand
-
--- one place for each field of a call
-abbrev pub statement_places : CallName → List Place
-statement_places n = map place_of (call_row n).fields
-
--- a dispatch takes the last message got, and so no operands
-abbrev pub call_places : CallName → List Place
-call_places names.Dispatch = []
-call_places n = statement_places n
-
 abbrev pub test_places : List Place
 test_places = places.Operand ∷ places.Comparison ∷ places.Operand ∷ []
 
@@ -68,9 +42,9 @@ command_places commands.Else = []
 command_places commands.While = test_places
 command_places commands.End = []
 command_places commands.Return = places.Operand ∷ []
-command_places (commands.Call n) = call_places n
+command_places (commands.Call n) = statement_places n
 command_places commands.Sleep = places.Operand ∷ []
-command_places commands.Create = statement_places names.NewWindow
+command_places commands.Create = field_places (groups.Window windows.NewWindow)
 command_places commands.Destroy = places.Operand ∷ []
 command_places commands.Default = []
 

@@ -14,8 +14,8 @@ use Rattle.script_tree.specs.declared.operand.Operator.TheVariants as operators
 use Rattle.script_tree.specs.declared.operand.Comparison.{Comparison}
 use Rattle.script_tree.specs.declared.operand.Comparison.TheVariants as comparisons
 use Rattle.script_lines.specs.declared.line.Line.{Line}
-use Rattle.script_lines.specs.declared.line.Part.{Part}
-use Rattle.script_lines.specs.declared.line.Part.TheVariants as parts
+use Rattle.statement_table.specs.declared.part.Part.{Part}
+use Rattle.statement_table.specs.declared.part.Part.TheVariants as parts
 use Rattle.script_lines.specs.Known.{Known}
 use Rattle.script_lines.specs.LineParts.{line_command, line_parts}
 use Rattle.script_lines.specs.Rows.{command_word}

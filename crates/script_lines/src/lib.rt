@@ -7,12 +7,10 @@ mod line_reader;
 mod line_writer;
 mod names;
 mod operands;
-mod parts;
 mod rows;
-mod statements;
 mod words;
 
-pub use line::{Command, Line, Part, Parts, Place, Places};
+pub use line::{Command, Line};
 pub use line_form::{line_command, line_of_parts, line_parts};
 pub use line_reader::{lines_at, split_at, texts_of, word_at};
 pub use line_writer::put_line;

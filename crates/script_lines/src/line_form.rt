@@ -6,12 +6,12 @@ ghost use Rattle.script_lines.specs.declared.line.Line.{Line};
 ghost use Rattle.script_lines.specs.LineLimits.{IsPart, IsLine};
 ghost use Rattle.script_lines.specs.LineParts.{test_parts, creation_parts, line_command, line_parts, made_test, made_creation, made_line};
 
-use crate::line::{Command, Line, Part, Parts};
-use crate::parts::{
-    beginning_in, comparison_in, letter_in, name_in, operand_in, operator_in, parts_of,
-};
-use crate::statements::{made_statement, statement_name, statement_parts};
+use crate::line::{Command, Line};
 use script_tree::{Creation, Test};
+use statement_table::{
+    Part, Parts, beginning_in, comparison_in, letter_in, name_in, operand_in, operator_in,
+    parts_of, statement_name, statement_of_parts, statement_parts,
+};
 
 /// Which line it is.
 pub fn line_command(line: Line) -> Command
@@ -137,7 +137,7 @@ fn made_line(command: Command, parts: &[Part]) -> Option<Line>
         Command::While => Line::While(made_test(parts)),
         Command::End => Line::End,
         Command::Return => Line::Return(operand_in(parts, 0)),
-        Command::Call(name) => Line::Call(made_statement(name, parts)?),
+        Command::Call(name) => Line::Call(statement_of_parts(name, parts)?),
         Command::Sleep => Line::Sleep(operand_in(parts, 0)),
         Command::Create => Line::Create(made_creation(parts)),
         Command::Destroy => Line::Destroy(operand_in(parts, 0)),

@@ -6,13 +6,14 @@ ghost use Rattle.script_lines.specs.LineLimits.{IsPart, IsLine};
 ghost use Rattle.script_lines.specs.LineReading.{word_at, split_at, texts_of, part_at, parts_from, line_at, lines_at};
 ghost use Rattle.script_lines.specs.NameLimits.{AreKnown};
 
-use crate::line::{Line, Part, Parts, Place};
+use crate::line::Line;
 use crate::line_form::line_of_parts;
 use crate::names::Names;
 use crate::operands::{NameTables, operand_at};
 use crate::rows::{command_at, command_places};
 use crate::words::{comparison_at, letter_at, operator_at};
 use arrayvec::ArrayVec;
+use statement_table::{Part, Parts, Place};
 use std::alloc::{AllocError, Global};
 
 /// A line, or None where the words aren't one.

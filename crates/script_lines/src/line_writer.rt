@@ -8,12 +8,13 @@ ghost use Rattle.script_lines.specs.Known.{known_of};
 ghost use Rattle.script_lines.specs.Words.{operand_word, part_word, line_words};
 ghost use Rattle.script_lines.specs.Rows.{command_word};
 
-use crate::line::{Command, Line, Part};
+use crate::line::{Command, Line};
 use crate::line_form::{line_command, line_parts};
 use crate::operands::NameTables;
 use crate::rows::command_word;
 use crate::words::{comparison_word, letter_word, operator_word, variable_word};
 use script_tree::{Name, Operand, Procedure, Script};
+use statement_table::Part;
 use std::alloc::AllocError;
 use user_io::text::{put_number, put_operand as put_decimal, put_text};
 

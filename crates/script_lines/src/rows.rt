@@ -3,11 +3,12 @@
 
 ghost use Rattle.std.specs.Prelude.{◌≡◌, ◌≤◌, length, find, option_map};
 ghost use Rattle.std.specs.Str.{bytes_eq};
-ghost use Rattle.script_lines.specs.Rows.{command_word, place_of, statement_places, command_places, own_command, first_command, with_words, command_at};
+ghost use Rattle.script_lines.specs.Rows.{command_word, command_places, own_command, first_command, with_words, command_at};
 
-use crate::line::{Command, Place, Places};
+use crate::line::Command;
 use arrayvec::ArrayVec;
-use call_table::{CallName, Field, call_form, call_named};
+use call_table::{CallName, WindowCall, call_form, call_named};
+use statement_table::{Place, Places, field_places, statement_places};
 
 /// The lines that make no one call.
 static OWN_COMMANDS: [Command; 12] = [
@@ -47,39 +48,6 @@ pub fn command_word(command: Command) -> &'static [u8]
     }
 }
 
-/// The place of a statement for a field of its call. No call has a field of the last kinds.
-fn place_of(field: Field) -> Place
-    ensures { result ≡ place_of field }
-{
-    match field {
-        Field::Number => Place::Operand,
-        Field::Message => Place::Operand,
-        Field::Signed => Place::Operand,
-        Field::Name => Place::Name,
-        Field::Procedure => Place::Procedure,
-        Field::Window => Place::Operand,
-        Field::Send => Place::Operand,
-        Field::Thread => Place::Operand,
-        Field::Count => Place::Operand,
-        Field::ShortMessage => Place::Operand,
-        Field::Pixel => Place::Operand,
-        Field::Source => Place::Operand,
-        Field::Cause => Place::Operand,
-        Field::Code => Place::Operand,
-    }
-}
-
-/// The places of a statement for the fields of a call.
-fn statement_places(name: CallName) -> Places
-    ensures { result.items ≡ statement_places name }
-{
-    let mut places = ArrayVec::new();
-    for field in call_form(name).fields {
-        places.push(place_of(*field));
-    }
-    places
-}
-
 /// These places.
 fn places_of(list: &[Place]) -> Places
     requires { length list.now ≤ 9 }
@@ -109,10 +77,9 @@ pub fn command_places(command: Command) -> Places
         Command::While => places_of(&[Place::Operand, Place::Comparison, Place::Operand]),
         Command::End => places_of(&[]),
         Command::Return => places_of(&[Place::Operand]),
-        Command::Call(CallName::Dispatch) => places_of(&[]),
         Command::Call(name) => statement_places(name),
         Command::Sleep => places_of(&[Place::Operand]),
-        Command::Create => statement_places(CallName::NewWindow),
+        Command::Create => field_places(CallName::Window(WindowCall::NewWindow)),
         Command::Destroy => places_of(&[Place::Operand]),
         Command::Default => places_of(&[]),
     }

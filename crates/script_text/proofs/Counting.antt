@@ -10,10 +10,10 @@ use Rattle.script_tree.specs.declared.statement.CallStatement.{CallStatement}
 use Rattle.script_tree.specs.declared.statement.CallStatement.TheVariants as calls
 use Rattle.script_lines.specs.declared.line.Line.{Line}
 use Rattle.script_lines.specs.declared.line.Line.TheVariants as lines
-use Rattle.script_lines.specs.declared.line.Part.{Part}
-use Rattle.script_lines.specs.declared.line.Part.TheVariants as parts
+use Rattle.statement_table.specs.declared.part.Part.{Part}
+use Rattle.statement_table.specs.declared.part.Part.TheVariants as parts
 use Rattle.script_lines.specs.LineParts.{line_parts}
-use Rattle.script_lines.specs.Statements.{statement_parts}
+use Rattle.statement_table.specs.Statements.{statement_parts}
 use Rattle.script_lines.specs.NameLimits.{all_seen, begun_after, begun_all, are_procedures_in_order}
 use Rattle.script_lines.proofs.LinesAgain.{none_begun, none_begun_after}
 use Rattle.script_text.specs.Lines.{statement_lines, row_lines, body_lines, thread_lines, procedure_lines, numbered_lines, code_lines}

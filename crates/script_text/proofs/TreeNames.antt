@@ -9,8 +9,8 @@ use Rattle.script_tree.specs.declared.statement.Statement.{Statement}
 use Rattle.script_tree.specs.Tree.{ProcedureTree, Tree}
 use Rattle.script_lines.specs.declared.line.Line.{Line}
 use Rattle.script_lines.specs.declared.line.Line.TheVariants as lines
-use Rattle.script_lines.specs.declared.line.Part.{Part}
-use Rattle.script_lines.specs.declared.line.Part.TheVariants as parts
+use Rattle.statement_table.specs.declared.part.Part.{Part}
+use Rattle.statement_table.specs.declared.part.Part.TheVariants as parts
 use Rattle.script_lines.specs.LineParts.{line_parts}
 use Rattle.script_lines.specs.NameLimits.{seen_with, seen_with_part, seen_after, seen_all, all_seen, are_in_order, begun_with_part, begun_after, begun_all, are_procedures_in_order}
 use Rattle.script_text.specs.Lines.{body_lines, thread_lines, procedure_lines, numbered_lines, bodies_of, script_lines}

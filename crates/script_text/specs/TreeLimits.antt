@@ -5,8 +5,8 @@ use Rattle.script_tree.specs.declared.statement.Statement.{Statement, Row_of-Sta
 use Rattle.script_tree.specs.declared.statement.Statement.TheVariants.{Let, Compute, If', IfElse', While', Return, Call, Sleep, Create, Destroy, Default}
 use Rattle.script_tree.specs.Tree.{Tree}
 use Rattle.script_lines.specs.declared.line.Line.{Line}
-use Rattle.script_lines.specs.declared.line.Part.{Part}
-use Rattle.script_lines.specs.declared.line.Part.TheVariants as parts
+use Rattle.statement_table.specs.declared.part.Part.{Part}
+use Rattle.statement_table.specs.declared.part.Part.TheVariants as parts
 use Rattle.script_lines.specs.LineParts.{line_parts}
 use Rattle.script_text.specs.Lines.{body_lines, bodies_of, script_lines}
 

@@ -29,17 +29,13 @@
 //! let V A                          let V A OP B             OP is + - & |
 //! if A CMP B .. else .. end        while A CMP B .. end     CMP is = != <; `else` may be left out
 //! return A                         default                  in procedures only
-//! peek W MIN MAX FLAGS             get W MIN MAX            dispatch
-//! post W M P Q                     post_thread T M P Q      post_quit A
-//! send W M P Q                     send_timeout W M P Q FLAGS MS
-//! send_notify W M P Q              send_callback W M P Q PROC EXTRA
-//! reply A                          in_send                  message NAME
-//! register CLASS PROC COLOUR       unregister CLASS         destroy W
 //! create CLASS TITLE PARENT STYLE EX L T R B
-//! is_window W                      parent W                 next_top W
-//! find TITLE                       await_title TITLE        window_at X Y
-//! clock                            sleep MS                 yield
+//! destroy W                        sleep MS
 //! ```
+//!
+//! and those that make one call: the word of the call, and an operand or a name for each of its fields,
+//! but for `dispatch`, which is a word alone. `call_table` has the words and the fields,
+//! `statement_table` says which calls have a statement, and the README of the repository tables them.
 //!
 //! V is a letter of a to h. An operand (A, B and the operands of calls) is a decimal number from 0 to
 //! 18446744073709551615 without leading zeros, or `-` and such a number from 1 to 9223372036854775808,

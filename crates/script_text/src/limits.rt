@@ -2,13 +2,12 @@
 
 ghost use Rattle.std.specs.Prelude.{◌≡◌, ◌&&◌, Some};
 ghost use Rattle.std.specs.List.{list_all};
-ghost use Rattle.script_lines.specs.LineParts.{line_parts};
-ghost use Rattle.script_lines.specs.NameLimits.{seen_with, seen_after, are_in_order, begun_with, named_with, begun_after, are_procedures_in_order};
-ghost use Rattle.script_lines.specs.Statements.{statement_parts};
+ghost use Rattle.script_lines.specs.NameLimits.{seen_with, seen_with_part, seen_after, are_in_order, begun_with, begun_with_part, named_with, begun_after, are_procedures_in_order};
 ghost use Rattle.script_text.specs.Limits.{is_within, is_turn};
 
-use script_lines::Line;
-use script_tree::{CallStatement, Script};
+use script_lines::{Line, line_parts};
+use script_tree::Script;
+use statement_table::Part;
 
 /// How many bytes the text of a script has at most.
 pub const SCRIPT_LIMIT: usize = 1048576;
@@ -59,32 +58,25 @@ fn seen_with(count: usize, seen: usize, place: u32) -> Option<usize>
     None
 }
 
-/// How many names there are after a statement of a call, where there were so many.
-fn seen_in_call(count: usize, seen: usize, call: &CallStatement) -> Option<usize>
-    ensures { result ≡ seen_after count (Some seen) (statement_parts call.now) }
+/// How many names there are after one more part of a line, where there were so many.
+fn seen_with_part(count: usize, seen: usize, part: Part) -> Option<usize>
+    ensures { result ≡ seen_with_part count (Some seen) part }
 {
-    match call {
-        CallStatement::Message(name) => seen_with(count, seen, *name),
-        CallStatement::Register(class, _, _) => seen_with(count, seen, *class),
-        CallStatement::Unregister(class) => seen_with(count, seen, *class),
-        CallStatement::Find(title) => seen_with(count, seen, *title),
-        CallStatement::AwaitTitle(title) => seen_with(count, seen, *title),
+    match part {
+        Part::Name(name) => seen_with(count, seen, name),
         _ => Some(seen),
     }
 }
 
-/// How many names there are after a line, where there were so many.
-fn seen_in_line(count: usize, seen: usize, line: &Line) -> Option<usize>
-    ensures { result ≡ seen_after count (Some seen) (line_parts line.now) }
+/// How many names there are after these parts of a line, where there were so many before.
+fn seen_in(count: usize, before: usize, parts: &[Part]) -> Option<usize>
+    ensures { result ≡ seen_after count (Some before) parts.now }
 {
-    match line {
-        Line::Call(call) => seen_in_call(count, seen, call),
-        Line::Create(creation) => {
-            let with_class = seen_with(count, seen, creation.class)?;
-            seen_with(count, with_class, creation.title)
-        }
-        _ => Some(seen),
+    let mut seen = before;
+    for part in parts {
+        seen = seen_with_part(count, seen, *part)?;
     }
+    Some(seen)
 }
 
 /// How many procedures have begun after one more begins, where so many had. None comes where it isn't the
@@ -110,26 +102,26 @@ fn named_with(begun: usize, place: u32) -> Option<usize>
     }
 }
 
-/// How many procedures have begun after a statement of a call, where so many had.
-fn begun_in_call(count: usize, begun: usize, call: &CallStatement) -> Option<usize>
-    ensures { result ≡ begun_after count (Some begun) (statement_parts call.now) }
+/// How many procedures have begun after one more part of a line, where so many had.
+fn begun_with_part(count: usize, begun: usize, part: Part) -> Option<usize>
+    ensures { result ≡ begun_with_part count (Some begun) part }
 {
-    match call {
-        CallStatement::SendCallback(_, _, _, _, procedure, _) => named_with(begun, *procedure),
-        CallStatement::Register(_, procedure, _) => named_with(begun, *procedure),
+    match part {
+        Part::Beginning(place) => begun_with(count, begun, place),
+        Part::Procedure(place) => named_with(begun, place),
         _ => Some(begun),
     }
 }
 
-/// How many procedures have begun after a line, where so many had.
-fn begun_in_line(count: usize, begun: usize, line: &Line) -> Option<usize>
-    ensures { result ≡ begun_after count (Some begun) (line_parts line.now) }
+/// How many procedures have begun after these parts of a line, where so many had before.
+fn begun_in(count: usize, before: usize, parts: &[Part]) -> Option<usize>
+    ensures { result ≡ begun_after count (Some before) parts.now }
 {
-    match line {
-        Line::Call(call) => begun_in_call(count, begun, call),
-        Line::Procedure(place) => begun_with(count, begun, *place),
-        _ => Some(begun),
+    let mut begun = before;
+    for part in parts {
+        begun = begun_with_part(count, begun, *part)?;
     }
+    Some(begun)
 }
 
 /// Whether so many names and so many procedures stand in order in the lines.
@@ -139,10 +131,11 @@ pub fn are_all_in_order(lines: &[Line], names: usize, procedures: usize) -> bool
     let mut seen = 0;
     let mut begun = 0;
     for line in lines {
-        let Some(more_seen) = seen_in_line(names, seen, line) else {
+        let parts = line_parts(*line);
+        let Some(more_seen) = seen_in(names, seen, &parts) else {
             return false;
         };
-        let Some(more_begun) = begun_in_line(procedures, begun, line) else {
+        let Some(more_begun) = begun_in(procedures, begun, &parts) else {
             return false;
         };
         seen = more_seen;

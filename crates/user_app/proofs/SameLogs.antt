@@ -10,10 +10,10 @@ use Rattle.user_model.specs.Past.{Past}
 use Rattle.user_model.specs.Places.{has_ended}
 use Rattle.user_model.specs.Threads.{lowest, from_each}
 use Rattle.user_model.specs.Idle.{is_idle, is_quiet, have_all_ended, ends_stuck, is_barred}
-use Rattle.call_table.specs.declared.value.Value.{Value}
-use Rattle.call_table.specs.declared.value.Value.TheVariants as values
+use Rattle.call_fields.specs.declared.value.Value.{Value}
+use Rattle.call_fields.specs.declared.value.Value.TheVariants as values
 use Rattle.call_table.specs.Calls.{call_row, call_name, call_parts}
-use Rattle.call_table.specs.Answers.{answer_row, answer_name, answer_parts}
+use Rattle.answer_table.specs.Answers.{answer_row, answer_name, answer_parts}
 use Rattle.user_io.specs.Text.{operand}
 use Rattle.script_tree.specs.Tree.{ProcedureTree, Tree}
 use Rattle.script_text.specs.Lines.{names_of}

@@ -4,7 +4,7 @@ use Rattle.std.proofs.lemmas.Slice.Eq.{slice_eq-Decides}
 use Rattle.user_model.specs.declared.call.Call.{Call}
 use Rattle.call_table.specs.Calls.{call_name, call_parts}
 use Rattle.call_table.proofs.CallLaws.{made_name, made_of}
-use Rattle.call_table.proofs.ValueEquality.{is_same_decides}
+use Rattle.call_fields.proofs.ValueEquality.{is_same_decides}
 use Rattle.call_table.proofs.calls.call_of_parts.Goals as goal
 
 pub returns-then-eq-clause-found : goal.returns-then-eq-clause-found

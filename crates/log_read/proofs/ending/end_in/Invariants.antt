@@ -1,7 +1,7 @@
 use Rattle.std.proofs.Common.{◌≡◌, drop}
 use Rattle.std.specs.Prelude.{find}
 use Rattle.std.specs.Str.{bytes_eq}
-use Rattle.log_read.specs.Words.{end_word}
+use Rattle.log_text.specs.Endings.{end_word}
 use Rattle.log_read.proofs.ending.end_in.Given as goal
 
 abbrev pub invariant-loop-end : goal.invariant-loop-end

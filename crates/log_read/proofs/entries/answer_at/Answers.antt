@@ -1,5 +1,5 @@
 use Rattle.std.proofs.Common.{ap, sym, ◌∙◌}
-use Rattle.call_table.specs.Answers.{answer_name}
+use Rattle.answer_table.specs.Answers.{answer_name}
 use Rattle.log_read.proofs.EntryParts.{answer_here, answer_read}
 use Rattle.log_read.proofs.OneLog.{some_same}
 use Rattle.log_read.proofs.entries.answer_at.Goals as goal

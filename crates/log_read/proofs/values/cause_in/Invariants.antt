@@ -1,7 +1,7 @@
 use Rattle.std.proofs.Common.{◌≡◌, drop}
 use Rattle.std.specs.Prelude.{find}
 use Rattle.std.specs.Str.{bytes_eq}
-use Rattle.call_table.specs.Words.{cause_word}
+use Rattle.call_fields.specs.Words.{cause_word}
 use Rattle.log_read.proofs.values.cause_in.Given as goal
 
 abbrev pub invariant-loop-cause : goal.invariant-loop-cause

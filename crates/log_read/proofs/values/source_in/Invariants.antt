@@ -1,7 +1,7 @@
 use Rattle.std.proofs.Common.{◌≡◌, drop}
 use Rattle.std.specs.Prelude.{find}
 use Rattle.std.specs.Str.{bytes_eq}
-use Rattle.call_table.specs.Words.{source_word}
+use Rattle.call_fields.specs.Words.{source_word}
 use Rattle.log_read.proofs.values.source_in.Given as goal
 
 abbrev pub invariant-loop-source : goal.invariant-loop-source

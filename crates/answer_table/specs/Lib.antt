@@ -1,0 +1,5 @@
+pub mod Answers
+pub mod Messages
+pub mod Plain
+pub mod Sends
+pub mod Splits

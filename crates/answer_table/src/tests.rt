@@ -1,0 +1,46 @@
+//! Each public call, at one answer of each kind of field.
+
+use super::*;
+use call_fields::Value;
+use std::test::Fail;
+use user_model::{Answer, Origin};
+use win_num::{Cause, Code, Hwnd, Msg, Point, SendId};
+
+#[test]
+fn answers_again(rt: HostRuntime) -> Result<(), Fail> {
+    let msg = Msg {
+        hwnd: Hwnd(16),
+        number: 15,
+        wparam: 1,
+        lparam: 2,
+        time: 3,
+        point: Point { x: -1, y: 5 },
+    };
+    for (answer, word) in [
+        (
+            Answer::Got {
+                origin: Origin::Quit,
+                number: 0,
+                msg,
+            },
+            b"got".as_slice(),
+        ),
+        (
+            Answer::Done {
+                result: 7,
+                cause: Cause::Loss,
+            },
+            b"done",
+        ),
+        (Answer::Inside(SendId(3), 4), b"inside"),
+        (Answer::Refused(Code::Full), b"refused"),
+    ] {
+        let form = answer_form(answer_name(answer));
+        assert_eq!(rt; form.word, word);
+        assert_eq!(rt;
+            answer_of_parts(answer_name(answer), &answer_parts(answer)),
+            Some(answer)
+        );
+    }
+    Ok(())
+}

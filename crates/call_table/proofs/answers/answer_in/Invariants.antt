@@ -1,8 +1,0 @@
-use Rattle.std.proofs.Common.{◌≡◌, drop}
-use Rattle.std.specs.Prelude.{find}
-use Rattle.std.specs.Str.{bytes_eq}
-use Rattle.call_table.specs.Answers.{answer_row}
-use Rattle.call_table.proofs.answers.answer_in.Given as goal
-
-abbrev pub invariant-loop-name : goal.invariant-loop-name
-invariant-loop-name l = find (λ n. bytes_eq (answer_row n).word l.word) (drop l.name-index l.all) ≡ find (λ n. bytes_eq (answer_row n).word l.word) l.all

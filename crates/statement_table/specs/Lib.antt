@@ -1,0 +1,10 @@
+pub mod Clock
+pub mod Delivery
+pub mod Lookups
+pub mod Parts
+pub mod Places
+pub mod Registrations
+pub mod Replies
+pub mod Sends
+pub mod Splits
+pub mod Statements

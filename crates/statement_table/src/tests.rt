@@ -1,0 +1,65 @@
+//! Each public call, at statements of each kind of part.
+
+use super::*;
+use call_table::{CallName, ClockCall, LookupCall, WindowCall};
+use script_tree::{CallStatement, Comparison, Letter, Operand, Operator};
+use std::test::Fail;
+
+#[test]
+fn statements_again(rt: HostRuntime) -> Result<(), Fail> {
+    let one = Operand::Number(1);
+    let h = Operand::Number(2);
+    for (call, places) in [
+        (CallStatement::Peek(one, h, one, h), 4),
+        (CallStatement::SendCallback(one, h, one, h, 5, one), 6),
+        (CallStatement::Reply(h), 1),
+        (CallStatement::Register(1, 2, h), 3),
+        (CallStatement::WindowAt(h, one), 2),
+        (CallStatement::Dispatch, 0),
+        (CallStatement::Yield, 0),
+    ] {
+        let split = split_statement(call);
+        assert_eq!(rt; split.parts.len(), places);
+        assert_eq!(rt; statement_places(split.name).len(), places);
+        let again = statement_of_parts(split.name, &split.parts);
+        assert_eq!(rt; again.is_some(), true);
+        assert_eq!(rt; statement_name(call), split.name);
+        assert_eq!(rt; statement_parts(call).len(), places);
+    }
+    Ok(())
+}
+
+#[test]
+fn calls_of_no_statement(rt: HostRuntime) -> Result<(), Fail> {
+    let one = [Part::Operand(Operand::Number(1))];
+    let doom = CallName::Window(WindowCall::Doom);
+    let tick = CallName::Clock(ClockCall::Tick);
+    let parent = CallName::Lookup(LookupCall::Parent);
+    assert_eq!(rt; statement_of_parts(doom, &one).is_none(), true);
+    assert_eq!(rt; statement_of_parts(tick, &one).is_none(), true);
+    assert_eq!(rt; statement_of_parts(parent, &one).is_none(), false);
+    assert_eq!(rt; field_places(doom).len(), 1);
+    Ok(())
+}
+
+#[test]
+fn parts_at_places(rt: HostRuntime) -> Result<(), Fail> {
+    let parts = parts_of(&[
+        Part::Letter(Letter::B),
+        Part::Operand(Operand::Number(3)),
+        Part::Operator(Operator::Plus),
+        Part::Comparison(Comparison::Equal),
+        Part::Name(4),
+        Part::Beginning(5),
+        Part::Procedure(6),
+    ]);
+    assert_eq!(rt; matches!(letter_in(&parts, 0), Letter::B), true);
+    assert_eq!(rt; matches!(operand_in(&parts, 1), Operand::Number(3)), true);
+    assert_eq!(rt; matches!(operator_in(&parts, 2), Operator::Plus), true);
+    assert_eq!(rt; matches!(comparison_in(&parts, 3), Comparison::Equal), true);
+    assert_eq!(rt; name_in(&parts, 4), 4);
+    assert_eq!(rt; beginning_in(&parts, 5), 5);
+    assert_eq!(rt; procedure_in(&parts, 6), 6);
+    assert_eq!(rt; name_in(&parts, 9), 0);
+    Ok(())
+}
