@@ -68,6 +68,3 @@ pub use script_tree::{
     Statement, Test, Variable,
 };
 pub use writer::write;
-
-#[cfg(test)]
-mod tests;
