@@ -6,12 +6,16 @@ ghost use Rattle.std.specs.Prelude.{◌≡◌, All, IfOk};
 ghost use Rattle.std.specs.Thread.{IsSync};
 ghost use Rattle.user_desk.specs.Desks.{IsDeskSeat};
 
+mod opening;
+
+use opening::open;
 use std::alloc::AllocError;
+use std::io::Print;
 use std::sync::Wait;
 use std::thread::{Threads, join};
 use user_core::User;
 use user_desk::{Desk, DeskSeat};
-use user_model::{Call, Machine, Setup};
+use user_model::{Call, Machine};
 
 type Seat = DeskSeat<User>;
 
@@ -19,7 +23,11 @@ type Seat = DeskSeat<User>;
 const CALLS: u64 = 100;
 
 /// Makes `yield` so many times.
-fn yield_often<R: Wait>(rt: &R, desk: &Desk<User>, mut seat: Seat) -> Result<Seat, AllocError>
+fn yield_often<M: Machine, R: Wait>(
+    rt: &R,
+    desk: &Desk<M>,
+    mut seat: DeskSeat<M>,
+) -> Result<DeskSeat<M>, AllocError>
     requires { IsDeskSeat desk.now seat }
     ensures { IfOk result (λ s. IsDeskSeat desk.now s) }
 {
@@ -57,16 +65,20 @@ fn all_yield<R: Threads + Wait + Sync>(
     Ok(back)
 }
 
-/// Opens a desk of sixteen seats, lets all of them make their calls, closes it, and prints how many entries there are.
-fn main(rt: HostRuntime) -> anyhow::Result<()> {
-    let machine = User::new(rt.alloc(), Setup::new(15, 8, 4))?;
-    let Ok((desk, seats)) = Desk::new(rt.alloc(), machine, 15) else {
-        anyhow::bail!("no memory for the desk");
-    };
-    let seats = all_yield(&rt, &desk, seats)?;
-    let Ok(machine) = desk.close(seats) else {
-        anyhow::bail!("a seat of sixteen is missing");
-    };
-    println!(&rt; "{} entries of sixteen seats", machine.history().len())?;
+/// Closes the desk, and tells how many entries there are.
+fn close(rt: &impl Print, desk: Desk<User>, seats: Vec<Seat>) -> anyhow::Result<()>
+    requires { All (IsDeskSeat desk) seats.items }
+{
+    match desk.close(seats) {
+        Ok(machine) => println!(rt; "{} entries of sixteen seats", machine.history().len())?,
+        Err(_) => anyhow::bail!("a seat of sixteen is missing"),
+    }
     Ok(())
+}
+
+/// Opens a desk of sixteen seats, lets all of them make their calls, and closes it.
+fn main(rt: HostRuntime) -> anyhow::Result<()> {
+    let (desk, seats) = open(rt.alloc())?;
+    let seats = all_yield(&rt, &desk, seats)?;
+    close(&rt, desk, seats)
 }

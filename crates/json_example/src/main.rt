@@ -1,55 +1,29 @@
-//! The JSON of the run of one script, written to standard output. The run ends stuck, so that lines of
-//! threads that wait come too.
+//! A stored run of the top call with the words `run --json`: the script is standard input, and the log of its
+//! run goes to standard output as lines of JSON. Standard input's run ends stuck, so that lines of threads that
+//! wait come too.
 #![tactic(auto)]
 
-ghost use Rattle.std.specs.Prelude.{◌≡◌, IfOk, []};
-ghost use Rattle.log_text.specs.Ends.{setup_of};
-ghost use Rattle.script_text.specs.Limits.{IsScript};
-
-use log_json::{names_are_texts, write_json};
-use log_text::WriteFault;
-use script_text::read;
-use script_tree::Script;
 use std::alloc::{AllocError, Global};
-use user_core::User;
-use user_io::{Sink, StdSink};
-use user_model::Setup;
-use user_pool::run_listed;
+use std::process::ExitCode;
+use user_app::io::{StdSink, StdSource};
+use user_app::{Status, user_plain};
 
-/// A procedure that answers a send of another thread, and two threads that wait then for ever.
-const SCRIPT: &[u8] =
-    b"user 1\nscreen 8 4\nbudget 100\norder\nproc echo\nif msg = WM_USER\nreturn wp\nend\nend\nthread\nregister box echo 0\ncreate box first 0 0 0 0 0 1 1\npost_thread 2 WM_USER r 0\nget 0 0 0\nend\nthread\nget 0 0 0\nsend gwp WM_USER 5 0\nget 0 WM_CLOSE WM_CLOSE\nend\n";
-
-/// The machine for a script.
-fn machine(alloc: Global, script: &Script) -> Result<User, AllocError>
-    requires { IsScript script.now }
-    ensures { IfOk result (λ user. user ≡ record { setup = setup_of script.now; past = [] }) }
-{
-    let setup = Setup::new(script.thread_count(), script.width(), script.height());
-    User::new(alloc, setup)
+/// The words of the run.
+fn words(alloc: Global) -> Result<Vec<String>, AllocError> {
+    let mut words = Vec::new(alloc);
+    words.push(String::from_str(alloc, "run")?)?;
+    words.push(String::from_str(alloc, "--json")?)?;
+    Ok(words)
 }
 
-/// Says why the JSON wasn't written whole.
-fn told(outcome: Result<(), WriteFault>) -> anyhow::Result<()> {
-    match outcome {
-        Ok(()) => Ok(()),
-        Err(fault) => anyhow::bail!("{fault:?}"),
-    }
-}
-
-/// Runs a script, and writes its JSON.
-fn tell<K: Sink>(alloc: Global, script: &Script, sink: &mut K) -> anyhow::Result<()>
-    requires { IsScript script.now }
-{
-    let user = machine(alloc, script)?;
-    let (user, end) = run_listed(alloc, script, user)?;
-    names_are_texts();
-    told(write_json(alloc, script, &user, end, sink))
-}
-
-fn main(rt: HostRuntime) -> anyhow::Result<()> {
-    match read(rt.alloc(), SCRIPT) {
-        Ok(script) => tell(rt.alloc(), &script, &mut StdSink::new(rt.stdout())),
-        Err(fault) => anyhow::bail!("{fault:?}"),
-    }
+fn main(rt: HostRuntime) -> ExitCode {
+    let status = match words(rt.alloc()) {
+        Ok(words) => {
+            let mut source = StdSource::new(rt.stdin());
+            let mut sink = StdSink::new(rt.stdout());
+            user_plain(rt.alloc(), &words, &mut source, &mut sink)
+        }
+        Err(AllocError) => Status::Memory,
+    };
+    ExitCode::from(status.number())
 }

@@ -17,6 +17,3 @@ pub use line_writer::put_line;
 pub use names::Names;
 pub use operands::{NameTables, number_at};
 pub use rows::{command_at, command_places, command_word};
-
-#[cfg(test)]
-mod tests;

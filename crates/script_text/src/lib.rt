@@ -64,6 +64,3 @@ pub use script_tree::{
     Statement, Test, Variable,
 };
 pub use writer::write;
-
-#[cfg(test)]
-mod tests;

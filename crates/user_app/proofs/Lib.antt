@@ -2,6 +2,7 @@ pub mod MadeScripts
 pub mod Requests
 pub mod RunEnds
 pub mod SameBodies
+pub mod SameJson
 pub mod SameLogs
 pub mod SameOutputs
 pub mod SameRuns

@@ -1,9 +1,11 @@
 -- Words ask for one thing.
-use Rattle.std.proofs.Common.{◌≡◌, ℕ, ◌<◌, ◌^◌, List, [], ◌∷◌, sym, ap, ◌∙◌, arith}
+use Rattle.std.proofs.Common.{◌≡◌, ℕ, ◌<◌, ◌^◌, List, [], ◌∷◌, refl, sym, ap, ◌∙◌, arith}
 use Rattle.std.specs.Prelude.{codes, decimal, Result, Ok}
 use Rattle.std.proofs.lemmas.Fmt.{decimal_is_IsNumeral}
 use Rattle.std.specs.Str.Parse.{digits_value}
-use Rattle.user_app.specs.Requests.{IsMake, make_words}
+use Rattle.user_app.specs.declared.request.LogForm.{LogForm}
+use Rattle.user_app.specs.declared.request.LogForm.TheVariants.{Plain, Json}
+use Rattle.user_app.specs.Requests.{AskNothing, IsMake, make_words, run_words}
 
 same_second : {X : Type 0} (a b c d : X) → a ∷ b ∷ [] ≡ c ∷ d ∷ [] → b ≡ d
 same_second a b c d e = cc
@@ -20,3 +22,15 @@ same_number words n m a b =
 
 pub same_ok : {E : Type 0} (r : Result ℕ E) (n m : ℕ) → r ≡ Ok n → r ≡ Ok m → n ≡ m
 same_ok r n m a b = cc
+
+-- one form is asked for
+pub same_form : (words : List (List ℕ)) (f g : LogForm) → words ≡ run_words f → words ≡ run_words g → f ≡ g
+same_form words Plain Plain a b = refl
+same_form words Plain Json a b = cc
+same_form words Json Plain a b = cc
+same_form words Json Json a b = refl
+
+-- whoever asks for a run doesn't ask for nothing
+pub asks_to_run : (words : List (List ℕ)) (form : LogForm) → words ≡ run_words form → AskNothing words → ⊥
+asks_to_run words Plain asks none = none.no_run asks
+asks_to_run words Json asks none = none.no_json asks

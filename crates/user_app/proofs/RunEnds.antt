@@ -13,24 +13,25 @@ use Rattle.script_tree.specs.Tree.{Tree}
 use Rattle.log_text.specs.declared.end.End.{End}
 use Rattle.log_text.specs.declared.end.End.TheVariants.{Done, Stuck, Spent, Cut}
 use Rattle.log_text.specs.Ends.{end_of}
-use Rattle.log_text.specs.Logs.{log}
 use Rattle.log_text.specs.Summaries.{summary}
 use Rattle.user_pool.specs.Runs.{IsListed}
 use Rattle.user_app.specs.declared.status.Status.{Status}
+use Rattle.user_app.specs.declared.request.LogForm.{LogForm}
+use Rattle.user_app.specs.Histories.{history_text}
 use Rattle.user_app.specs.Made.{IsMade}
 use Rattle.user_app.specs.Outcomes.{IsWhole, SummedPart, RunEnds, MakeEnds}
 use Rattle.user_app.specs.Statuses.{status_of, written_status}
 
 -- the log was written, and the status is that of the end
-pub logged : (s : Tree) (holds holds' : Option (List ℕ)) (faults faults' : ℕ) (past : Past) (end : End) (status : Status) → IsListed s past → end ≡ end_of s past → end ≢ Cut → Appends holds holds' (log s past) → status ≡ status_of end
-    → ((send : ℕ) → IsSendStory past send) → (end_of s past ≡ Done → IsSettled past (send_count past)) → RunEnds s holds holds' faults faults' status
-logged s holds holds' faults faults' past Done status listed ended over written is stories settled =
-    subst (RunEnds s holds holds' faults faults') (sym is) (record { history = past; listed = listed; ended = sym ended; written = written; stories = stories; settled = λ e. settled (sym ended) })
-logged s holds holds' faults faults' past Stuck status listed ended over written is stories settled =
-    subst (RunEnds s holds holds' faults faults') (sym is) (record { history = past; listed = listed; ended = sym ended; written = written; stories = stories; settled = λ e. settled (sym ended ∙ e) })
-logged s holds holds' faults faults' past Spent status listed ended over written is stories settled =
-    subst (RunEnds s holds holds' faults faults') (sym is) (record { history = past; listed = listed; ended = sym ended; written = written; stories = stories; settled = λ e. settled (sym ended ∙ e) })
-logged s holds holds' faults faults' past Cut status listed ended over written is stories settled = absurd (over refl)
+pub logged : (form : LogForm) (s : Tree) (holds holds' : Option (List ℕ)) (faults faults' : ℕ) (past : Past) (end : End) (status : Status) → IsListed s past → end ≡ end_of s past → end ≢ Cut → Appends holds holds' (history_text form s past) → status ≡ status_of end
+    → ((send : ℕ) → IsSendStory past send) → (end_of s past ≡ Done → IsSettled past (send_count past)) → RunEnds form s holds holds' faults faults' status
+logged form s holds holds' faults faults' past Done status listed ended over written is stories settled =
+    subst (RunEnds form s holds holds' faults faults') (sym is) (record { history = past; listed = listed; ended = sym ended; written = written; stories = stories; settled = λ e. settled (sym ended) })
+logged form s holds holds' faults faults' past Stuck status listed ended over written is stories settled =
+    subst (RunEnds form s holds holds' faults faults') (sym is) (record { history = past; listed = listed; ended = sym ended; written = written; stories = stories; settled = λ e. settled (sym ended ∙ e) })
+logged form s holds holds' faults faults' past Spent status listed ended over written is stories settled =
+    subst (RunEnds form s holds holds' faults faults') (sym is) (record { history = past; listed = listed; ended = sym ended; written = written; stories = stories; settled = λ e. settled (sym ended ∙ e) })
+logged form s holds holds' faults faults' past Cut status listed ended over written is stories settled = absurd (over refl)
 
 -- the summary was written, and the status is that of the end
 pub summed : (n : ℕ) (holds holds' : Option (List ℕ)) (faults faults' : ℕ) (s : Tree) (past : Past) (end : End) (status : Status)
@@ -49,12 +50,12 @@ summed_part n holds holds' s past end made listed ended written =
     record { script = s; is_made = made; history = past; listed = listed; written = subst (λ x. AppendsPart holds holds' (summary n past x)) ended written }
 
 -- the log was written, whole or in part
-pub log_told : (r : Result (Unit {0}) WriteFault) (s : Tree) (holds holds' : Option (List ℕ)) (faults faults' : ℕ) (past : Past) (end : End) (status : Status) → IsListed s past → end ≡ end_of s past → end ≢ Cut
-    → OnOk r (Appends holds holds' (log s past)) → OnErr r (AppendsPart holds holds' (log s past)) → (IsErrOf r Write → Rose faults faults') → status ≡ written_status r end
-    → ((send : ℕ) → IsSendStory past send) → (end_of s past ≡ Done → IsSettled past (send_count past)) → RunEnds s holds holds' faults faults' status
-log_told (Ok u) s holds holds' faults faults' past end status listed ended over whole part failed is stories settled = logged s holds holds' faults faults' past end status listed ended over whole is stories settled
-log_told (Err Write) s holds holds' faults faults' past end status listed ended over whole part failed is stories settled = subst (RunEnds s holds holds' faults faults') (sym is) (record { history = past; listed = listed; written = part }, failed refl)
-log_told (Err OutOfMemory) s holds holds' faults faults' past end status listed ended over whole part failed is stories settled = subst (RunEnds s holds holds' faults faults') (sym is) (inr (record { history = past; listed = listed; written = part }))
+pub log_told : (r : Result (Unit {0}) WriteFault) (form : LogForm) (s : Tree) (holds holds' : Option (List ℕ)) (faults faults' : ℕ) (past : Past) (end : End) (status : Status) → IsListed s past → end ≡ end_of s past → end ≢ Cut
+    → OnOk r (Appends holds holds' (history_text form s past)) → OnErr r (AppendsPart holds holds' (history_text form s past)) → (IsErrOf r Write → Rose faults faults') → status ≡ written_status r end
+    → ((send : ℕ) → IsSendStory past send) → (end_of s past ≡ Done → IsSettled past (send_count past)) → RunEnds form s holds holds' faults faults' status
+log_told (Ok u) form s holds holds' faults faults' past end status listed ended over whole part failed is stories settled = logged form s holds holds' faults faults' past end status listed ended over whole is stories settled
+log_told (Err Write) form s holds holds' faults faults' past end status listed ended over whole part failed is stories settled = subst (RunEnds form s holds holds' faults faults') (sym is) (record { history = past; listed = listed; written = part }, failed refl)
+log_told (Err OutOfMemory) form s holds holds' faults faults' past end status listed ended over whole part failed is stories settled = subst (RunEnds form s holds holds' faults faults') (sym is) (inr (record { history = past; listed = listed; written = part }))
 
 -- the summary was written, whole or in part
 pub summary_told : (r : Result (Unit {0}) WriteFault) (n : ℕ) (holds holds' : Option (List ℕ)) (faults faults' : ℕ) (s : Tree) (past : Past) (end : End) (status : Status) → IsMade n s → IsListed s past → end ≡ end_of s past → end ≢ Cut

@@ -67,10 +67,10 @@ module _ (s t : Tree) (h : SameRules s t) where
   same_values : (vs : List Value) → flat_map (value_text s) vs ≡ flat_map (value_text t) vs
   same_values vs = values_by_names s vs ∙ ap (λ (x : Tree). flat_map (value_text x) vs) same_names ∙ sym (values_by_names t vs)
 
-  same_call_text : (call : Call) → call_text s call ≡ call_text t call
+  pub same_call_text : (call : Call) → call_text s call ≡ call_text t call
   same_call_text call = ap (λ (x : List ℕ). (call_row (call_name call)).word ++ x) (same_values (call_parts call))
 
-  same_answer_text : (a : Answer) → answer_text s a ≡ answer_text t a
+  pub same_answer_text : (a : Answer) → answer_text s a ≡ answer_text t a
   same_answer_text a = ap (λ (x : List ℕ). (answer_row (answer_name a)).word ++ x) (same_values (answer_parts a))
 
   same_entry : (past : Past) (e : Entry) → entry_text s past e ≡ entry_text t past e

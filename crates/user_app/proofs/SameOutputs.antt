@@ -9,11 +9,14 @@ use Rattle.script_text.proofs.PartsAgain.{one_tree}
 use Rattle.log_text.specs.declared.end.End.{End}
 use Rattle.log_text.specs.declared.end.End.TheVariants.{Done, Stuck, Spent, Cut}
 use Rattle.log_text.specs.Ends.{end_of}
-use Rattle.log_text.specs.Logs.{log}
+use Rattle.user_app.specs.declared.request.LogForm.{LogForm}
+use Rattle.user_app.specs.declared.request.LogForm.TheVariants.{Plain, Json}
+use Rattle.user_app.specs.Histories.{history_text}
 use Rattle.user_app.specs.Outcomes.{Logged, RunEnds, Ran}
 use Rattle.user_app.specs.Statuses.{status_of}
 use Rattle.user_app.proofs.SameRuns.{SameRules, same_rules, same_run}
 use Rattle.user_app.proofs.SameLogs.{same_log, same_end}
+use Rattle.user_app.proofs.SameJson.{same_json}
 
 -- two trees of one text say the same
 pub one_text : (s t : Tree) → IsScript s → IsScript t → spelling s ≡ spelling t → SameRules s t
@@ -37,24 +40,29 @@ same_status Stuck = refl
 same_status Spent = refl
 same_status Cut = refl
 
-logged : (s : Tree) (held new : Option (List ℕ)) (f g : ℕ) (x : End) → RunEnds s held new f g (status_of x) → Logged s held new (told x)
-logged s held new f g Done r = r
-logged s held new f g Stuck r = r
-logged s held new f g Spent r = r
-logged s held new f g Cut r = r
+logged : (form : LogForm) (s : Tree) (held new : Option (List ℕ)) (f g : ℕ) (x : End) → RunEnds form s held new f g (status_of x) → Logged form s held new (told x)
+logged form s held new f g Done r = r
+logged form s held new f g Stuck r = r
+logged form s held new f g Spent r = r
+logged form s held new f g Cut r = r
 
-same_logged : (s t : Tree) (held a b : List ℕ) (x y : End) → SameRules s t → Logged s (Some held) (Some a) x → Logged t (Some held) (Some b) y → (a ≡ b) × (x ≡ y)
-same_logged s t held a b x y h p q =
+-- the text of a past, in either form
+pub same_text : (form : LogForm) (s t : Tree) → SameRules s t → (past : Past) → history_text form s past ≡ history_text form t past
+same_text Plain s t h past = same_log s t h past
+same_text Json s t h past = same_json s t h past
+
+same_logged : (form : LogForm) (s t : Tree) (held a b : List ℕ) (x y : End) → SameRules s t → Logged form s (Some held) (Some a) x → Logged form t (Some held) (Some b) y → (a ≡ b) × (x ≡ y)
+same_logged form s t held a b x y h p q =
     let runs : p.history ≡ q.history = same_run s t h p.history q.history p.listed q.listed in (
-      p.written ∙ ap (λ (l : List ℕ). held ++ l) (same_log s t h p.history ∙ ap (λ (c : Past). log t c) runs) ∙ sym q.written,
+      p.written ∙ ap (λ (l : List ℕ). held ++ l) (same_text form s t h p.history ∙ ap (λ (c : Past). history_text form t c) runs) ∙ sym q.written,
       sym p.ended ∙ same_end s t h p.history ∙ ap (λ (c : Past). end_of t c) runs ∙ q.ended,
     )
 
-pub same_output : (text held a b : List ℕ) (l m : Option (List ℕ)) (f f' g g' : ℕ) (x y : End)
-    → Ran (Some text) l (Some held) (Some a) f f' (status_of x) → Ran (Some text) m (Some held) (Some b) g g' (status_of y) → (a ≡ b) × (status_of x ≡ status_of y)
-same_output text held a b l m f f' g g' x y p q =
+pub same_output : (form : LogForm) (text held a b : List ℕ) (l m : Option (List ℕ)) (f f' g g' : ℕ) (x y : End)
+    → Ran form (Some text) l (Some held) (Some a) f f' (status_of x) → Ran form (Some text) m (Some held) (Some b) g g' (status_of y) → (a ≡ b) × (status_of x ≡ status_of y)
+same_output form text held a b l m f f' g g' x y p q =
     let one : text ≡ spelling p.script = read_whole text (spelling p.script) l p.input p.read_out in
     let other : text ≡ spelling q.script = read_whole text (spelling q.script) m q.input q.read_out in
     let h : SameRules p.script q.script = one_text p.script q.script p.is_script q.is_script (sym one ∙ other) in
-    let r = same_logged p.script q.script held a b (told x) (told y) h (logged p.script (Some held) (Some a) f f' x p.ends) (logged q.script (Some held) (Some b) g g' y q.ends) in
+    let r = same_logged form p.script q.script held a b (told x) (told y) h (logged form p.script (Some held) (Some a) f f' x p.ends) (logged form q.script (Some held) (Some b) g g' y q.ends) in
     (r.0, same_status x ∙ ap (λ (z : End). status_of z) r.1 ∙ sym (same_status y))

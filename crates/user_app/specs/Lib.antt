@@ -1,3 +1,4 @@
+pub mod Histories
 pub mod Made
 pub mod Outcomes
 pub mod Requests

@@ -12,44 +12,45 @@ use Rattle.script_text.specs.Spelling.{spelling}
 use Rattle.log_text.specs.declared.end.End.{End}
 use Rattle.log_text.specs.declared.end.End.TheVariants as ends
 use Rattle.log_text.specs.Ends.{end_of}
-use Rattle.log_text.specs.Logs.{log}
 use Rattle.log_text.specs.Summaries.{summary}
 use Rattle.user_pool.specs.Runs.{IsListed}
+use Rattle.user_app.specs.Histories.{history_text}
 use Rattle.user_app.specs.Made.{IsMade}
+use Rattle.user_app.specs.declared.request.LogForm.{LogForm}
 use Rattle.user_app.specs.declared.status.Status.{Status}
 use Rattle.user_app.specs.declared.status.Status.TheVariants as statuses
 
--- the log of the script's one run was written, and this is its end; each send was entered at most once and before its one answer, and where all threads have ended each has its answer
-pub record Logged (s : Tree) (holds holds' : Option (List ℕ)) (end : End) : Type 0 where
+-- the log of the script's one run was written in this form, and this is its end; each send was entered at most once and before its one answer, and where all threads have ended each has its answer
+pub record Logged (form : LogForm) (s : Tree) (holds holds' : Option (List ℕ)) (end : End) : Type 0 where
   pub history : Past
   pub listed : IsListed s history
   pub ended : end_of s history ≡ end
-  pub written : Appends holds holds' (log s history)
+  pub written : Appends holds holds' (history_text form s history)
   pub stories : (send : ℕ) → IsSendStory history send
   pub settled : end ≡ ends.Done → IsSettled history (send_count history)
 
 -- a front of that log was written
-pub record LoggedPart (s : Tree) (holds holds' : Option (List ℕ)) : Type 0 where
+pub record LoggedPart (form : LogForm) (s : Tree) (holds holds' : Option (List ℕ)) : Type 0 where
   pub history : Past
   pub listed : IsListed s history
-  pub written : AppendsPart holds holds' (log s history)
+  pub written : AppendsPart holds holds' (history_text form s history)
 
--- how the run of a script may end
-abbrev pub RunEnds : Tree → Option (List ℕ) → Option (List ℕ) → ℕ → ℕ → Status → Type 0
-RunEnds s holds holds' faults faults' statuses.Done = Logged s holds holds' ends.Done
-RunEnds s holds holds' faults faults' statuses.Stuck = Logged s holds holds' ends.Stuck
-RunEnds s holds holds' faults faults' statuses.Spent = Logged s holds holds' ends.Spent
-RunEnds s holds holds' faults faults' statuses.WriteFault = LoggedPart s holds holds' × Rose faults faults'
-RunEnds s holds holds' faults faults' statuses.Memory = Keeps holds holds' ⊎ LoggedPart s holds holds'
-RunEnds s holds holds' faults faults' _ = ⊥
+-- how the run of a script may end, whose log is to be written in this form
+abbrev pub RunEnds : LogForm → Tree → Option (List ℕ) → Option (List ℕ) → ℕ → ℕ → Status → Type 0
+RunEnds form s holds holds' faults faults' statuses.Done = Logged form s holds holds' ends.Done
+RunEnds form s holds holds' faults faults' statuses.Stuck = Logged form s holds holds' ends.Stuck
+RunEnds form s holds holds' faults faults' statuses.Spent = Logged form s holds holds' ends.Spent
+RunEnds form s holds holds' faults faults' statuses.WriteFault = LoggedPart form s holds holds' × Rose faults faults'
+RunEnds form s holds holds' faults faults' statuses.Memory = Keeps holds holds' ⊎ LoggedPart form s holds holds'
+RunEnds form s holds holds' faults faults' _ = ⊥
 
 -- the input was read to its end and is a script, and its run ended so
-pub record Ran (left left' holds holds' : Option (List ℕ)) (faults faults' : ℕ) (status : Status) : Type 0 where
+pub record Ran (form : LogForm) (left left' holds holds' : Option (List ℕ)) (faults faults' : ℕ) (status : Status) : Type 0 where
   pub script : Tree
   pub is_script : IsScript script
   pub input : Consumes left left' (spelling script)
   pub read_out : IsAtEnd left'
-  pub ends : RunEnds script holds holds' faults faults' status
+  pub ends : RunEnds form script holds holds' faults faults' status
 
 -- the summary of the one run of a script that is made from the number was written, and this is its end
 pub record Summed (n : ℕ) (holds holds' : Option (List ℕ)) (end : End) : Type 0 where

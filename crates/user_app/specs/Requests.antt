@@ -1,15 +1,22 @@
 -- What the words ask for.
 use Rattle.std.specs.Prelude.{◌≡◌, ◌≢◌, ℕ, ◌<◌, ◌≤◌, List, [], ◌∷◌, codes, decimal}
+use Rattle.user_app.specs.declared.request.LogForm.{LogForm}
+use Rattle.user_app.specs.declared.request.LogForm.TheVariants.{Plain, Json}
 use Rattle.user_app.specs.declared.request.Request.{Request}
 use Rattle.user_app.specs.declared.request.Request.TheVariants as requests
 
--- a run of the script in the input
-abbrev pub run_words : List (List ℕ)
-run_words = codes "run" ∷ []
+-- a run of the script in the input, whose log is written in this form
+abbrev pub run_words : LogForm → List (List ℕ)
+run_words Plain = codes "run" ∷ []
+run_words Json = codes "run" ∷ codes "--json" ∷ []
 
 -- a run of the script that is made from a number, which is in decimal
 abbrev pub make_words : ℕ → List (List ℕ)
 make_words n = codes "make" ∷ decimal n ∷ []
+
+-- a run of the script in the input, in whatever form
+abbrev pub AskToRun : List (List ℕ) → Type 0
+AskToRun words = (form : LogForm) × (words ≡ run_words form)
 
 -- the number is from 1 to 60,000
 pub record IsMake (words : List (List ℕ)) (n : ℕ) : Type 0 where
@@ -17,13 +24,14 @@ pub record IsMake (words : List (List ℕ)) (n : ℕ) : Type 0 where
   pub few : n ≤ 60000
   pub words_are : words ≡ make_words n
 
--- neither
+-- none of these
 pub record AskNothing (words : List (List ℕ)) : Type 0 where
-  pub no_run : words ≢ run_words
+  pub no_run : words ≢ run_words Plain
+  pub no_json : words ≢ run_words Json
   pub no_make : (n : ℕ) → IsMake words n → ⊥
 
 -- the words are those of the request
 abbrev pub AskFor : List (List ℕ) → Request → Type 0
-AskFor words requests.Run = words ≡ run_words
+AskFor words (requests.Run form) = words ≡ run_words form
 AskFor words (requests.Make n) = IsMake words n
 AskFor words requests.Nothing = AskNothing words

@@ -7,21 +7,23 @@ ghost use Rattle.script_text.specs.Limits.{IsScript};
 ghost use Rattle.script_text.specs.Spelling.{spelling};
 ghost use Rattle.log_text.specs.declared.end.End.{End};
 ghost use Rattle.log_text.specs.Ends.{end_of};
-ghost use Rattle.log_text.specs.Logs.{log};
 ghost use Rattle.user_pool.specs.Runs.{IsListed};
+ghost use Rattle.user_app.specs.declared.request.LogForm.{LogForm};
+ghost use Rattle.user_app.specs.Histories.{history_text};
 ghost use Rattle.user_app.specs.Statuses.{status_of};
 ghost use Rattle.user_app.specs.Outcomes.{Ran};
 
 /// The text of a script decides its run: two trees of one text, wherever in memory their statements
-/// lie, have the same listed run, and each past has the same log and the same end for both.
+/// lie, have the same listed run, and each past has the same log, in either form, and the same end for both.
 pub fn one_log()
     ensures run { (s t : Tree) → IsScript s → IsScript t → spelling s ≡ spelling t → (a b : Past) → IsListed s a → IsListed t b → a ≡ b }
-    ensures log { (s t : Tree) → IsScript s → IsScript t → spelling s ≡ spelling t → (past : Past) → log s past ≡ log t past }
+    ensures text { (form : LogForm) (s t : Tree) → IsScript s → IsScript t → spelling s ≡ spelling t → (past : Past) → history_text form s past ≡ history_text form t past }
     ensures end { (s t : Tree) → IsScript s → IsScript t → spelling s ≡ spelling t → (past : Past) → end_of s past ≡ end_of t past }
 {}
 
 /// The input decides the output: two runs that read the same text to its end, into sinks that held the
-/// same, and that no fault and no want of memory cut short, leave the same in the sinks, with one status.
+/// same, whose logs are written in the same form, and that no fault and no want of memory cut short, leave
+/// the same in the sinks, with one status.
 pub fn one_output()
-    ensures { (text held a b : List ℕ) (l m : Option (List ℕ)) (f f' g g' : ℕ) (x y : End) → Ran (Some text) l (Some held) (Some a) f f' (status_of x) → Ran (Some text) m (Some held) (Some b) g g' (status_of y) → (a ≡ b) × (status_of x ≡ status_of y) }
+    ensures { (form : LogForm) (text held a b : List ℕ) (l m : Option (List ℕ)) (f f' g g' : ℕ) (x y : End) → Ran form (Some text) l (Some held) (Some a) f f' (status_of x) → Ran form (Some text) m (Some held) (Some b) g g' (status_of y) → (a ≡ b) × (status_of x ≡ status_of y) }
 {}

@@ -2,6 +2,7 @@
 #![tactic(auto)]
 
 mod app;
+mod history;
 mod laws;
 mod made;
 mod request;
@@ -15,8 +16,3 @@ pub use status::Status;
 pub mod io {
     pub use user_io::{MemSink, MemSource, Put, Sink, Source, StdSink, StdSource, Took};
 }
-
-#[cfg(test)]
-mod refusing;
-#[cfg(test)]
-mod tests;

@@ -1,6 +1,6 @@
 //! What the words ask for.
 
-ghost use Rattle.std.specs.Prelude.{◌≡◌, ◌≢◌, ◌↔◌, ◌<◌, ◌≤◌, ℕ, IsTrue, IfSome, IsNone, List, [], ◌∷◌, map, decimal};
+ghost use Rattle.std.specs.Prelude.{◌≡◌, ◌≢◌, ◌↔◌, ◌<◌, ◌≤◌, ℕ, IsTrue, IfSome, IsNone, List, [], ◌∷◌, map, codes, decimal};
 ghost use Rattle.std.specs.String.{string_bytes};
 ghost use Rattle.user_app.specs.Requests.{AskFor};
 
@@ -9,11 +9,20 @@ use itoa::Buffer;
 /// The greatest number from which a script is made.
 const MOST_MADE: u32 = 60000;
 
+/// How the log of a run is written.
+#[derive(Clone, Copy, Debug, PartialEq, Eq)]
+pub enum LogForm {
+    /// Lines of words.
+    Plain,
+    /// Lines of JSON.
+    Json,
+}
+
 /// What the words ask for.
 #[derive(Clone, Copy, Debug, PartialEq, Eq)]
 pub enum Request {
-    /// `run`: a run of the script in the input.
-    Run,
+    /// `run` or `run --json`: a run of the script in the input, whose log is written in this form.
+    Run(LogForm),
     /// `make N`: a run of the script that is made from the number, 1 to 60000.
     Make(u32),
     /// Nothing that the program does.
@@ -50,22 +59,42 @@ fn one_word(word: &str) -> Request
     ensures { (words : List (List ℕ)) → words ≡ word.now ∷ [] → AskFor words result }
 {
     if same_text(word.as_bytes(), b"run") {
-        return Request::Run;
+        return Request::Run(LogForm::Plain);
     }
     Request::Nothing
+}
+
+/// What `run` and one more word ask for.
+fn run_word(word: &str) -> Request
+    ensures { (words : List (List ℕ)) → words ≡ codes "run" ∷ word.now ∷ [] → AskFor words result }
+{
+    if same_text(word.as_bytes(), b"--json") {
+        return Request::Run(LogForm::Json);
+    }
+    Request::Nothing
+}
+
+/// What `make` and one more word ask for.
+fn make_word(word: &str) -> Request
+    ensures { (words : List (List ℕ)) → words ≡ codes "make" ∷ word.now ∷ [] → AskFor words result }
+{
+    match made_number(word) {
+        Some(number) => Request::Make(number),
+        None => Request::Nothing,
+    }
 }
 
 /// What two words ask for.
 fn two_words(first: &str, second: &str) -> Request
     ensures { (words : List (List ℕ)) → words ≡ first.now ∷ second.now ∷ [] → AskFor words result }
 {
-    if !same_text(first.as_bytes(), b"make") {
-        return Request::Nothing;
+    if same_text(first.as_bytes(), b"run") {
+        return run_word(second);
     }
-    match made_number(second) {
-        Some(number) => Request::Make(number),
-        None => Request::Nothing,
+    if same_text(first.as_bytes(), b"make") {
+        return make_word(second);
     }
+    Request::Nothing
 }
 
 /// What the words ask for.

@@ -10,4 +10,3 @@ pub mod Places
 pub mod Programs
 pub mod Seating
 pub mod Turns
-pub mod Replays

@@ -3,4 +3,3 @@ pub mod Interleavings
 pub mod Moves
 pub mod Runs
 pub mod Seats
-pub mod Replays

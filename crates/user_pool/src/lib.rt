@@ -16,6 +16,3 @@ pub use laws::{
     runs_are_short,
 };
 pub use run::run_listed;
-
-#[cfg(test)]
-mod tests;

@@ -5,9 +5,9 @@ use Rattle.user_app.proofs.app.run.Goals as goal
 pub returns-clause-written : goal.returns-clause-written
 returns-clause-written g c =
     let past = c.in-Ok-run_listed.user.past in
-    log_told c.write_log-outcome.result c.args.script.now (g.K.Sink.holds c.args.sink.now) (g.K.Sink.holds c.write_log-outcome.new.sink) (g.K.Sink.faults c.args.sink.now) (g.K.Sink.faults c.write_log-outcome.new.sink) past c.in-Ok-run_listed.end c.written_status.result
-    c.in-Ok-run_listed.ensures.run c.in-Ok-run_listed.ensures.end c.in-Ok-run_listed.ensures.over c.write_log-outcome.ensures.ok c.write_log-outcome.ensures.err c.write_log-outcome.ensures.failed c.written_status.ensures
+    log_told c.write_history-outcome.result c.args.form c.args.script.now (g.K.Sink.holds c.args.sink.now) (g.K.Sink.holds c.write_history-outcome.new.sink) (g.K.Sink.faults c.args.sink.now) (g.K.Sink.faults c.write_history-outcome.new.sink) past c.in-Ok-run_listed.end c.written_status.result
+    c.in-Ok-run_listed.ensures.run c.in-Ok-run_listed.ensures.end c.in-Ok-run_listed.ensures.over c.write_history-outcome.ensures.ok c.write_history-outcome.ensures.err c.write_history-outcome.ensures.failed c.written_status.ensures
     (λ send. c.runs_answer_their_sends.ensures.story c.args.script.now past send c.in-Ok-run_listed.ensures.run.run) (c.runs_answer_their_sends.ensures.settled c.args.script.now past c.in-Ok-run_listed.ensures.run.run)
 
 pub returns-clause-whole : goal.returns-clause-whole
-returns-clause-whole g c = λ whole. whole_told c.write_log-outcome.result c.in-Ok-run_listed.end c.written_status.result (g.K.Sink.faults c.write_log-outcome.new.sink ≡ g.K.Sink.faults c.args.sink.now) c.written_status.ensures whole c.write_log-outcome.ensures.unfailed
+returns-clause-whole g c = λ whole. whole_told c.write_history-outcome.result c.in-Ok-run_listed.end c.written_status.result (g.K.Sink.faults c.write_history-outcome.new.sink ≡ g.K.Sink.faults c.args.sink.now) c.written_status.ensures whole c.write_history-outcome.ensures.unfailed

@@ -1,0 +1,94 @@
+//! Worked examples of the program's top call, from bytes to bytes. Standard input has lines `PIECE FAIL ROOM: WORDS: TEXT`: the program
+//! is called with these words, on a source that gives the text in pieces of so many bytes and fails at its call FAIL, counted from 0
+//! (`-`: at none), and on a sink that has room for so many bytes. A line `turns TEXT` makes turns of a script's first thread; `pool LEFT:
+//! TEXT` runs all of its threads at a machine that wants memory once after LEFT calls (`-`: never). In a text `/` ends a line. Each line
+//! is written again, and below it what came of it, with `/` in the place of an end of a line.
+#![tactic(auto)]
+
+ghost use Rattle.std.specs.Prelude.{◌<◌};
+
+mod pools;
+mod texts;
+mod turns;
+mod wanting;
+
+use std::alloc::{AllocError, Global};
+use std::io::{BufRead, BufReader};
+use texts::{Outside, lines_of, outside_of, shown};
+use user_app::io::{MemSink, MemSource};
+use user_app::{Status, user_plain};
+
+/// The words of a line.
+fn words_of(alloc: Global, words: &str) -> Result<Vec<String>, AllocError> {
+    let mut owned = Vec::new(alloc);
+    for word in words.split(' ').filter(|word| !word.is_empty()) {
+        owned.push(String::from_str(alloc, word)?)?;
+    }
+    Ok(owned)
+}
+
+/// Calls the program with these words.
+fn called(
+    alloc: Global,
+    outside: Outside,
+    words: &str,
+    text: &str,
+) -> Result<(Status, MemSink), AllocError> {
+    let owned = words_of(alloc, words)?;
+    let mut fail = Vec::new(alloc);
+    if let Some(call) = outside.fails_at {
+        fail.push(call)?;
+    }
+    let script = lines_of(alloc, text)?;
+    let mut source = MemSource::new(
+        Vec::from_slice(alloc, script.as_bytes())?,
+        outside.piece.max(1),
+        fail,
+    );
+    let mut sink = MemSink::new(alloc, outside.room)?;
+    let status = user_plain(alloc, &owned, &mut source, &mut sink);
+    Ok((status, sink))
+}
+
+/// Calls the program with these words, and tells how it ended and what it wrote.
+fn tell_call(rt: &impl Print, alloc: Global, outside: Outside, line: &str) -> anyhow::Result<()> {
+    let Some((words, text)) = line.split_once(": ") else {
+        anyhow::bail!("no text: {line}");
+    };
+    let (status, sink) = called(alloc, outside, words, text)?;
+    println!(rt; "  {status:?} {}", status.number())?;
+    println!(rt; "  {}", shown(alloc, sink.bytes())?)?;
+    Ok(())
+}
+
+/// Does what a line asks for.
+fn run_line(rt: &impl Print, alloc: Global, line: &str) -> anyhow::Result<()> {
+    if let Some(text) = line.strip_prefix("turns ") {
+        return turns::tell(rt, alloc, text);
+    }
+    if let Some(rest) = line.strip_prefix("pool ") {
+        return pools::tell(rt, alloc, rest);
+    }
+    let Some((outside, rest)) = line.split_once(": ") else {
+        return Ok(());
+    };
+    match outside_of(outside) {
+        Some(outside) => tell_call(rt, alloc, outside, rest),
+        None => anyhow::bail!("no numbers: {line}"),
+    }
+}
+
+/// Does what the lines of standard input ask for.
+fn run(rt: &HostRuntime, alloc: Global) -> anyhow::Result<()> {
+    for line in BufReader::new(alloc, rt.reader())?.lines(alloc) {
+        let line = line?;
+        println!(rt; "{line}")?;
+        run_line(rt, alloc, &line)?;
+    }
+    Ok(())
+}
+
+fn main(rt: HostRuntime) -> anyhow::Result<()> {
+    let alloc = rt.alloc();
+    run(&rt, alloc)
+}
