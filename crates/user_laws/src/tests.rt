@@ -22,12 +22,10 @@ macro_rules! by_proc {
     };
 }
 
-/// A machine after steps of so many threads, of which each has a window, from 16 on.
-fn played(alloc: Global, threads: u8, steps: &[Step]) -> Result<User, AllocError>
-    requires some { 0 < threads }
-    requires few { threads ≤ 15 }
+/// Makes the steps at a machine of so many threads, of which each gets a window first, from 16 on.
+fn play(user: &mut User, threads: u8, steps: &[Step]) -> Result<(), AllocError>
+    requires { threads ≤ 15 }
 {
-    let mut user = User::new(alloc, Setup::new(threads, 8, 4))?;
     user.step(Thread(1), Call::Register(1, 0, 0))?;
     for thread in 0..threads {
         user.step(
@@ -38,7 +36,7 @@ fn played(alloc: Global, threads: u8, steps: &[Step]) -> Result<User, AllocError
     for &(who, call) in steps {
         user.step(Thread(who), call)?;
     }
-    Ok(user)
+    Ok(())
 }
 
 /// Whether a send is told so, where its machine's first step stands at this place.
@@ -51,18 +49,31 @@ fn is_told(user: &User, first: u32, told: &Told) -> bool {
 }
 
 /// Whether all these sends are told so after the steps, and no counts, since a thread still runs.
+fn are_told_by(
+    user: &mut User,
+    threads: u8,
+    steps: &[Step],
+    sends: &[Told],
+) -> Result<bool, AllocError>
+    requires { threads ≤ 15 }
+{
+    play(user, threads, steps)?;
+    let first = u32::from(threads) + 1;
+    for told in sends {
+        if !is_told(user, first, told) {
+            return Ok(false);
+        }
+    }
+    Ok(sum_law(user).is_none())
+}
+
+/// The same by a machine of its own.
 fn are_told(alloc: Global, threads: u8, steps: &[Step], sends: &[Told]) -> Result<bool, AllocError>
     requires some { 0 < threads }
     requires few { threads ≤ 15 }
 {
-    let user = played(alloc, threads, steps)?;
-    let first = u32::from(threads) + 1;
-    for told in sends {
-        if !is_told(&user, first, told) {
-            return Ok(false);
-        }
-    }
-    Ok(sum_law(&user).is_none())
+    let mut user = User::new(alloc, Setup::new(threads, 8, 4))?;
+    are_told_by(&mut user, threads, steps, sends)
 }
 
 #[test]
@@ -200,17 +211,27 @@ fn sends_that_end_otherwise(rt: HostRuntime) -> Result<(), Fail> {
     Ok(())
 }
 
-#[test]
-fn counts_are_told_at_the_end(rt: HostRuntime) -> Result<(), Fail> {
-    let alloc: Global = rt.alloc();
-    let mut user = User::new(alloc, Setup::new(2, 8, 4))?;
+/// Whether counts are told before all threads have ended, and how many sends were lost, once they have.
+fn counts_told_by(user: &mut User) -> Result<(bool, u32), AllocError> {
     user.step(Thread(1), Call::Register(1, 0, 0))?;
     user.step(Thread(2), Call::NewWindow(1, 2, 0, 0, 0, 0, 0, 0, 0))?;
     user.step(Thread(1), Call::Send(16, 1024, 0, 0))?;
     user.step(Thread(2), Call::EndThread)?;
-    assert!(rt; sum_law(&user).is_none());
+    let early = sum_law(user).is_some();
     user.step(Thread(1), Call::Await(1))?;
     user.step(Thread(1), Call::EndThread)?;
-    assert_eq!(rt; sum_law(&user).map_or(0, |count| count.by_loss), 1);
+    let lost = sum_law(user).map_or(0, |count| count.by_loss);
+    Ok((early, lost))
+}
+
+/// The same by a machine of its own.
+fn counts_told(alloc: Global) -> Result<(bool, u32), AllocError> {
+    let mut user = User::new(alloc, Setup::new(2, 8, 4))?;
+    counts_told_by(&mut user)
+}
+
+#[test]
+fn counts_are_told_at_the_end(rt: HostRuntime) -> Result<(), Fail> {
+    assert_eq!(rt; counts_told(rt.alloc())?, (false, 1));
     Ok(())
 }
