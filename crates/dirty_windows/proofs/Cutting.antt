@@ -1,8 +1,7 @@
 -- The windows that are kept, and what is kept of them.
-use Rattle.std.proofs.Common.{◌≡◌, ◌≢◌, ◌⊎◌, inl, inr, ℕ, zero, suc, ◌+◌, ◌<◌, ◌≤◌, Bool, true, false, not, cond, eqb, List, [], ◌∷◌, ◌++◌, length, take, drop, get_or, filter, Option, Some, None, refl, ap, ◌∙◌, sym, subst, arith}
-use Rattle.std.specs.Prelude.{◌&&◌, ◌||◌, ◌↔◌, IsTrue, All}
-use Rattle.std.specs.List.{list_any}
-use Rattle.std.proofs.lemmas.Bool.{eqb-true, eqb-false, eq-eqb, true≢false, false≢true}
+use Rattle.std.proofs.Common.{◌≡◌, ◌≢◌, ℕ, ◌+◌, ◌<◌, ◌≤◌, Bool, true, false, cond, eqb, List, [], ◌∷◌, ◌++◌, length, take, get_or, filter, Option, Some, None, refl, ap, ◌∙◌, sym, subst, arith}
+use Rattle.std.specs.Prelude.{◌&&◌, ◌↔◌, IsTrue, All}
+use Rattle.std.proofs.lemmas.Bool.{eqb-true, eqb-false, true≢false, false≢true}
 use Rattle.std.proofs.lemmas.List.{append-nil, take_all, take_more}
 use Rattle.std.proofs.lemmas.List.Elements.{All-nil, All-cons, All-head, All-tail, All-more, All-same}
 use Rattle.win_num.specs.declared.message.Hwnd.{Hwnd}
@@ -12,10 +11,10 @@ use Rattle.update_region.specs.Updates.{Dirty}
 use Rattle.screen_owners.specs.declared.owners.Owned.{Owned}
 use Rattle.screen_owners.specs.Owners.{region_in}
 use Rattle.dirty_windows.specs.declared.entries.DirtyWindow.{DirtyWindow}
-use Rattle.dirty_windows.specs.LookUps.{area_in, entry_of, erases_in, is_among, nothing, update_in, update_in_entry, IsAllClean, IsClean, RisesFrom}
+use Rattle.dirty_windows.specs.LookUps.{area_in, entry_of, erases_in, is_among, update_in, update_in_entry, IsAllClean, IsClean, RisesFrom}
 use Rattle.dirty_windows.specs.Places.{IsSettled}
 use Rattle.dirty_windows.specs.Changes.{IsCut}
-use Rattle.dirty_windows.proofs.Lists.{above_first, entry_beside, entry_middle, entry_other, entry_same, lower, none_up_to, number, rises-take}
+use Rattle.dirty_windows.proofs.Lists.{entry_beside, entry_middle, entry_other, entry_same, lower, none_up_to, number, rises-take}
 
 -- ---- entry by entry
 

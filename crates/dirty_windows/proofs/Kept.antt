@@ -1,27 +1,21 @@
 -- What the calls on all windows promise, from what is done to the entries.
-use Rattle.std.proofs.Common.{◌≡◌, ◌≢◌, ℕ, ◌<◌, Bool, true, false, not, cond, eqb, List, [], ◌∷◌, filter, Option, Some, None, refl, ap, ◌∙◌, sym, subst}
+use Rattle.std.proofs.Common.{◌≡◌, ◌≢◌, ℕ, Bool, true, false, eqb, List, Option, Some, None, refl, ap, ◌∙◌, sym, subst}
 use Rattle.std.specs.Prelude.{◌&&◌, ◌||◌, ◌↔◌, IsTrue, All}
-use Rattle.std.proofs.lemmas.Bool.{eqb-true, eqb-false}
-use Rattle.win_num.specs.declared.message.Hwnd.{Hwnd}
+use Rattle.std.proofs.lemmas.Bool.{eqb-true}
 use Rattle.win_num.specs.declared.shapes.Point.{Point}
 use Rattle.win_num.specs.declared.shapes.Rect.{Rect}
-use Rattle.band_region.specs.Regions.{region_has, IsEmpty}
+use Rattle.band_region.specs.Regions.{region_has}
 use Rattle.update_region.specs.Updates.{Dirty}
 use Rattle.screen_owners.specs.declared.owners.Owned.{Owned}
 use Rattle.screen_owners.specs.Owners.{region_in}
 use Rattle.dirty_windows.specs.declared.entries.DirtyWindow.{DirtyWindow}
 use Rattle.dirty_windows.specs.LookUps.{area_in, entry_of, erases_in, nothing, update_in, update_in_entry, AreKept, IsClean, RisesFrom}
-use Rattle.dirty_windows.specs.Places.{IsPut, IsSettled}
+use Rattle.dirty_windows.specs.Places.{IsPut}
 use Rattle.dirty_windows.specs.Changes.{IsAdded}
-use Rattle.dirty_windows.proofs.Lists.{number}
 
 -- what is kept beside entries that were walked over
 pub kept_with : (ds es : List DirtyWindow) (clean : Bool) → RisesFrom 0 es → ds ≡ es → (IsTrue clean ↔ All IsClean ds) → AreKept es clean
 kept_with ds es clean h e told = record { rising = h; told = subst (λ fs. IsTrue clean ↔ All IsClean fs) e told }
-
--- the same entries
-pub kept_still : (ds es : List DirtyWindow) (clean : Bool) → es ≡ ds → AreKept ds clean → AreKept es clean
-kept_still ds es clean e k = subst (λ fs. AreKept fs clean) (sym e) k
 
 -- a part that is cut to what the window owns
 pub invalid_area : (os : List Owned) (w : ℕ) (whole part : List Rect) (erase : Bool) (ds old es : List DirtyWindow) → ds ≡ old → ((p : Point) → region_has part p ≡ (region_has whole p && region_has (region_in os w) p)) → IsAdded w part erase ds es → (v : ℕ) (p : Point) → region_has (area_in es v) p ≡ (region_has (area_in old v) p || ((eqb w v) && (region_has whole p && region_has (region_in os v) p)))
@@ -33,13 +27,3 @@ invalid_area os w whole part erase ds old es e h a v p = a.area v p ∙ ap (λ b
 
 pub invalid_erases : (w : ℕ) (part : List Rect) (erase : Bool) (ds old es : List DirtyWindow) → ds ≡ old → IsAdded w part erase ds es → (v : ℕ) → erases_in es v ≡ (erases_in old v || ((eqb w v) && erase))
 invalid_erases w part erase ds old es e a v = a.erases v ∙ ap (λ fs. erases_in fs v || ((eqb w v) && erase)) e
-
--- the entry that was taken out
-pub taken_update : (ds old : List DirtyWindow) (w : ℕ) (o : Option DirtyWindow) (d : DirtyWindow) → ds ≡ old → o ≡ entry_of ds w → o ≡ Some d → d.update ≡ update_in old w
-taken_update ds old w o d e at is = ap update_in_entry (sym is ∙ at) ∙ ap (λ fs. update_in fs w) e
-
-pub taken_nothing : (ds old : List DirtyWindow) (w : ℕ) (o : Option DirtyWindow) → ds ≡ old → o ≡ entry_of ds w → o ≡ None → nothing ≡ update_in old w
-taken_nothing ds old w o e at is = ap update_in_entry (sym is ∙ at) ∙ ap (λ fs. update_in fs w) e
-
-pub others_still : (w : ℕ) (u : Dirty) (ds old es : List DirtyWindow) → ds ≡ old → IsPut w u ds es → (v : ℕ) → v ≢ w → update_in es v ≡ update_in old v
-others_still w u ds old es e p v n = p.others v n ∙ ap (λ fs. update_in fs v) e

@@ -1,10 +1,9 @@
 -- Entries by rising number, in front of a place, at it and behind it.
-use Rattle.std.proofs.Common.{◌≡◌, ◌≢◌, ◌⊎◌, inl, inr, ℕ, zero, suc, ◌+◌, ◌<◌, ◌≤◌, Bool, true, false, cond, eqb, List, [], ◌∷◌, ◌++◌, length, take, drop, get_or, set, Option, Some, None, refl, ap, ◌∙◌, sym, subst, arith}
-use Rattle.std.specs.List.{All, AllPairs}
+use Rattle.std.proofs.Common.{◌≡◌, ◌≢◌, ℕ, zero, suc, ◌<◌, ◌≤◌, cond, eqb, List, [], ◌∷◌, ◌++◌, length, take, drop, get_or, set, Some, None, refl, ap, ◌∙◌, sym, subst, arith}
 use Rattle.std.specs.List.Sorted.{IsNonDecreasingBy}
-use Rattle.std.proofs.lemmas.Bool.{cases_lt, eq-eqb, ne_eqb, eqb-true}
+use Rattle.std.proofs.lemmas.Bool.{eq-eqb, ne_eqb}
 use Rattle.dirty_windows.specs.declared.entries.DirtyWindow.{DirtyWindow}
-use Rattle.dirty_windows.specs.LookUps.{entry_of, nothing, update_in, update_in_entry, RisesFrom}
+use Rattle.dirty_windows.specs.LookUps.{entry_of, RisesFrom}
 
 -- the number of an entry
 abbrev pub number : DirtyWindow → ℕ

@@ -1,5 +1,5 @@
 -- What is dirty of each window, looked up in a list of entries.
-use Rattle.std.specs.Prelude.{◌≡◌, ◌↔◌, ℕ, ◌<◌, ◌==◌, Bool, false, IsTrue, List, [], ◌∷◌, Option, Some, None, find, All}
+use Rattle.std.specs.Prelude.{◌↔◌, ℕ, ◌<◌, ◌==◌, Bool, false, IsTrue, List, [], ◌∷◌, Option, Some, None, find, All}
 use Rattle.std.specs.List.{list_any}
 use Rattle.std.specs.List.Sorted.{IsNonDecreasingBy}
 use Rattle.win_num.specs.declared.message.Hwnd.{Hwnd}

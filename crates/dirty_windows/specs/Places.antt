@@ -4,7 +4,7 @@ use Rattle.band_region.specs.Regions.{region_has}
 use Rattle.win_num.specs.declared.shapes.Point.{Point}
 use Rattle.update_region.specs.Updates.{Dirty}
 use Rattle.dirty_windows.specs.declared.entries.DirtyWindow.{DirtyWindow}
-use Rattle.dirty_windows.specs.LookUps.{area_in, erases_in, nothing, update_in, RisesFrom}
+use Rattle.dirty_windows.specs.LookUps.{area_in, erases_in, update_in, RisesFrom}
 
 -- the entry there is the window's
 pub record IsAt (ds : List DirtyWindow) (w : ℕ) (i : ℕ) : Type 0 where

@@ -1,7 +1,6 @@
-use Rattle.std.proofs.Common.{◌≡◌, refl, ap, sym, subst, ◌∙◌, arith, rules, tests}
+use Rattle.std.proofs.Common.{refl, sym, ◌∙◌}
 use Rattle.std.proofs.lemmas.Bool.{eqb-true}
 use Rattle.std.proofs.lemmas.Result.{on_ok_weaker}
-use Rattle.band_region.specs.Regions.{IsEmpty}
 use Rattle.dirty_windows.proofs.Exposing.{exposed_none, exposed_some, none_for_screen}
 use Rattle.dirty_windows.proofs.change.expose.Goals as goal
 

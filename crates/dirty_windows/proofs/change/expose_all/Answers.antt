@@ -1,4 +1,4 @@
-use Rattle.std.proofs.Common.{◌≡◌, arith}
+use Rattle.std.proofs.Common.{arith}
 use Rattle.dirty_windows.proofs.Exposing.{exposed_all, exposed_first, exposed_more}
 use Rattle.dirty_windows.proofs.change.expose_all.Goals as goal
 

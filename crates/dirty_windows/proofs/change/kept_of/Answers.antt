@@ -1,4 +1,4 @@
-use Rattle.std.proofs.Common.{◌≡◌, List, length, subst, ap, arith, rules, tests}
+use Rattle.std.proofs.Common.{List, subst, arith}
 use Rattle.std.proofs.lemmas.List.{take_all}
 use Rattle.dirty_windows.specs.declared.entries.DirtyWindow.{DirtyWindow}
 use Rattle.dirty_windows.specs.Changes.{IsCut}

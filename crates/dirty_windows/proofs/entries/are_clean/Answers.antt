@@ -1,6 +1,4 @@
-use Rattle.std.proofs.Common.{◌≡◌, false, true, subst, arith, rules, tests}
-use Rattle.std.specs.Prelude.{◌↔◌, IsTrue, All}
-use Rattle.dirty_windows.specs.LookUps.{IsClean}
+use Rattle.std.proofs.Common.{arith, rules, tests}
 use Rattle.dirty_windows.proofs.Cutting.{clean_all, clean_more, not_clean}
 use Rattle.dirty_windows.proofs.entries.are_clean.Goals as goal
 

@@ -1,4 +1,4 @@
-use Rattle.std.proofs.Common.{◌≡◌, List, sym, ap, subst, refl, ◌∙◌}
+use Rattle.std.proofs.Common.{List, sym, subst, refl}
 use Rattle.dirty_windows.specs.declared.entries.DirtyWindow.{DirtyWindow}
 use Rattle.dirty_windows.specs.Places.{IsAt, IsMissingAt}
 use Rattle.dirty_windows.proofs.Settling.{entry_at, no_entry, none_taken, taken_at}

@@ -1,4 +1,4 @@
-use Rattle.std.proofs.Common.{◌≡◌, List, Some, None, ap, sym, subst, ◌∙◌}
+use Rattle.std.proofs.Common.{List, Some, ap, ◌∙◌}
 use Rattle.std.specs.Prelude.{option_map}
 use Rattle.dirty_windows.specs.declared.entries.DirtyWindow.{DirtyWindow}
 use Rattle.dirty_windows.specs.LookUps.{entry_area, entry_of}

@@ -1,7 +1,4 @@
-use Rattle.std.proofs.Common.{◌≡◌, List, ap, ◌∙◌, subst}
-use Rattle.dirty_windows.specs.declared.entries.DirtyWindow.{DirtyWindow}
-use Rattle.dirty_windows.specs.LookUps.{area_in, erases_in, update_in}
-use Rattle.dirty_windows.proofs.Settling.{less_area, less_cleared, less_kept}
+use Rattle.dirty_windows.proofs.Settling.{less_cleared}
 use Rattle.dirty_windows.proofs.Kept.{kept_with}
 use Rattle.dirty_windows.proofs.windows.DirtyWindows.validate.Goals as goal
 
