@@ -1,0 +1,5 @@
+pub mod Cutting
+pub mod Exposing
+pub mod Kept
+pub mod Lists
+pub mod Settling
