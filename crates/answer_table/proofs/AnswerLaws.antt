@@ -11,6 +11,7 @@ use Rattle.call_fields.specs.Values.{field_of}
 use Rattle.call_fields.proofs.Finding.{found_passes}
 use Rattle.answer_table.specs.declared.answers.AnswerName.{AnswerName}
 use Rattle.answer_table.specs.declared.answers.AnswerName.TheVariants as groups
+use Rattle.answer_table.specs.declared.drawing.DrawingAnswer.TheVariants as drawing
 use Rattle.answer_table.specs.declared.messages.MessageAnswer.TheVariants as messages
 use Rattle.answer_table.specs.declared.plain.PlainAnswer.TheVariants as plain
 use Rattle.answer_table.specs.declared.sends.SendAnswer.TheVariants as sends
@@ -39,6 +40,7 @@ pub made_name : (name : AnswerName) (vs : List Value) → answer_name (made_answ
 made_name (groups.Plain plain.Okay) vs = refl
 made_name (groups.Message messages.Got) vs = refl
 made_name (groups.Send sends.Done) vs = refl
+made_name (groups.Drawing drawing.Update) vs = refl
 made_name name vs = refl
 
 pub parts_fit : (a : Answer) → map field_of (answer_parts a) ≡ (answer_row (answer_name a)).fields
@@ -53,6 +55,7 @@ unfolding answer_named
 named_again (groups.Plain plain.Okay) = refl
 named_again (groups.Message messages.Got) = refl
 named_again (groups.Send sends.Done) = refl
+named_again (groups.Drawing drawing.Update) = refl
 named_again n = refl
 
 named_by_word : (n : AnswerName) → find (λ m. bytes_eq (answer_row m).word (answer_row n).word) all_answers ≡ Some n

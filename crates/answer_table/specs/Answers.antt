@@ -12,16 +12,18 @@ use Rattle.answer_table.specs.Splits.{Split}
 use Rattle.answer_table.specs.Plain.{plain_row, plain_answers, split_plain, made_plain}
 use Rattle.answer_table.specs.Messages.{message_row, message_answers, split_message, made_message}
 use Rattle.answer_table.specs.Sends.{send_row, send_answers, split_send, made_send}
+use Rattle.answer_table.specs.Drawing.{drawing_row, drawing_answers, split_drawing, made_drawing}
 
 -- the word of each form, and the kinds of its fields
 abbrev pub answer_row : AnswerName → Row
 answer_row (groups.Plain n) = plain_row n
 answer_row (groups.Message n) = message_row n
 answer_row (groups.Send n) = send_row n
+answer_row (groups.Drawing n) = drawing_row n
 
 -- all of them
 abbrev pub all_answers : List AnswerName
-all_answers = plain_answers ++ (message_answers ++ send_answers)
+all_answers = plain_answers ++ (message_answers ++ (send_answers ++ drawing_answers))
 
 -- the one with this word
 unfoldable pub answer_named : List ℕ → Option AnswerName
@@ -34,7 +36,7 @@ first_found o (p ∷ ps) = first_found (option_or o p) ps
 
 -- an answer taken apart by the group that has it; each answer is of one
 abbrev pub found_split : Answer → Option Split
-found_split a = first_found (split_plain a) (split_message a ∷ split_send a ∷ [])
+found_split a = first_found (split_plain a) (split_message a ∷ split_send a ∷ split_drawing a ∷ [])
 
 abbrev pub split_or_none : Option Split → Split
 split_or_none (Some s) = s
@@ -53,6 +55,7 @@ abbrev pub made_answer : AnswerName → List Value → Answer
 made_answer (groups.Plain n) vs = made_plain n vs
 made_answer (groups.Message n) vs = made_message n vs
 made_answer (groups.Send n) vs = made_send n vs
+made_answer (groups.Drawing n) vs = made_drawing n vs
 
 -- this answer has this form and these values
 pub record IsAnswerOf (name : AnswerName) (vs : List Value) (a : Answer) : Type 0 where

@@ -1,4 +1,5 @@
 pub mod Answers
+pub mod Drawing
 pub mod Messages
 pub mod Plain
 pub mod Sends

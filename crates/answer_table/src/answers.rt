@@ -10,6 +10,7 @@ ghost use Rattle.answer_table.specs.declared.answers.AnswerName.{AnswerName};
 ghost use Rattle.answer_table.specs.Answers.{IsAnswerOf, answer_named, answer_name, answer_parts, answer_row, found_split, made_answer};
 ghost use Rattle.answer_table.specs.Splits.{read_split};
 
+use crate::drawing::{DRAWING_ANSWERS, DrawingAnswer, drawing_form, made_drawing, split_drawing};
 use crate::messages::{MESSAGE_ANSWERS, MessageAnswer, made_message, message_form, split_message};
 use crate::plain::{PLAIN_ANSWERS, PlainAnswer, made_plain, plain_form, split_plain};
 use crate::sends::{SEND_ANSWERS, SendAnswer, made_send, send_form, split_send};
@@ -26,6 +27,8 @@ pub enum AnswerName {
     Message(MessageAnswer),
     /// It speaks of a send.
     Send(SendAnswer),
+    /// It speaks of the pixels of a window.
+    Drawing(DrawingAnswer),
 }
 
 /// The word of a form, and the kinds of its fields.
@@ -36,6 +39,7 @@ pub fn answer_form(name: AnswerName) -> Form
         AnswerName::Plain(name) => plain_form(name),
         AnswerName::Message(name) => message_form(name),
         AnswerName::Send(name) => send_form(name),
+        AnswerName::Drawing(name) => drawing_form(name),
     }
 }
 
@@ -70,7 +74,8 @@ pub fn answer_named(word: &[u8]) -> Option<AnswerName>
 {
     let found = answer_in(&PLAIN_ANSWERS, word);
     let found = or_in(found, &MESSAGE_ANSWERS, word);
-    or_in(found, &SEND_ANSWERS, word)
+    let found = or_in(found, &SEND_ANSWERS, word);
+    or_in(found, &DRAWING_ANSWERS, word)
 }
 
 /// An answer taken apart by its group.
@@ -80,6 +85,7 @@ fn found_split(answer: Answer) -> Option<SplitAnswer>
     split_plain(answer)
         .or(split_message(answer))
         .or(split_send(answer))
+        .or(split_drawing(answer))
 }
 
 /// An answer taken apart: which form it has, and the values of its fields.
@@ -117,6 +123,7 @@ fn made_answer(name: AnswerName, values: &[Value]) -> Answer
         AnswerName::Plain(name) => made_plain(name, values),
         AnswerName::Message(name) => made_message(name, values),
         AnswerName::Send(name) => made_send(name, values),
+        AnswerName::Drawing(name) => made_drawing(name, values),
     }
 }
 

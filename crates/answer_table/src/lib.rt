@@ -6,6 +6,7 @@
 #![tactic(auto)]
 
 mod answers;
+mod drawing;
 mod messages;
 mod plain;
 mod sends;
@@ -14,6 +15,7 @@ mod split;
 pub use answers::{
     AnswerName, answer_form, answer_name, answer_named, answer_of_parts, answer_parts, split_answer,
 };
+pub use drawing::DrawingAnswer;
 pub use messages::MessageAnswer;
 pub use plain::PlainAnswer;
 pub use sends::SendAnswer;

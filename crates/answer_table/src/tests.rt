@@ -32,6 +32,26 @@ fn answers_again(rt: HostRuntime) -> Result<(), Fail> {
             },
             b"done",
         ),
+        (
+            Answer::Update {
+                kind: 3,
+                l: -1,
+                t: 2,
+                r: 3,
+                b: 4,
+            },
+            b"update",
+        ),
+        (
+            Answer::Painting {
+                erases: true,
+                l: -1,
+                t: 2,
+                r: 3,
+                b: 4,
+            },
+            b"painting",
+        ),
         (Answer::Inside(SendId(3), 4), b"inside"),
         (Answer::Refused(Code::Full), b"refused"),
     ] {

@@ -10,18 +10,31 @@ use user_core::User;
 use user_model::{Alone, Machine, Setup};
 
 /// Tells what a turn comes to, and how many entries the machine has then.
-fn tell_turn(
+fn tell_turn<M: Machine>(
     rt: &impl Print,
     program: &Program,
     worker: &mut Worker,
-    teller: &mut Alone<Wanting>,
+    teller: &mut Alone<M>,
 ) -> anyhow::Result<()> {
     let turn = worker.turn(program, teller);
     println!(rt; "  {turn:?}, {} entries", teller.machine.history().len())?;
     Ok(())
 }
 
-/// Three turns; memory is wanted after so many calls.
+/// Three turns of a worker.
+fn tell_three<M: Machine>(
+    rt: &impl Print,
+    program: &Program,
+    worker: &mut Worker,
+    teller: &mut Alone<M>,
+) -> anyhow::Result<()> {
+    for _ in 0..3u8 {
+        tell_turn(rt, program, worker, teller)?;
+    }
+    Ok(())
+}
+
+/// Three turns at a machine of its own; memory is wanted after so many calls.
 fn tell_turns(
     rt: &impl Print,
     alloc: Global,
@@ -31,11 +44,7 @@ fn tell_turns(
     let mut worker = Worker::new(alloc, program, 1)?;
     let machine = User::new(alloc, Setup::new(2, 8, 4))?;
     let machine = Wanting { machine, left };
-    let mut teller = Alone { machine };
-    for _ in 0..3u8 {
-        tell_turn(rt, program, &mut worker, &mut teller)?;
-    }
-    Ok(())
+    tell_three(rt, program, &mut worker, &mut Alone { machine })
 }
 
 /// Turns of the first thread of a script, with memory and where it is wanted once.

@@ -1,22 +1,21 @@
 //! A machine that wants memory once.
 
 use std::alloc::AllocError;
-use user_core::User;
 use user_model::{Answer, Call, Entry, Machine, SendCount};
 use win_num::Thread;
 
-/// A machine that makes so many calls, then wants memory at one, and makes all after it.
+/// A machine that makes so many calls by another, then wants memory at one, and makes all after it.
 #[derive(Drop)]
-pub struct Wanting {
-    pub machine: User,
+pub struct Wanting<M: Machine> {
+    pub machine: M,
     /// How many calls are left before it; none where memory was wanted, or never is.
     pub left: Option<u64>,
 }
 
-impl Machine for Wanting {
-    ghost setup = { λ w. w.machine.setup };
+impl<M: Machine> Machine for Wanting<M> {
+    ghost setup = { λ w. M.setup w.machine };
 
-    ghost past = { λ w. w.machine.past };
+    ghost past = { λ w. M.past w.machine };
 
     fn step(&mut self, who: Thread, call: Call) -> Result<Answer, AllocError> {
         if self.left == Some(0) {

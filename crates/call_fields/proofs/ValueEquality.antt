@@ -1,5 +1,5 @@
 -- Values that are equal are the same.
-use Rattle.std.proofs.Common.{◌≡◌, Bool, true, refl, ap, sym, ◌∙◌}
+use Rattle.std.proofs.Common.{◌≡◌, Bool, true, false, refl, ap, sym, ◌∙◌}
 use Rattle.std.specs.Bool.{Decides}
 use Rattle.std.proofs.lemmas.Bool.{false≢true}
 use Rattle.std.proofs.lemmas.Bool.Decides.{Decides-int_eq, Decides-eqb}
@@ -25,8 +25,12 @@ told (values.Thread x) (values.Thread y) e = ap (λ n. values.Thread (record { 0
 told (values.Count x) (values.Count y) e = ap values.Count ((Decides-eqb x y).0 e)
 told (values.ShortMessage x) (values.ShortMessage y) e = ap values.ShortMessage ((Decides-eqb x y).0 e)
 told (values.Pixel x) (values.Pixel y) e = ap values.Pixel ((Decides-int_eq x y).0 e)
+told (values.Flag true) (values.Flag true) e = refl
+told (values.Flag false) (values.Flag false) e = refl
+told (values.RegionKind x) (values.RegionKind y) e = ap values.RegionKind ((Decides-eqb x y).0 e)
 told (values.Source origins.Posted) (values.Source origins.Posted) e = refl
 told (values.Source origins.Quit) (values.Source origins.Quit) e = refl
+told (values.Source origins.Paint) (values.Source origins.Paint) e = refl
 told (values.Cause causes.Proc) (values.Cause causes.Proc) e = refl
 told (values.Cause causes.Reply) (values.Cause causes.Reply) e = refl
 told (values.Cause causes.Loss) (values.Cause causes.Loss) e = refl
@@ -49,8 +53,12 @@ same (values.Thread x) = (Decides-eqb x.0 x.0).1 refl
 same (values.Count x) = (Decides-eqb x x).1 refl
 same (values.ShortMessage x) = (Decides-eqb x x).1 refl
 same (values.Pixel x) = (Decides-int_eq x x).1 refl
+same (values.Flag true) = refl
+same (values.Flag false) = refl
+same (values.RegionKind x) = (Decides-eqb x x).1 refl
 same (values.Source origins.Posted) = refl
 same (values.Source origins.Quit) = refl
+same (values.Source origins.Paint) = refl
 same (values.Cause causes.Proc) = refl
 same (values.Cause causes.Reply) = refl
 same (values.Cause causes.Loss) = refl

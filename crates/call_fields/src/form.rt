@@ -28,6 +28,10 @@ pub enum Field {
     ShortMessage,
     /// A place on the screen in pixels, of 32 bits with its sign.
     Pixel,
+    /// Yes or no, written as 1 or 0.
+    Flag,
+    /// Which kind of region, of 8 bits.
+    RegionKind,
     /// Where a message came from.
     Source,
     /// How a send came to its answer.

@@ -8,6 +8,7 @@ use win_num::{Cause, Code, Hwnd, SendId, Thread};
 #[test]
 fn words_of_fields(rt: HostRuntime) -> Result<(), Fail> {
     assert_eq!(rt; source_word(Origin::Posted), b"posted".as_slice());
+    assert_eq!(rt; source_word(Origin::Paint), b"paint".as_slice());
     assert_eq!(rt; cause_word(Cause::Timeout), b"timeout".as_slice());
     assert_eq!(rt; code_word(Code::NotNow), Some(b"not_now".as_slice()));
     assert_eq!(rt; code_word(Code::Win(5)), None);
@@ -45,12 +46,17 @@ fn values_at_places(rt: HostRuntime) -> Result<(), Fail> {
         Value::Source(Origin::Quit),
         Value::Cause(Cause::Loss),
         Value::Code(Code::Full),
+        Value::Flag(true),
+        Value::RegionKind(3),
     ]);
     assert_eq!(rt; short_message_at(&others, 0), 1);
     assert_eq!(rt; pixel_at(&others, 1), -2);
     assert_eq!(rt; source_at(&others, 2), Origin::Quit);
     assert_eq!(rt; cause_at(&others, 3), Cause::Loss);
     assert_eq!(rt; code_at(&others, 4), Code::Full);
+    assert_eq!(rt; flag_at(&others, 5), true);
+    assert_eq!(rt; region_kind_at(&others, 6), 3);
+    assert_eq!(rt; flag_at(&others, 6), false);
     assert_eq!(rt; row_of(b"doom", &[Field::Number]).word, b"doom".as_slice());
     Ok(())
 }

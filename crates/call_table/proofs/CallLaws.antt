@@ -1,8 +1,7 @@
 -- A call is made of its parts again.
-use Rattle.std.proofs.Common.{◌≡◌, ℕ, Bool, true, List, Option, Some, None, refl, ap, sym, ◌∙◌}
-use Rattle.std.specs.Prelude.{find, map, option_map}
+use Rattle.std.proofs.Common.{◌≡◌, ℕ, Bool, true, List, Some, refl, ap, sym, ◌∙◌}
+use Rattle.std.specs.Prelude.{find, map}
 use Rattle.std.specs.List.{list_all}
-use Rattle.std.specs.Option.{option_or}
 use Rattle.std.specs.Str.{bytes_eq}
 use Rattle.user_model.specs.declared.call.Call.{Call}
 use Rattle.user_model.specs.declared.call.Call.TheVariants as calls
@@ -13,20 +12,13 @@ use Rattle.call_table.specs.declared.calls.CallName.{CallName}
 use Rattle.call_table.specs.declared.calls.CallName.TheVariants as groups
 use Rattle.call_table.specs.declared.clock.ClockCall.TheVariants as clock
 use Rattle.call_table.specs.declared.delivery.DeliveryCall.TheVariants as delivery
+use Rattle.call_table.specs.declared.drawing.DrawingCall.TheVariants as drawing
 use Rattle.call_table.specs.declared.lookups.LookupCall.TheVariants as lookups
 use Rattle.call_table.specs.declared.registrations.RegistrationCall.TheVariants as registrations
 use Rattle.call_table.specs.declared.replies.ReplyCall.TheVariants as replies
 use Rattle.call_table.specs.declared.sends.SendCall.TheVariants as sends
 use Rattle.call_table.specs.declared.windows.WindowCall.TheVariants as windows
-use Rattle.call_table.specs.declared.split.SplitCall.{SplitCall}
 use Rattle.call_table.specs.Calls.{IsCallOf, all_calls, call_name, call_parts, call_row, call_named, found_split, made_call}
-use Rattle.call_table.specs.Splits.{Split, read_split}
-
--- ---- the groups one after the other
-
-pub found_next : (a b r : Option SplitCall) (x y : Option Split) → option_map read_split a ≡ x → option_map read_split b ≡ y → r ≡ option_or a b → option_map read_split r ≡ option_or x y
-found_next None b r x y first next or = ap (option_map read_split) or ∙ next ∙ ap (λ (o : Option Split). option_or o y) first
-found_next (Some s) b r x y first next or = ap (option_map read_split) or ∙ ap (λ (o : Option Split). option_or o y) first
 
 -- no call is left out
 pub is_found : (c : Call) → found_split c ≡ Some (record { name = call_name c; values = call_parts c })
@@ -46,6 +38,7 @@ made_name (groups.Reply replies.Reply) vs = refl
 made_name (groups.Registration registrations.Message) vs = refl
 made_name (groups.Window windows.Doom) vs = refl
 made_name (groups.Lookup lookups.Find) vs = refl
+made_name (groups.Drawing drawing.Validate) vs = refl
 made_name (groups.Clock clock.Clock) vs = refl
 made_name name vs = refl
 
@@ -64,6 +57,7 @@ named_again (groups.Reply replies.Reply) = refl
 named_again (groups.Registration registrations.Message) = refl
 named_again (groups.Window windows.Doom) = refl
 named_again (groups.Lookup lookups.Find) = refl
+named_again (groups.Drawing drawing.Validate) = refl
 named_again (groups.Clock clock.Clock) = refl
 named_again n = refl
 

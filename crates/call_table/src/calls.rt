@@ -12,6 +12,7 @@ ghost use Rattle.call_table.specs.Splits.{read_split};
 
 use crate::clock::{CLOCK_CALLS, ClockCall, clock_form, made_clock, split_clock};
 use crate::delivery::{DELIVERY_CALLS, DeliveryCall, delivery_form, made_delivery, split_delivery};
+use crate::drawing::{DRAWING_CALLS, DrawingCall, drawing_form, made_drawing, split_drawing};
 use crate::lookups::{LOOKUP_CALLS, LookupCall, lookup_form, made_lookup, split_lookup};
 use crate::registrations::{
     REGISTRATION_CALLS, RegistrationCall, made_registration, registration_form, split_registration,
@@ -38,6 +39,8 @@ pub enum CallName {
     Window(WindowCall),
     /// It looks for a window.
     Lookup(LookupCall),
+    /// It is about pixels that are to be painted.
+    Drawing(DrawingCall),
     /// It is about time, or ends a thread.
     Clock(ClockCall),
 }
@@ -53,6 +56,7 @@ pub fn call_form(name: CallName) -> Form
         CallName::Registration(name) => registration_form(name),
         CallName::Window(name) => window_form(name),
         CallName::Lookup(name) => lookup_form(name),
+        CallName::Drawing(name) => drawing_form(name),
         CallName::Clock(name) => clock_form(name),
     }
 }
@@ -92,20 +96,36 @@ pub fn call_named(word: &[u8]) -> Option<CallName>
     let found = or_in(found, &REGISTRATION_CALLS, word);
     let found = or_in(found, &WINDOW_CALLS, word);
     let found = or_in(found, &LOOKUP_CALLS, word);
+    let found = or_in(found, &DRAWING_CALLS, word);
     or_in(found, &CLOCK_CALLS, word)
 }
 
-/// A call taken apart by its group.
+/// A call taken apart by the first group that has it. The groups after it are not asked.
 fn found_split(call: Call) -> Option<SplitCall>
     ensures { option_map read_split result ≡ found_split call }
 {
-    split_delivery(call)
-        .or(split_send(call))
-        .or(split_reply(call))
-        .or(split_registration(call))
-        .or(split_window(call))
-        .or(split_lookup(call))
-        .or(split_clock(call))
+    if let Some(split) = split_delivery(call) {
+        return Some(split);
+    }
+    if let Some(split) = split_send(call) {
+        return Some(split);
+    }
+    if let Some(split) = split_reply(call) {
+        return Some(split);
+    }
+    if let Some(split) = split_registration(call) {
+        return Some(split);
+    }
+    if let Some(split) = split_window(call) {
+        return Some(split);
+    }
+    if let Some(split) = split_lookup(call) {
+        return Some(split);
+    }
+    if let Some(split) = split_drawing(call) {
+        return Some(split);
+    }
+    split_clock(call)
 }
 
 /// A call taken apart: which it is, and the values of its fields.
@@ -146,6 +166,7 @@ fn made_call(name: CallName, values: &[Value]) -> Call
         CallName::Registration(name) => made_registration(name, values),
         CallName::Window(name) => made_window(name, values),
         CallName::Lookup(name) => made_lookup(name, values),
+        CallName::Drawing(name) => made_drawing(name, values),
         CallName::Clock(name) => made_clock(name, values),
     }
 }

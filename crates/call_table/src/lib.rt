@@ -8,6 +8,7 @@
 mod calls;
 mod clock;
 mod delivery;
+mod drawing;
 mod lookups;
 mod registrations;
 mod replies;
@@ -20,6 +21,7 @@ pub use calls::{
 };
 pub use clock::ClockCall;
 pub use delivery::DeliveryCall;
+pub use drawing::DrawingCall;
 pub use lookups::LookupCall;
 pub use registrations::RegistrationCall;
 pub use replies::ReplyCall;

@@ -11,6 +11,11 @@ fn calls_again(rt: HostRuntime) -> Result<(), Fail> {
         (Call::Peek(1, 2, 3, 4), b"peek".as_slice()),
         (Call::SendCallback(1, 2, 3, 4, 5, 6), b"send_callback"),
         (Call::NewWindow(1, 2, 3, 4, 5, -6, -7, 8, 9), b"new_window"),
+        (Call::Invalidate(16, -1, 2, 3, 4, 1), b"invalidate"),
+        (Call::Validate(16, -1, 2, 3, 4), b"validate"),
+        (Call::UpdateRect(16), b"update_rect"),
+        (Call::BeginPaint(16), b"begin_paint"),
+        (Call::EndPaint(16), b"end_paint"),
         (Call::Clock, b"clock"),
     ] {
         let form = call_form(call_name(call));

@@ -17,9 +17,9 @@ use Rattle.user_model.specs.Stacks.{top}
 use Rattle.user_model.specs.Replies.{row, is_barred_by}
 use Rattle.user_model.specs.Idle.{reply, clock_row}
 use Rattle.core_deliver.specs.Admission.{admission}
-use Rattle.core_deliver.specs.Groups.{is_delivery, is_retrieval, is_window_call}
+use Rattle.core_deliver.specs.Groups.{is_delivery, is_drawing, is_retrieval, is_window_call}
 
--- the clock makes no retrieval, no call of delivery and none on classes or windows
+-- the clock makes no retrieval, no call of delivery, none on classes or windows, and none that draws
 pub no_retrieval : (setup : Setup) (past : Past) (call : Call) → is_retrieval call ≡ true → clock_row setup past call ≡ Refused NotNow
 no_retrieval setup past (Tick ms) e = absurd (false≢true e)
 no_retrieval setup past Advance e = absurd (false≢true e)
@@ -34,6 +34,11 @@ pub no_window_call : (setup : Setup) (past : Past) (call : Call) → is_window_c
 no_window_call setup past (Tick ms) e = absurd (false≢true e)
 no_window_call setup past Advance e = absurd (false≢true e)
 no_window_call setup past _ e = refl
+
+pub no_drawing : (setup : Setup) (past : Past) (call : Call) → is_drawing call ≡ true → clock_row setup past call ≡ Refused NotNow
+no_drawing setup past (Tick ms) e = absurd (false≢true e)
+no_drawing setup past Advance e = absurd (false≢true e)
+no_drawing setup past _ e = refl
 
 -- a thread that runs isn't the clock
 no_clock : (setup : Setup) (past : Past) (who : ℕ) → is_running setup past who ≡ true → eqb who 0 ≡ false

@@ -1,12 +1,12 @@
 -- Which layer answers a call.
 use Rattle.std.specs.Prelude.{Bool, true, false}
 use Rattle.user_model.specs.declared.call.Call.{Call}
-use Rattle.user_model.specs.declared.call.Call.TheVariants.{Peek, Get, Post, PostThread, PostQuit, Dispatch, Send, SendTimeout, SendNotify, SendCallback, Await, Leave, Reply, InSend, Message, Register, Unregister, NewWindow, Doom, Unmake, Drop, Place, Show, Find, AwaitTitle, NextTop, WindowAt, IsWindow, Parent, EndThread, Clock, SleepUntil, Yield, Tick, Advance}
+use Rattle.user_model.specs.declared.call.Call.TheVariants.{Peek, Get, Post, PostThread, PostQuit, Dispatch, Send, SendTimeout, SendNotify, SendCallback, Await, Leave, Reply, InSend, Message, Register, Unregister, NewWindow, Doom, Unmake, Drop, Place, Show, Find, AwaitTitle, NextTop, WindowAt, IsWindow, Parent, Invalidate, Validate, UpdateRect, BeginPaint, EndPaint, EndThread, Clock, SleepUntil, Yield, Tick, Advance}
 use Rattle.core_deliver.specs.declared.groups.Group.{Group}
-use Rattle.core_deliver.specs.declared.groups.Group.TheVariants.{Retrieval, Delivery, Window, Other}
+use Rattle.core_deliver.specs.declared.groups.Group.TheVariants.{Retrieval, Delivery, Window, Drawing, Other}
 
 -- the group of each call: it asks for a message; it posts, sends, hands a message to a procedure, is made inside or after a send,
--- or registers a message; it is about classes or windows; or it is about time, or ends a thread
+-- or registers a message; it is about classes or windows; it is about dirty pixels and painting; or it is about time, or ends a thread
 abbrev pub group_of : Call → Group
 group_of (Peek w min max flags) = Retrieval
 group_of (Get w min max) = Retrieval
@@ -37,6 +37,11 @@ group_of (NextTop w) = Window
 group_of (WindowAt x y) = Window
 group_of (IsWindow w) = Window
 group_of (Parent w) = Window
+group_of (Invalidate w l t r b erase) = Drawing
+group_of (Validate w l t r b) = Drawing
+group_of (UpdateRect w) = Drawing
+group_of (BeginPaint w) = Drawing
+group_of (EndPaint w) = Drawing
 group_of EndThread = Other
 group_of Clock = Other
 group_of (SleepUntil time) = Other
@@ -49,6 +54,7 @@ abbrev pub are_retrievals : Group → Bool
 are_retrievals Retrieval = true
 are_retrievals Delivery = false
 are_retrievals Window = false
+are_retrievals Drawing = false
 are_retrievals Other = false
 
 -- whether the call asks for a message
@@ -60,6 +66,7 @@ abbrev pub are_deliveries : Group → Bool
 are_deliveries Retrieval = false
 are_deliveries Delivery = true
 are_deliveries Window = false
+are_deliveries Drawing = false
 are_deliveries Other = false
 
 -- whether the call is another one of delivery
@@ -71,8 +78,21 @@ abbrev pub are_window_calls : Group → Bool
 are_window_calls Retrieval = false
 are_window_calls Delivery = false
 are_window_calls Window = true
+are_window_calls Drawing = false
 are_window_calls Other = false
 
 -- whether the call is about classes or windows
 abbrev pub is_window_call : Call → Bool
 is_window_call call = are_window_calls (group_of call)
+
+-- whether the group is that of the calls on dirty pixels and painting
+abbrev pub are_drawings : Group → Bool
+are_drawings Retrieval = false
+are_drawings Delivery = false
+are_drawings Window = false
+are_drawings Drawing = true
+are_drawings Other = false
+
+-- whether the call is about dirty pixels and painting
+abbrev pub is_drawing : Call → Bool
+is_drawing call = are_drawings (group_of call)

@@ -2,16 +2,16 @@
 
 ghost use Rattle.std.specs.Prelude.{◌≡◌, ◌<◌, ◌≤◌, false};
 ghost use Rattle.user_model.specs.Past.{is_full};
-ghost use Rattle.win_num.specs.declared.names.TheConstants.{WM_QUIT};
 ghost use Rattle.user_model.specs.Filters.{is_no_filter_window};
-ghost use Rattle.user_model.specs.Next.{next, next_posted, next_quit};
+ghost use Rattle.user_model.specs.Places.{clock, cursor};
+ghost use Rattle.user_model.specs.Next.{next, next_paint, next_posted, next_quit};
 ghost use Rattle.user_model.specs.Posts.{message};
 ghost use Rattle.user_model.specs.ReplyDelivery.{get_reply, peek_reply, post_reply, post_thread_reply, post_to};
 
 use crate::codes::{INVALID_PARAMETER, INVALID_THREAD_ID, INVALID_WINDOW_HANDLE, NOT_ENOUGH_QUOTA};
 use core_state::CoreState;
 use user_model::{Answer, Origin, QUEUE_LIMIT};
-use win_num::{Filter, Hwnd, Msg, Point, names};
+use win_num::{Filter, Hwnd, Msg, names};
 
 /// The greatest number of a message.
 const LAST_MESSAGE: u64 = 65535;
@@ -26,7 +26,7 @@ fn is_no_filter_window(state: &CoreState, who: u8, w: u64) -> bool
     !state.is_live(w) || state.thread_of(w) != who
 }
 
-/// What is ready, else the first posted message that passes, else quit.
+/// What is ready, else the first posted message that passes, else quit, else painting.
 fn next(state: &CoreState, who: u8, filter: Filter) -> Option<Answer>
     requires some { 0 < who }
     requires known { who ≤ state.now.setup.threads }
@@ -38,7 +38,10 @@ fn next(state: &CoreState, who: u8, filter: Filter) -> Option<Answer>
     if let Some(answer) = next_posted(state, who, filter) {
         return Some(answer);
     }
-    next_quit(state, who)
+    if let Some(answer) = next_quit(state, who) {
+        return Some(answer);
+    }
+    next_paint(state, who, filter)
 }
 
 /// The first posted message that passes.
@@ -67,25 +70,35 @@ fn next_quit(state: &CoreState, who: u8) -> Option<Answer>
         return None;
     }
     match state.quit(who) {
-        Some(code) => Some(quit(code, state.time(), state.cursor())),
+        Some(code) => Some(got(state, Origin::Quit, Hwnd(0), names::WM_QUIT, code)),
         None => None,
     }
 }
 
-/// Quit as a retrieval hands it out, with the clock and the cursor of the retrieval.
-fn quit(code: u64, time: u64, cursor: Point) -> Answer
-    ensures { result ≡ Answer.Got Origin.Quit 0 (message 0 WM_QUIT code 0 time cursor) }
+/// WM_PAINT for the first window that has a dirty pixel and passes.
+fn next_paint(state: &CoreState, who: u8, filter: Filter) -> Option<Answer>
+    ensures { result ≡ next_paint state.now.setup state.now.past who filter }
+{
+    match state.to_paint(who, filter) {
+        Some(window) => Some(got(state, Origin::Paint, window, names::WM_PAINT, 0)),
+        None => None,
+    }
+}
+
+/// A message that is no post as a retrieval hands it out, with the clock and the cursor of the retrieval.
+fn got(state: &CoreState, origin: Origin, hwnd: Hwnd, number: u32, wparam: u64) -> Answer
+    ensures { result ≡ Answer.Got origin 0 (message hwnd.0 number wparam 0 (clock state.now.past) (cursor state.now.past)) }
 {
     Answer::Got {
-        origin: Origin::Quit,
+        origin,
         number: 0,
         msg: Msg {
-            hwnd: Hwnd(0),
-            number: names::WM_QUIT,
-            wparam: code,
+            hwnd,
+            number,
+            wparam,
             lparam: 0,
-            time,
-            point: cursor,
+            time: state.time(),
+            point: state.cursor(),
         },
     }
 }

@@ -1,7 +1,7 @@
 //! Which layer answers a call.
 
 ghost use Rattle.std.specs.Prelude.{◌≡◌};
-ghost use Rattle.core_deliver.specs.Groups.{group_of, is_delivery, is_retrieval, is_window_call};
+ghost use Rattle.core_deliver.specs.Groups.{group_of, is_delivery, is_drawing, is_retrieval, is_window_call};
 
 use user_model::Call;
 
@@ -14,6 +14,8 @@ pub enum Group {
     Delivery,
     /// It is about classes or windows, and `core_window` answers it.
     Window,
+    /// It is about dirty pixels and painting, and `core_draw` answers it.
+    Drawing,
     /// It is about time, or ends a thread, and the machine answers it.
     Other,
 }
@@ -51,6 +53,11 @@ fn group_of(call: Call) -> Group
         | Call::WindowAt(..)
         | Call::IsWindow(..)
         | Call::Parent(..) => Group::Window,
+        Call::Invalidate(..)
+        | Call::Validate(..)
+        | Call::UpdateRect(..)
+        | Call::BeginPaint(..)
+        | Call::EndPaint(..) => Group::Drawing,
         Call::EndThread
         | Call::Clock
         | Call::SleepUntil(..)
@@ -66,7 +73,7 @@ pub fn is_retrieval(call: Call) -> bool
 {
     match group_of(call) {
         Group::Retrieval => true,
-        Group::Delivery | Group::Window | Group::Other => false,
+        Group::Delivery | Group::Window | Group::Drawing | Group::Other => false,
     }
 }
 
@@ -76,7 +83,7 @@ pub fn is_delivery(call: Call) -> bool
 {
     match group_of(call) {
         Group::Delivery => true,
-        Group::Retrieval | Group::Window | Group::Other => false,
+        Group::Retrieval | Group::Window | Group::Drawing | Group::Other => false,
     }
 }
 
@@ -86,6 +93,16 @@ pub fn is_window_call(call: Call) -> bool
 {
     match group_of(call) {
         Group::Window => true,
-        Group::Retrieval | Group::Delivery | Group::Other => false,
+        Group::Retrieval | Group::Delivery | Group::Drawing | Group::Other => false,
+    }
+}
+
+/// Whether the call is about dirty pixels and painting.
+pub fn is_drawing(call: Call) -> bool
+    ensures { result ≡ is_drawing call }
+{
+    match group_of(call) {
+        Group::Drawing => true,
+        Group::Retrieval | Group::Delivery | Group::Window | Group::Other => false,
     }
 }

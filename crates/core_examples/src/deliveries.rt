@@ -18,7 +18,7 @@ const GET: Call = Call::Get(0, 0, 0);
 const SEND: Call = Call::Send(16, 1024, 0, 0);
 
 /// A post, which is retrieved.
-pub fn tell_post(rt: &impl Print, state: &mut CoreState) -> anyhow::Result<()> {
+fn tell_post(rt: &impl Print, state: &mut CoreState) -> anyhow::Result<()> {
     println!(rt; "post: {:?}", deliver(state, Thread(1), POST)?)?;
     println!(rt; "get: {:?}", retrieve(state, Thread(1), GET)?)?;
     println!(rt; "get again: {:?}", retrieval_answer(state, Thread(1), GET))?;
@@ -27,7 +27,7 @@ pub fn tell_post(rt: &impl Print, state: &mut CoreState) -> anyhow::Result<()> {
 }
 
 /// A send to no window, and by the clock, which makes none.
-pub fn tell_refusals(rt: &impl Print, state: &mut CoreState) -> anyhow::Result<()> {
+fn tell_refusals(rt: &impl Print, state: &mut CoreState) -> anyhow::Result<()> {
     println!(rt;
         "is_delivery {} is_retrieval {}",
         is_delivery(SEND),
@@ -40,4 +40,10 @@ pub fn tell_refusals(rt: &impl Print, state: &mut CoreState) -> anyhow::Result<(
         delivery_answer(state, Thread(0), SEND)
     )?;
     Ok(())
+}
+
+/// Both, one after the other.
+pub fn tell_deliveries(rt: &impl Print, state: &mut CoreState) -> anyhow::Result<()> {
+    tell_post(rt, state)?;
+    tell_refusals(rt, state)
 }

@@ -21,8 +21,7 @@ fn tell_state(rt: &impl Print, alloc: Global) -> anyhow::Result<()> {
 /// What the calls of delivery answer to the one thread of a new state.
 fn tell_deliveries(rt: &impl Print, alloc: Global) -> anyhow::Result<()> {
     let mut state = CoreState::new(alloc, Setup::new(1, 8, 4))?;
-    deliveries::tell_post(rt, &mut state)?;
-    deliveries::tell_refusals(rt, &mut state)
+    deliveries::tell_deliveries(rt, &mut state)
 }
 
 /// What the calls on classes and windows answer to the one thread of a new state.

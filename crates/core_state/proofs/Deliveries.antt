@@ -23,6 +23,7 @@ use Rattle.user_model.specs.Threads.{is_running}
 use Rattle.user_model.specs.Windows.{Window, live, find_window, is_live, thread_of, is_kin, is_below}
 use Rattle.user_model.specs.Filters.{passes_window}
 use Rattle.user_model.specs.Refusals.{is_no_message}
+use Rattle.user_model.specs.Retrievals.{removes}
 use Rattle.user_model.specs.Posts.{PostedMsg, message, posted, passes, first_post, queue_of}
 use Rattle.user_model.proofs.AnswerFacts.{IsPost}
 use Rattle.user_model.specs.ReplyDelivery.{is_no_post_window}
@@ -31,7 +32,7 @@ use Rattle.user_model.proofs.ReplyLaws.{not_false}
 use Rattle.user_model.proofs.PostOwners.{message_of, post_runs}
 use Rattle.window_state.specs.Trees.{as_made}
 use Rattle.thread_state.specs.Threads.{ThreadView, as_kept, queue_at, thread_at, told_post}
-use Rattle.core_state.specs.Changes.{Change, posts as posts_one, purges, change_by, changed, kin_of}
+use Rattle.core_state.specs.Changes.{Change, posts as posts_one, purges, none, change_by, changed, kin_of}
 use Rattle.thread_state.specs.Passing.{passes_window_in, passes_here, passes_in}
 use Rattle.window_state.specs.Trees.{thread_in}
 use Rattle.core_state.specs.Deliveries.{posting, FitsPost, kin_in, change_of_post, adding_in, carried_in, effect_in}
@@ -107,11 +108,16 @@ carried_same past ws who (Drop v) e = ap (purges who) (kin_in-is past ws v e)
 carried_same past ws who (PostQuit code) e = refl
 carried_same past ws who _ e = refl
 
+none_twice : (t : ℕ) (b : Bool) (v : ThreadView) → changed t (cond b none none) v ≡ v
+none_twice t true v = refl
+none_twice t false v = refl
+
 both_now : (past : Past) (ws : List KeptWindow) (t who : ℕ) (a : Answer) (call : Call) (v : ThreadView) → map as_made ws ≡ live past → changed t (effect_in ws who a call) (changed t (adding_in ws (clock past) (cursor past) who a call) v) ≡ changed t (change_by past who a call) v
 both_now past ws t who (answers.Posted k) call v e = ap (λ (c : Change). changed t c v) (growth_same past ws who k call e)
 both_now past ws t who answers.Okay call v e = ap (λ (c : Change). changed t c v) (carried_same past ws who call e)
 both_now past ws t who (answers.Got origins.Posted n m) call v e = refl
 both_now past ws t who (answers.Got origins.Quit n m) call v e = refl
+both_now past ws t who (answers.Got origins.Paint n m) call v e = none_twice t (removes call) v
 both_now past ws t who _ call v e = refl
 
 -- what is added and then what is settled make the change of the entry

@@ -5,6 +5,8 @@ pub mod GoingWindows
 pub mod KinLists
 pub mod Outcomes
 pub mod QueueLists
+pub mod ScreenReads
+pub mod ScreenSteps
 pub mod SendCounts
 pub mod StoryChanges
 pub mod StoryReads

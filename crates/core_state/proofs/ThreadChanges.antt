@@ -24,10 +24,10 @@ use Rattle.user_model.specs.Legal.{IsLawful}
 use Rattle.user_model.proofs.ClockLaws.{clock-next, last_entry-next}
 use Rattle.user_model.proofs.ReplyLaws.{by_row}
 use Rattle.user_model.proofs.ThreadLaws.{has_ended-same, has_ended-end}
-use Rattle.user_model.proofs.DeliveryReplies.{post_told, take_told, quit_told, end_told}
+use Rattle.user_model.proofs.DeliveryReplies.{post_told, take_told, quit_told, paint_told, end_told}
 use Rattle.user_model.proofs.PostCounts.{count-next, count_after}
 use Rattle.user_model.proofs.PostOwners.{message_of, is_drop}
-use Rattle.user_model.proofs.PostLaws.{GoWithin, goes_with, is_plain, posted-plain, posted-okay, posted-post, posted-got, posted-quit, posted-drop, posted-drop-other, posted-end}
+use Rattle.user_model.proofs.PostLaws.{GoWithin, goes_with, is_plain, posted-plain, posted-okay, posted-post, posted-got, posted-quit, posted-paint, posted-drop, posted-drop-other, posted-end}
 use Rattle.user_model.proofs.QuitLaws.{is_post_quit, is_got_quit, quit-plain, quit-posted, quit-taken, quit-other}
 use Rattle.user_model.proofs.WindowFacts.{kin_of_thread}
 use Rattle.user_model.proofs.WindowReplies.{drop_told}
@@ -130,6 +130,11 @@ changed_quit setup past t n m e is right =
     ∙ quit_view (removes e.call && eqb e.who.0 t) (posted past t) (quit past t) None (has_ended past t) (waiting_call (last_entry past t))
     ∙ same_view (posted past t) (posted (e ∷ past) t) (cond (removes e.call && eqb e.who.0 t) None (quit past t)) (quit (e ∷ past) t) (has_ended past t) (has_ended (e ∷ past) t) (waiting_call (last_entry past t)) (posted-quit e past t n m is (ap is_some told.is_call)) (quit-taken e past t n m is (ap is_some told.is_call)) (has_ended-same e past t (ap is_end is))
 
+changed_paint : (setup : Setup) (past : Past) (t n : ℕ) (m : Msg) (e : Entry) → e.answer ≡ answers.Got origins.Paint n m → answers.Got origins.Paint n m ≡ reply setup past e.who.0 e.call → thread_at past t ≡ half past t e
+changed_paint setup past t n m e is right =
+    let told = paint_told setup past e.who.0 e.call n m (by_row setup past e.who.0 e.call (answers.Got origins.Paint n m) (sym right) refl).is_row in
+    changed_none setup past t e (posted-paint e past t n m is (ap is_some told.is_call)) (quit-other e past t (retrieves_no_quit e.call (ap is_some told.is_call)) (ap is_got_quit is)) (ap is_end is)
+
 changed_end : (setup : Setup) (past : Past) (t : ℕ) (e : Entry) → IsLawful setup past → e.answer ≡ answers.Ended → answers.Ended ≡ reply setup past e.who.0 e.call → changed t (change_by past e.who.0 answers.Ended e.call) (thread_at past t) ≡ half past t e
 unfolding half view
 changed_end setup past t e lawful is right =
@@ -168,6 +173,7 @@ changed_by : (setup : Setup) (past : Past) (t : ℕ) (e : Entry) (a : Answer) �
 changed_by setup past t e (answers.Posted k) lawful is right = changed_post setup past t k e is right
 changed_by setup past t e (answers.Got origins.Posted n m) lawful is right = changed_take setup past t n m e lawful is right
 changed_by setup past t e (answers.Got origins.Quit n m) lawful is right = changed_quit setup past t n m e is right
+changed_by setup past t e (answers.Got origins.Paint n m) lawful is right = changed_paint setup past t n m e is right
 changed_by setup past t e answers.Ended lawful is right = changed_end setup past t e lawful is right
 changed_by setup past t e answers.Okay lawful is right = changed_okay setup past t e e.call lawful is refl right
 changed_by setup past t e _ lawful is right = changed_plain setup past t e (is ∙ right) (ap is_plain is)

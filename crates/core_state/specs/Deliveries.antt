@@ -10,7 +10,7 @@ use Rattle.user_model.specs.declared.call.Call.TheVariants.{PostQuit, Drop}
 use Rattle.user_model.specs.declared.entry.Answer.{Answer}
 use Rattle.user_model.specs.declared.entry.Answer.TheVariants.{Okay, Ended, Posted as PostMade, Got}
 use Rattle.user_model.specs.declared.entry.Origin.{Origin}
-use Rattle.user_model.specs.declared.entry.Origin.TheVariants.{Posted as FromPosted, Quit as FromQuit}
+use Rattle.user_model.specs.declared.entry.Origin.TheVariants.{Posted as FromPosted, Quit as FromQuit, Paint as FromPaint}
 use Rattle.user_model.specs.Posts.{message}
 use Rattle.user_model.specs.Deeds.{Posting, to_window, to_thread, posting_of}
 use Rattle.window_state.specs.Trees.{thread_in}
@@ -60,10 +60,11 @@ carried_in ws who (PostQuit code) = quits who (Some code)
 carried_in ws who (Drop v) = purges who (kin_in ws v)
 carried_in ws who _ = none
 
--- the change of a retrieval that removes
+-- the change of a retrieval that removes: WM_PAINT stays
 abbrev pub removal : ℕ → Origin → ℕ → Change
 removal who FromPosted n = takes who n
 removal who FromQuit n = quits who None
+removal who FromPaint n = none
 
 -- the change of an answer that takes no memory
 abbrev pub effect_in : List Window → ℕ → Answer → Call → Change

@@ -8,7 +8,7 @@ use Rattle.win_rows.specs.Windows.{is_live}
 use Rattle.send_frames.specs.declared.row.SendRow.{SendRow}
 use Rattle.send_frames.specs.Book.{IsThread, refusal_at_begin, stack_of}
 use Rattle.send_state.specs.Parts.{SendParts, CanBegin, CanLeaveFrom, CanLose, CanReplyIn, CanServe, begun, dispatched, ended, finished, head_of, left, lost, lost_count, rank, replied, served, timed_out, top_of}
-use Rattle.send_state.specs.Stories.{noted_loss}
+use Rattle.send_state.specs.Stories.{EachStory, noted_loss}
 use Rattle.user_model.specs.declared.story.SendStory.{SendStory}
 use Rattle.user_model.specs.Deeds.{SendParts as CallParts, parts_of}
 use Rattle.user_model.specs.declared.call.Call.{Call}
@@ -208,3 +208,11 @@ FitsSendEffect ws place who (Done result cause) call p = FitsWait who call p
 FitsSendEffect ws place who Okay call p = FitsDropped ws place call p
 FitsSendEffect ws place who Ended call p = IsThread p.book who × FitsLosing (is_of ws who) p place
 FitsSendEffect ws place who _ call p = Unit {0}
+
+-- ---- stories are told
+
+-- the stories were changed by the one, and then by the other
+pub record AreTold (first second : ℕ → SendStory → SendStory) (old new : List SendStory) : Type 0 where
+  pub between : List SendStory
+  pub before : EachStory first old between
+  pub after : EachStory second between new

@@ -18,8 +18,7 @@ use Rattle.thread_state.specs.Threads.{ThreadView, thread_at}
 use Rattle.win_order.specs.Layers.{Layers}
 use Rattle.window_state.specs.Orders.{IsOrderAt}
 use Rattle.window_state.specs.Trees.{IsTreeAt}
-use Rattle.screen_owners.specs.declared.owners.Owned.{Owned}
-use Rattle.screen_state.specs.Owned.{AreOwnersAt}
+use Rattle.screen_state.specs.Screens.{Kept, IsScreenAt}
 
 -- its setup and its past
 pub record Seen : Type 0 where
@@ -30,7 +29,7 @@ pub record Seen : Type 0 where
 pub record Parts : Type 0 where
   pub tree : Windows
   pub order : Layers
-  pub owners : List Owned
+  pub screen : Kept
   pub classes : ClassTable
   pub threads : List ThreadView
   pub post_count : ℕ
@@ -40,8 +39,8 @@ pub record Parts : Type 0 where
   pub stories : List SendStory
 
 -- the parts from their values
-abbrev pub parts : Windows → Layers → List Owned → ClassTable → List ThreadView → ℕ → ℕ → SendParts → Tally → List SendStory → Parts
-parts tree order owners classes threads post_count time sends tally stories = record { tree = tree; order = order; owners = owners; classes = classes; threads = threads; post_count = post_count; time = time; sends = sends; tally = tally; stories = stories }
+abbrev pub parts : Windows → Layers → Kept → ClassTable → List ThreadView → ℕ → ℕ → SendParts → Tally → List SendStory → Parts
+parts tree order screen classes threads post_count time sends tally stories = record { tree = tree; order = order; screen = screen; classes = classes; threads = threads; post_count = post_count; time = time; sends = sends; tally = tally; stories = stories }
 
 -- each thread's part is what the past says of the thread
 pub record EachThread (past : Past) (threads : List ThreadView) : Type 0 where
@@ -58,7 +57,7 @@ pub record Stands (setup : Setup) (past : Past) (p : Parts) : Type 0 where
   pub short : length past ≤ 2097152
   pub tree : IsTreeAt past p.tree
   pub order : IsOrderAt past p.order
-  pub owners : AreOwnersAt setup past p.owners
+  pub screen : IsScreenAt setup past p.screen
   pub classes : p.classes ≡ classes_at past
   pub count : length p.threads ≡ setup.threads
   pub each : EachThread past p.threads

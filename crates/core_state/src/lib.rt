@@ -1,5 +1,5 @@
-//! The history of the machine, and the parts that stand for it: the windows, the classes, what is
-//! kept of each thread, the count of posts and the clock.
+//! The history of the machine, and the parts that stand for it: the windows, the pixels that they own and that
+//! are dirty, the classes, what is kept of each thread, the count of posts and the clock.
 //!
 //! `CoreState` tells by its accessors what the definitions say of the past, without a walk through the
 //! history, and adds entries. No crate above names a part.
@@ -11,6 +11,7 @@ mod queues;
 mod sendings;
 mod state;
 
+pub use screen_state::UpdateBox;
 pub use send_state::SendRow;
 pub use state::CoreState;
 pub use user_model::SendStory;

@@ -49,7 +49,7 @@ pub fn end(threads: &mut Vec<ThreadState>, who: Thread)
     threads[usize::from(who.0 - 1)].end();
 }
 
-/// Takes out what a retrieval handed out and removes: a posted message, or quit.
+/// Takes out what a retrieval handed out and removes: a posted message, or quit. WM_PAINT isn't taken out.
 pub fn take(threads: &mut Vec<ThreadState>, entry: Entry, origin: Origin, number: u32)
     requires { IsOne threads.old.items entry.who.0 }
     ensures { EachBy (λ t. changed t (taken_if entry.call (removal entry.who.0 origin number))) threads.old.items threads.new.items }
@@ -60,6 +60,7 @@ pub fn take(threads: &mut Vec<ThreadState>, entry: Entry, origin: Origin, number
     match origin {
         Origin::Posted => take_post(threads, entry.who, number),
         Origin::Quit => set_quit(threads, entry.who, None),
+        Origin::Paint => {}
     }
 }
 

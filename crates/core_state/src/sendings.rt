@@ -1,19 +1,19 @@
 //! What an entry does to the sends.
 
-ghost use Rattle.std.specs.Prelude.{◌≡◌, ◌&&◌, ◌==◌, ◌≤◌, OnOk, OnErr, true};
+ghost use Rattle.std.specs.Prelude.{◌≡◌, ◌&&◌, ◌==◌, ◌+◌, ◌≤◌, OnOk, OnErr, true, vec_capacity, vec_len};
 ghost use Rattle.win_num.specs.declared.send.Kind.{Kind};
 ghost use Rattle.win_rows.specs.Windows.{is_live};
 ghost use Rattle.send_frames.specs.Book.{IsThread};
 ghost use Rattle.send_state.specs.Parts.{lost_count};
-ghost use Rattle.send_state.specs.Stories.{EachStory, noted_loss};
+ghost use Rattle.send_state.specs.Stories.{EachStory, noted_answer, noted_loss, with_begun};
 ghost use Rattle.core_state.specs.Deliveries.{goes_with};
-ghost use Rattle.core_state.specs.Sendings.{FitsCallback, FitsDropped, FitsLeave, FitsLosing, FitsOption, FitsReply, FitsSending, FitsSendEffect, FitsWait, begun_with, called_back, dropped_count, dropped_losses, dropped_sends, ended_sends, is_of, left_by_call, losses_by, noted_losses, replied_by_call, row_to, sending, affected_sends, waited};
+ghost use Rattle.core_state.specs.Sendings.{AreTold, FitsCallback, FitsDropped, FitsLeave, FitsLosing, FitsOption, FitsReply, FitsSending, FitsSendEffect, FitsWait, begun_with, called_back, dropped_count, dropped_losses, dropped_sends, ended_sends, is_of, left_by_call, losses_by, noted_losses, replied_by_call, row_to, sending, affected_sends, waited};
 
 use crate::delivery::Stamp;
-use send_state::{SendRow, SendState};
+use send_state::{SendRow, SendState, add_story, note_answer};
 use std::alloc::AllocError;
 use user_model::{Answer, Call, Entry, SendStory};
-use win_num::{Fault, Hwnd, Kind, SendId, Thread};
+use win_num::{Cause, Fault, Hwnd, Kind, SendId, Thread};
 use win_tree::Tree;
 use window_state::{thread_of, window_or_none};
 
@@ -100,7 +100,7 @@ pub fn begin(
 /// Does to the sends what takes no memory: runs what is ready, calls and leaves procedures, replies, ends
 /// waits, and loses the sends to windows that go, which their stories note. The result is how many sends
 /// it lost.
-pub fn take_effect_on_sends(
+fn take_effect_on_sends(
     sends: &mut SendState,
     stories: &mut [SendStory],
     tree: &Tree,
@@ -141,6 +141,29 @@ pub fn take_effect_on_sends(
         Answer::Ended => end_thread(sends, stories, tree, place, entry.who),
         _ => 0,
     }
+}
+
+/// Brings the sends up to date with what takes no memory, and what is kept of what became of them: the story of a
+/// send that is begun, losses, and what the answer enters or the entry answers, `named`. The result is how many sends it
+/// lost.
+pub fn settle_sends(
+    sends: &mut SendState,
+    stories: &mut Vec<SendStory>,
+    tree: &Tree,
+    place: u32,
+    named: Option<(SendId, Cause)>,
+    entry: Entry,
+) -> u32
+    requires sends { FitsSendEffect tree.now.live place entry.who.0 entry.answer entry.call sends.old }
+    requires room { vec_len stories.old + 1 ≤ vec_capacity stories.old }
+    ensures sends { sends.new ≡ affected_sends tree.now.live place entry.who.0 entry.answer entry.call sends.old }
+    ensures stories { AreTold (noted_losses tree.now.live place entry.who.0 entry.answer entry.call sends.old) (noted_answer entry.answer named place) (with_begun entry.answer stories.old.items) stories.new.items }
+    ensures lost { result ≡ losses_by tree.now.live place entry.who.0 entry.answer entry.call sends.old }
+{
+    add_story(stories, entry.answer);
+    let lost = take_effect_on_sends(sends, stories, tree, place, entry);
+    note_answer(stories, entry.answer, named, place);
+    lost
 }
 
 /// Leaves an own procedure, whose callback procedure runs, or runs the one that is ready.

@@ -1,6 +1,6 @@
 //! The history, and the parts that stand for it.
 
-ghost use Rattle.std.specs.Prelude.{◌≡◌, ◌==◌, ◌<◌, ◌≤◌, ◌+◌, ◌&&◌, option_copied, unwrap_or, [], ◌∷◌, length, nat_le, reverse, All, true, false, IfOk, OnOk, OnErr, Some, is_some, option_and_then, option_map};
+ghost use Rattle.std.specs.Prelude.{◌≡◌, ◌==◌, ◌<◌, ◌≤◌, ◌+◌, ◌&&◌, option_copied, vec_capacity, vec_len, [], ◌∷◌, length, nat_le, reverse, All, true, false, IfOk, OnOk, OnErr, Some, is_some, option_and_then, option_map};
 ghost use Rattle.win_num.specs.Clocks.{clock_limit};
 ghost use Rattle.user_model.specs.Legal.{IsLegal};
 ghost use Rattle.user_model.specs.Past.{is_full};
@@ -21,9 +21,12 @@ ghost use Rattle.core_state.specs.Frames.{IsOnTop, wait_end};
 ghost use Rattle.user_model.specs.Windows.{live, window, is_live, parent_in, thread_of, up, next_top};
 ghost use Rattle.user_model.specs.Looks.{look, placed, is_shown};
 ghost use Rattle.user_model.specs.ZOrder.{titled};
-ghost use Rattle.user_model.specs.Pixels.{owner, point, screen};
+ghost use Rattle.user_model.specs.Dirty.{dirty_pixels, must_erase};
+ghost use Rattle.user_model.specs.Painting.{is_painting, to_paint};
+ghost use Rattle.user_model.specs.Pixels.{origin, owner, point, screen};
+ghost use Rattle.user_model.specs.ReplyDrawing.{bounds_from};
 ghost use Rattle.win_num.specs.declared.shapes.Point.{Point};
-ghost use Rattle.win_num.specs.PixelSets.{has_pixel};
+ghost use Rattle.win_num.specs.PixelSets.{box, has_pixel, kind_of};
 ghost use Rattle.screen_state.specs.Owned.{told_has};
 ghost use Rattle.user_model.specs.Refusals.{is_no_rect};
 ghost use Rattle.window_state.specs.Placings.{box_of};
@@ -36,11 +39,10 @@ ghost use Rattle.window_state.specs.Steps.{destruction_answer};
 use crate::change::{add_item, take_effect};
 use crate::delivery::Stamp;
 use crate::queues::{count_after, note_entry, time_after};
-use crate::sendings::take_effect_on_sends;
+use crate::sendings::settle_sends;
 use band_region::Region;
-use screen_owners::Owners;
-use screen_state::{first_owners, owners_after};
-use send_state::{SendRow, SendState, Tally, add_story, first_cause, named_send, note_answer};
+use screen_state::{ScreenState, UpdateBox};
+use send_state::{SendRow, SendState, Tally, first_cause, named_send};
 use std::alloc::{AllocError, Global};
 use std::marker::Model;
 use thread_state::ThreadState;
@@ -51,6 +53,7 @@ use win_order::Order;
 use win_tree::Tree;
 use window_state::{
     Placing, is_shown, owner_at, parent_of, placing_changes, step_told, thread_of, titled, up,
+    window_or_none,
 };
 
 /// The history so far, and parts that answer in short time what the definitions say of it.
@@ -61,8 +64,8 @@ pub struct CoreState {
     history: Vec<Entry>,
     tree: Tree,
     order: Order,
-    /// The pixels of the screen that windows own.
-    owners: Owners,
+    /// The pixels of the screen that windows own and that are dirty, and which windows are being painted.
+    screen: ScreenState,
     classes: Classes,
     /// What is kept of each thread, from thread 1 on.
     threads: Vec<ThreadState>,
@@ -84,7 +87,7 @@ impl Model for CoreState {
 
     ghost view = { λ s. record { setup = s.setup; past = reverse s.history.items } };
 
-    ghost invariant = { λ s. Stands s.setup (reverse s.history.items) (parts s.tree s.order s.owners s.classes s.threads.items s.post_count s.time s.sends s.tally s.stories.items) };
+    ghost invariant = { λ s. Stands s.setup (reverse s.history.items) (parts s.tree s.order s.screen s.classes s.threads.items s.post_count s.time s.sends s.tally s.stories.items) };
 }
 
 impl CoreState {
@@ -98,7 +101,7 @@ impl CoreState {
             history: Vec::new(alloc),
             tree: Tree::new(alloc),
             order: Order::new(alloc),
-            owners: first_owners(alloc, setup)?,
+            screen: ScreenState::new(alloc, setup)?,
             classes: Classes::new(alloc),
             threads: fresh_threads(alloc, setup.threads)?,
             post_count: 0,
@@ -508,7 +511,45 @@ impl CoreState {
     pub fn owned_region(&self, w: Hwnd) -> Option<&Region>
         ensures { (p : Point) → told_has (option_copied result) p ≡ (has_pixel (screen self.now.setup) p && ((owner self.now.setup self.now.past p).0 == w.0)) }
     {
-        self.owners.region_of(w)
+        self.screen.owned_region(w)
+    }
+
+    /// The kind of a live window's dirty pixels and the least rectangle around them, from its own left top corner.
+    pub fn update_box(&self, w: u64) -> UpdateBox
+        requires { is_live self.now.past w ≡ true }
+        ensures kind { result.kind ≡ kind_of (dirty_pixels self.now.setup self.now.past w) }
+        ensures edges { box result.l result.t result.r result.b ≡ bounds_from (origin self.now.past w) (dirty_pixels self.now.setup self.now.past w) }
+    {
+        self.screen
+            .update_box(&self.tree, window_or_none(&self.tree, w))
+    }
+
+    /// Whether it is a live window whose background is to be erased when it is painted.
+    pub fn erases(&self, w: u64) -> bool
+        ensures { result ≡ (is_live self.now.past w && must_erase self.now.setup self.now.past w) }
+    {
+        match self.tree.find(w) {
+            Some(window) => self.screen.erases(window),
+            None => false,
+        }
+    }
+
+    /// Whether it is a live window that is being painted.
+    pub fn is_painting(&self, w: u64) -> bool
+        ensures { result ≡ (is_live self.now.past w && is_painting self.now.past w) }
+    {
+        match self.tree.find(w) {
+            Some(window) => self.screen.is_painting(window),
+            None => false,
+        }
+    }
+
+    /// The first window of a thread in painting order that has a dirty pixel and whose WM_PAINT a filter lets pass.
+    pub fn to_paint(&self, thread: u8, filter: Filter) -> Option<Hwnd>
+        ensures { result ≡ to_paint self.now.setup self.now.past thread filter }
+    {
+        self.screen
+            .to_paint(&self.tree, &self.order, Thread(thread), filter)
     }
 
     /// How many windows are live.
@@ -582,44 +623,36 @@ impl CoreState {
         ensures ok { OnOk result (self.new ≡ record { setup = self.old.setup; past = entry ∷ self.old.past }) }
         ensures err { OnErr result (self.new ≡ self.old) }
     {
-        let cursor = self.cursor();
+        let stamp = Stamp {
+            place: self.history.len() as u32,
+            time: self.time,
+            cursor: self.cursor(),
+        };
         let named = named_send(&self.sends, entry);
         let first = first_cause(&self.sends, named);
         let alloc = *self.history.allocator();
-        let owners = owners_after(
-            alloc,
-            self.setup,
-            &self.tree,
-            &self.order,
-            &self.owners,
-            entry,
-        )?;
-        self.history.reserve(1)?;
-        self.stories.reserve(1)?;
-        let place = self.history.len() as u32;
-        let stamp = Stamp {
-            place,
-            time: self.time,
-            cursor,
-        };
+        let change = self
+            .screen
+            .after(alloc, self.setup, &self.tree, &self.order, entry)?;
+        make_room(&mut self.history, &mut self.stories)?;
         add_item(
             &mut self.classes,
             &mut self.tree,
             &mut self.order,
             &mut self.threads,
             &mut self.sends,
+            &mut self.screen,
             stamp,
             entry,
         )?;
-        add_story(&mut self.stories, entry.answer);
-        let lost = take_effect_on_sends(
+        let lost = settle_sends(
             &mut self.sends,
             &mut self.stories,
             &self.tree,
-            place,
+            stamp.place,
+            named,
             entry,
         );
-        note_answer(&mut self.stories, entry.answer, named, place);
         take_effect(
             &mut self.classes,
             &mut self.tree,
@@ -627,7 +660,7 @@ impl CoreState {
             &mut self.threads,
             entry,
         );
-        take_over(&mut self.owners, owners);
+        self.screen.take_over(change);
         note_entry(&mut self.threads, entry);
         self.post_count = count_after(self.post_count, entry.answer);
         self.time = time_after(self.time, entry);
@@ -637,13 +670,15 @@ impl CoreState {
     }
 }
 
-/// Takes over the regions after an entry, where they came.
-fn take_over(owners: &mut Owners, after: Option<Owners>)
-    ensures { owners.new ≡ unwrap_or after owners.old }
+/// Takes the places of one entry and of one send's story. Whatever comes of it, nothing else changes.
+fn make_room(history: &mut Vec<Entry>, stories: &mut Vec<SendStory>) -> Result<(), AllocError>
+    ensures entries { history.new.items ≡ history.old.items }
+    ensures stories { stories.new.items ≡ stories.old.items }
+    ensures entry { OnOk result (vec_len history.new + 1 ≤ vec_capacity history.new) }
+    ensures story { OnOk result (vec_len stories.new + 1 ≤ vec_capacity stories.new) }
 {
-    if let Some(after) = after {
-        *owners = after;
-    }
+    history.reserve(1)?;
+    stories.reserve(1)
 }
 
 /// What is kept of so many threads that have done nothing.

@@ -1,8 +1,7 @@
 //! What the calls on classes and windows answer.
 
-ghost use Rattle.std.specs.Prelude.{◌≡◌, ◌-ℤ◌, false, int_lt, pos};
+ghost use Rattle.std.specs.Prelude.{◌≡◌, false};
 ghost use Rattle.user_model.specs.Past.{is_full};
-ghost use Rattle.user_model.specs.Refusals.{if_own, is_no_rect, is_outside};
 ghost use Rattle.user_model.specs.ReplyWindows.{await_title_reply, doom_reply, drop_reply, find_reply, is_no_parent, is_no_placing, is_no_style, is_order, is_sibling, is_window_reply, new_window_reply, next_top_reply, parent_reply, place_reply, register_reply, show_reply, unmake_reply, unregister_reply, window_at_reply, window_if_room};
 ghost use Rattle.user_model.specs.Windows.{has_flag};
 
@@ -11,11 +10,12 @@ use crate::codes::{
     CLASS_HAS_WINDOWS,
 };
 use core_deliver::codes::{ACCESS_DENIED, INVALID_PARAMETER, INVALID_WINDOW_HANDLE};
+use core_deliver::{if_own, is_no_rect};
 use core_state::{CoreState, Edges, Placing};
 use user_model::Answer;
 use win_num::names::{
     SWP_HIDEWINDOW, SWP_NOACTIVATE, SWP_NOMOVE, SWP_NOSIZE, SWP_NOZORDER, SWP_SHOWWINDOW, WS_CHILD,
-    WS_DISABLED, WS_EX_TOPMOST, WS_POPUP,
+    WS_DISABLED, WS_EX_TOPMOST, WS_POPUP, WS_VISIBLE,
 };
 use win_num::{Code, Hwnd};
 
@@ -25,11 +25,8 @@ const LAST_COLOUR: u64 = 15;
 /// How many windows may be live.
 const WINDOW_LIMIT: usize = 1024;
 
-/// How far left or up, and right or down, a window may stand, and how wide and high it may be, in pixels.
-const FAR: i64 = 4096;
-
-/// The styles that a window may have; without painting none is visible.
-const KNOWN_STYLES: u64 = WS_CHILD + WS_POPUP + WS_DISABLED;
+/// The styles that a window may have.
+const KNOWN_STYLES: u64 = WS_CHILD + WS_POPUP + WS_DISABLED + WS_VISIBLE;
 
 /// The flags of a placing.
 const KNOWN_PLACINGS: u64 = SWP_NOSIZE
@@ -75,34 +72,6 @@ pub struct NewWindow {
     pub parent: u64,
     pub style: u64,
     pub ex: u64,
-}
-
-/// Whether a left or top edge is too far away.
-fn is_outside(edge: i64) -> bool
-    ensures { result ≡ is_outside edge }
-{
-    edge < -FAR || FAR < edge
-}
-
-/// Whether the edges are no rectangle of a window.
-fn is_no_rect(edges: Edges) -> bool
-    ensures { result ≡ is_no_rect edges.l edges.t edges.r edges.b }
-{
-    if is_outside(edges.l) || is_outside(edges.t) {
-        return true;
-    }
-    if edges.r < edges.l || edges.b < edges.t {
-        return true;
-    }
-    is_longer(edges.l, edges.r) || is_longer(edges.t, edges.b)
-}
-
-/// Whether an edge is too far from the one before it.
-fn is_longer(from: i64, to: i64) -> bool
-    requires { is_outside from ≡ false }
-    ensures { result ≡ int_lt (pos 4096) (to -ℤ from) }
-{
-    to > from + FAR
 }
 
 /// Whether the flags have the bits.
@@ -172,19 +141,6 @@ pub fn new_window_answer(state: &CoreState, who: u8, making: NewWindow, edges: E
         return Answer::Refused(CANNOT_FIND_CLASS);
     }
     window_if_room(state)
-}
-
-/// Ok, where it is a live window of the caller.
-fn if_own(state: &CoreState, who: u8, w: u64) -> Answer
-    ensures { result ≡ if_own state.now.past who w Answer.Okay }
-{
-    if !state.is_live(w) {
-        return Answer::Refused(INVALID_WINDOW_HANDLE);
-    }
-    if state.thread_of(w) != who {
-        return Answer::Refused(ACCESS_DENIED);
-    }
-    Answer::Okay
 }
 
 /// The answer where a window is to be marked with its kin.

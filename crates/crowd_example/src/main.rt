@@ -2,22 +2,21 @@
 //! printed doesn't depend on who moves when.
 #![tactic(auto)]
 
-ghost use Rattle.std.specs.Prelude.{◌≡◌, All, IfOk};
-ghost use Rattle.std.specs.Thread.{IsSync};
+ghost use Rattle.std.specs.Prelude.{◌≡◌, ◌≤◌, length, All, IfOk};
+ghost use Rattle.std.specs.Thread.{IsSend, IsSync};
 ghost use Rattle.user_desk.specs.Desks.{IsDeskSeat};
+ghost use Rattle.user_model.specs.Legal.{IsLawful};
 
 mod opening;
 
 use opening::open;
-use std::alloc::AllocError;
+use std::alloc::{AllocError, Global};
 use std::io::Print;
 use std::sync::Wait;
 use std::thread::{Threads, join};
 use user_core::User;
 use user_desk::{Desk, DeskSeat};
-use user_model::{Call, Machine};
-
-type Seat = DeskSeat<User>;
+use user_model::{Call, Machine, Setup};
 
 /// How many calls each seat makes.
 const CALLS: u64 = 100;
@@ -38,11 +37,11 @@ fn yield_often<M: Machine, R: Wait>(
 }
 
 /// Each seat makes its calls in a thread of its own, beside the others, and all come back.
-fn all_yield<R: Threads + Wait + Sync>(
+fn all_yield<M: Machine + Send + Sync, R: Threads + Wait + Sync>(
     rt: &R,
-    desk: &Desk<User>,
-    mut seats: Vec<Seat>,
-) -> Result<Vec<Seat>, AllocError>
+    desk: &Desk<M>,
+    mut seats: Vec<DeskSeat<M>>,
+) -> Result<Vec<DeskSeat<M>>, AllocError>
     requires { All (IsDeskSeat desk.now) seats.items }
     ensures { IfOk result (λ back. All (IsDeskSeat desk.now) back.items) }
 {
@@ -51,12 +50,12 @@ fn all_yield<R: Threads + Wait + Sync>(
     };
     let (mine, others) = join(
         rt,
-        || -> Result<Seat, AllocError>
+        || -> Result<DeskSeat<M>, AllocError>
             requires { IsSync R.row × IsDeskSeat desk.now seat }
             ensures { IfOk result (λ s. IsDeskSeat desk.entry.now s) }
         { yield_often(rt, desk, seat) },
-        || -> Result<Vec<Seat>, AllocError>
-            requires { IsSync R.row × All (IsDeskSeat desk.now) seats.items }
+        || -> Result<Vec<DeskSeat<M>>, AllocError>
+            requires { IsSync R.row × IsSend M.row × IsSync M.row × All (IsDeskSeat desk.now) seats.items }
             ensures { IfOk result (λ back. All (IsDeskSeat desk.entry.now) back.items) }
         { all_yield(rt, desk, seats) },
     );
@@ -66,7 +65,11 @@ fn all_yield<R: Threads + Wait + Sync>(
 }
 
 /// Closes the desk, and tells how many entries there are.
-fn close(rt: &impl Print, desk: Desk<User>, seats: Vec<Seat>) -> anyhow::Result<()>
+fn close<M: Machine + Drop>(
+    rt: &impl Print,
+    desk: Desk<M>,
+    seats: Vec<DeskSeat<M>>,
+) -> anyhow::Result<()>
     requires { All (IsDeskSeat desk) seats.items }
 {
     match desk.close(seats) {
@@ -76,9 +79,21 @@ fn close(rt: &impl Print, desk: Desk<User>, seats: Vec<Seat>) -> anyhow::Result<
     Ok(())
 }
 
-/// Opens a desk of sixteen seats, lets all of them make their calls, and closes it.
+/// Opens a desk of sixteen seats at a machine with a legal past, lets all of them make their calls, and closes it.
+fn run_desk<M: Machine + Send + Sync + Drop, R: Threads + Wait + Sync + Print>(
+    rt: &R,
+    alloc: Global,
+    machine: M,
+) -> anyhow::Result<()>
+    requires legal { (length (M.past machine) ≤ 2097152) × IsLawful (M.setup machine) (M.past machine) }
+{
+    let (desk, seats) = open(alloc, machine)?;
+    let seats = all_yield(rt, &desk, seats)?;
+    close(rt, desk, seats)
+}
+
 fn main(rt: HostRuntime) -> anyhow::Result<()> {
-    let (desk, seats) = open(rt.alloc())?;
-    let seats = all_yield(&rt, &desk, seats)?;
-    close(&rt, desk, seats)
+    let alloc = rt.alloc();
+    let machine = User::new(alloc, Setup::new(15, 8, 4))?;
+    run_desk(&rt, alloc, machine)
 }

@@ -3,10 +3,11 @@
 //! depend on who moves when.
 #![tactic(auto)]
 
-ghost use Rattle.std.specs.Prelude.{◌≡◌, All, IfOk};
+ghost use Rattle.std.specs.Prelude.{◌≡◌, ◌≤◌, length, All, IfOk};
 ghost use Rattle.std.specs.Thread.{IsSync};
 ghost use Rattle.turn_lock.specs.Seats.{new_seats};
 ghost use Rattle.user_desk.specs.Desks.{IsDeskSeat};
+ghost use Rattle.user_model.specs.Legal.{IsLawful};
 
 mod locked;
 mod opening;
@@ -19,10 +20,8 @@ use std::sync::Wait;
 use std::thread::{Threads, join};
 use user_core::User;
 use user_desk::{Desk, DeskSeat};
-use user_model::{Answer, Call, Entry, Machine};
+use user_model::{Answer, Call, Entry, Machine, Setup};
 use win_num::{Filter, Thread};
-
-type Seat = DeskSeat<User>;
 
 /// How many messages each thread posts to the other.
 const POSTS: u64 = 100;
@@ -109,23 +108,23 @@ fn yields(history: &[Entry], thread: u8) -> usize {
 }
 
 /// Both threads beside each other: their seats and what each has added up.
-fn both<R: Threads + Wait + Sync>(
+fn both<M: Machine + Send + Sync, R: Threads + Wait + Sync>(
     rt: &R,
-    desk: &Desk<User>,
-    first: Seat,
-    second: Seat,
-) -> Result<((Seat, u64), (Seat, u64)), AllocError>
+    desk: &Desk<M>,
+    first: DeskSeat<M>,
+    second: DeskSeat<M>,
+) -> Result<((DeskSeat<M>, u64), (DeskSeat<M>, u64)), AllocError>
     requires first { IsDeskSeat desk.now first }
     requires second { IsDeskSeat desk.now second }
     ensures { IfOk result (λ r. IsDeskSeat desk.now r.0.0 × IsDeskSeat desk.now r.1.0) }
 {
     let (a, b) = join(
         rt,
-        || -> Result<(Seat, u64), AllocError>
+        || -> Result<(DeskSeat<M>, u64), AllocError>
             requires { IsSync R.row × IsDeskSeat desk.now first }
             ensures { IfOk result (λ r. IsDeskSeat desk.entry.now r.0) }
         { part(rt, desk, first, 2) },
-        || -> Result<(Seat, u64), AllocError>
+        || -> Result<(DeskSeat<M>, u64), AllocError>
             requires { IsSync R.row × IsDeskSeat desk.now second }
             ensures { IfOk result (λ r. IsDeskSeat desk.entry.now r.0) }
         { part(rt, desk, second, 1) },
@@ -134,12 +133,12 @@ fn both<R: Threads + Wait + Sync>(
 }
 
 /// The worked sequences, and then both threads. All seats come back.
-fn work<R: Threads + Wait + Sync + Print>(
+fn work<M: Machine + Send + Sync, R: Threads + Wait + Sync + Print>(
     rt: &R,
     alloc: Global,
-    desk: &Desk<User>,
-    seats: Vec<Seat>,
-) -> anyhow::Result<Vec<Seat>>
+    desk: &Desk<M>,
+    seats: Vec<DeskSeat<M>>,
+) -> anyhow::Result<Vec<DeskSeat<M>>>
     requires seats { seats.items ≡ new_seats desk.now 3 }
     requires count { desk.now.seats ≡ 3 }
     ensures { IfOk result (λ back. All (IsDeskSeat desk.now) back.items) }
@@ -153,7 +152,11 @@ fn work<R: Threads + Wait + Sync + Print>(
 }
 
 /// Closes the desk, and tells how often each thread made `yield`.
-fn close(rt: &impl Print, desk: Desk<User>, seats: Vec<Seat>) -> anyhow::Result<()>
+fn close<M: Machine + Drop>(
+    rt: &impl Print,
+    desk: Desk<M>,
+    seats: Vec<DeskSeat<M>>,
+) -> anyhow::Result<()>
     requires { All (IsDeskSeat desk) seats.items }
 {
     let Ok(machine) = desk.close(seats) else {
@@ -164,9 +167,33 @@ fn close(rt: &impl Print, desk: Desk<User>, seats: Vec<Seat>) -> anyhow::Result<
     Ok(())
 }
 
+/// A desk at a machine with a legal past, from its opening to its end.
+fn run_desk<M: Machine + Send + Sync + Drop, R: Threads + Wait + Sync + Print>(
+    rt: &R,
+    alloc: Global,
+    machine: M,
+) -> anyhow::Result<()>
+    requires legal { (length (M.past machine) ≤ 2097152) × IsLawful (M.setup machine) (M.past machine) }
+{
+    let (desk, seats) = open(alloc, machine)?;
+    let seats = work(rt, alloc, &desk, seats)?;
+    close(rt, desk, seats)
+}
+
+/// A lock over a new machine for two threads.
+fn tell_lock<R: Wait + Print>(rt: &R, alloc: Global) -> anyhow::Result<()> {
+    let machine = User::new(alloc, Setup::new(2, 8, 4))?;
+    locked::lock_alone(rt, alloc, machine)
+}
+
+/// A desk at a new machine for two threads.
+fn tell_desk<R: Threads + Wait + Sync + Print>(rt: &R, alloc: Global) -> anyhow::Result<()> {
+    let machine = User::new(alloc, Setup::new(2, 8, 4))?;
+    run_desk(rt, alloc, machine)
+}
+
 fn main(rt: HostRuntime) -> anyhow::Result<()> {
-    locked::lock_alone(&rt, rt.alloc())?;
-    let (desk, seats) = open(rt.alloc())?;
-    let seats = work(&rt, rt.alloc(), &desk, seats)?;
-    close(&rt, desk, seats)
+    let alloc = rt.alloc();
+    tell_lock(&rt, alloc)?;
+    tell_desk(&rt, alloc)
 }

@@ -1,21 +1,23 @@
 //! How the desk is opened, and its seats.
 
-ghost use Rattle.std.specs.Prelude.{◌≡◌, IfOk};
+ghost use Rattle.std.specs.Prelude.{◌≡◌, ◌≤◌, length, IfOk};
 ghost use Rattle.turn_lock.specs.Seats.{new_seats};
 ghost use Rattle.user_desk.specs.Desks.{IsDeskSeat};
+ghost use Rattle.user_model.specs.Legal.{IsLawful};
 
-use crate::Seat;
 use std::alloc::Global;
-use user_core::User;
-use user_desk::Desk;
-use user_model::Setup;
+use user_desk::{Desk, DeskSeat};
+use user_model::Machine;
 
-/// A desk for two threads at a new machine, with its seats.
-pub fn open(alloc: Global) -> anyhow::Result<(Desk<User>, Vec<Seat>)>
+/// A desk for two threads at a machine with a legal past, with its seats.
+pub fn open<M: Machine + Drop>(
+    alloc: Global,
+    machine: M,
+) -> anyhow::Result<(Desk<M>, Vec<DeskSeat<M>>)>
+    requires legal { (length (M.past machine) ≤ 2097152) × IsLawful (M.setup machine) (M.past machine) }
     ensures count { IfOk result (λ r. r.0.seats ≡ 3) }
     ensures seats { IfOk result (λ r. r.1.items ≡ new_seats r.0 3) }
 {
-    let machine = User::new(alloc, Setup::new(2, 8, 4))?;
     match Desk::new(alloc, machine, 2) {
         Ok(opened) => Ok(opened),
         Err(_) => anyhow::bail!("no memory for the desk"),
@@ -23,7 +25,10 @@ pub fn open(alloc: Global) -> anyhow::Result<(Desk<User>, Vec<Seat>)>
 }
 
 /// The seats of the clock and of two threads.
-pub fn three(desk: &Desk<User>, mut seats: Vec<Seat>) -> (Seat, Seat, Seat)
+pub fn three<M: Machine>(
+    desk: &Desk<M>,
+    mut seats: Vec<DeskSeat<M>>,
+) -> (DeskSeat<M>, DeskSeat<M>, DeskSeat<M>)
     requires seats { seats.items ≡ new_seats desk.now 3 }
     requires count { desk.now.seats ≡ 3 }
     ensures clock { IsDeskSeat desk.now result.0 }

@@ -26,6 +26,7 @@ use Rattle.answer_table.specs.Answers.{answer_row, answer_name, answer_parts}
 use Rattle.call_table.specs.Calls.{call_row, call_name, call_parts}
 use Rattle.call_table.proofs.CallLaws.{each_call_word}
 use Rattle.answer_table.proofs.AnswerLaws.{each_answer_word}
+use Rattle.call_fields.specs.Values.{flag_number}
 use Rattle.call_fields.specs.Words.{source_word, cause_word}
 use Rattle.script_tree.specs.Tree.{Tree, ProcedureTree}
 use Rattle.log_text.specs.Entries.{procedure_name, code_text, value_text, call_text, answer_text}
@@ -110,6 +111,7 @@ procedure_utf8 (p ∷ procedures) (suc k) n h = procedure_utf8 procedures k n h.
 source_utf8 : (o : Origin) → IsUtf8 (source_word o)
 source_utf8 origins.Posted = plain (codes "posted") refl
 source_utf8 origins.Quit = plain (codes "quit") refl
+source_utf8 origins.Paint = plain (codes "paint") refl
 
 cause_utf8 : (c : Cause) → IsUtf8 (cause_word c)
 cause_utf8 causes.Proc = plain (codes "proc") refl
@@ -135,6 +137,8 @@ value_utf8 s h (values.Thread t) = blank_utf8 (decimal t.0) (number_utf8 t.0)
 value_utf8 s h (values.Count k) = blank_utf8 (decimal k) (number_utf8 k)
 value_utf8 s h (values.ShortMessage m) = blank_utf8 _ (message_utf8 m)
 value_utf8 s h (values.Pixel x) = blank_utf8 _ (signed_utf8 x)
+value_utf8 s h (values.Flag b) = blank_utf8 (decimal (flag_number b)) (number_utf8 (flag_number b))
+value_utf8 s h (values.RegionKind n) = blank_utf8 (decimal n) (number_utf8 n)
 value_utf8 s h (values.Source o) = blank_utf8 _ (source_utf8 o)
 value_utf8 s h (values.Cause c) = blank_utf8 _ (cause_utf8 c)
 value_utf8 s h (values.Code c) = code_utf8 c

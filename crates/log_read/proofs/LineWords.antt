@@ -1,11 +1,12 @@
 -- The text of a log is that of its lines of words, and falls apart into them.
-use Rattle.std.proofs.Common.{◌≡◌, ℕ, zero, suc, ◌^◌, ◌<◌, true, List, [], ◌∷◌, ◌++◌, length, Option, Some, None, refl, ap, sym, ◌∙◌, append_assoc, append-nil, arith}
+use Rattle.std.proofs.Common.{◌≡◌, ℕ, zero, suc, ◌^◌, ◌<◌, true, false, List, [], ◌∷◌, ◌++◌, length, Option, Some, None, refl, ap, sym, ◌∙◌, append_assoc, append-nil, arith}
 use Rattle.std.specs.Prelude.{ℤ, pos, negsuc, codes, decimal, unwrap_or, map, slice_get, option_map, FitsSigned}
 use Rattle.std.specs.Fmt.{signed_decimal}
 use Rattle.std.specs.Int.{w64}
 use Rattle.std.specs.List.{flat_map, list_all, AllByRecursion}
 use Rattle.std.proofs.lemmas.Bool.{and_parts, and_from}
 use Rattle.std.proofs.lemmas.Grind.{flat_map-append}
+use Rattle.win_num.specs.Codes.{number_of}
 use Rattle.win_num.specs.declared.code.Code.{Code}
 use Rattle.win_num.specs.declared.code.Code.TheVariants as codes_of
 use Rattle.win_num.specs.declared.send.Cause.{Cause}
@@ -26,7 +27,7 @@ use Rattle.answer_table.specs.Answers.{answer_row, answer_name, answer_parts}
 use Rattle.call_table.specs.Calls.{call_row, call_name, call_parts}
 use Rattle.call_table.proofs.CallLaws.{each_call_word}
 use Rattle.answer_table.proofs.AnswerLaws.{each_answer_word}
-use Rattle.call_fields.specs.Words.{source_word, cause_word}
+use Rattle.call_fields.specs.Words.{source_word, cause_word, code_word}
 use Rattle.user_io.specs.Text.{Adds}
 use Rattle.script_tree.specs.Tree.{Tree, ProcedureTree}
 use Rattle.script_lines.specs.Known.{known_of}
@@ -43,7 +44,7 @@ use Rattle.log_read.specs.declared.log.Extra.{Extra}
 use Rattle.log_read.specs.declared.log.Extra.TheVariants as extras
 use Rattle.log_read.specs.Limits.{IsCode, IsValue, IsCall, IsAnswer, IsEntry, IsExtra, AreCounts, IsLog}
 use Rattle.log_read.specs.Logs.{LogTree, extra_line, spelling}
-use Rattle.log_read.specs.Words.{code_word, value_word, call_words, answer_words, entry_words, end_words, extra_words, counts_words, inner_words, log_words}
+use Rattle.log_read.specs.Words.{value_word, call_words, answer_words, entry_words, end_words, extra_words, counts_words, inner_words, log_words}
 use Rattle.log_read.proofs.ValuesAgain.{at_place, wider}
 
 -- ---- the text as lines
@@ -63,6 +64,8 @@ value_written s (values.Thread t) = refl
 value_written s (values.Count k) = refl
 value_written s (values.ShortMessage m) = refl
 value_written s (values.Pixel x) = refl
+value_written s (values.Flag b) = refl
+value_written s (values.RegionKind n) = refl
 value_written s (values.Source o) = refl
 value_written s (values.Cause c) = refl
 value_written s (values.Code (codes_of.Win n)) = refl
@@ -201,6 +204,7 @@ procedure_at_is_word s n h lt =
 source_is_word : (o : Origin) → is_word (source_word o) ≡ true
 source_is_word origins.Posted = refl
 source_is_word origins.Quit = refl
+source_is_word origins.Paint = refl
 
 cause_is_word : (c : Cause) → is_word (cause_word c) ≡ true
 cause_is_word causes.Proc = refl
@@ -208,7 +212,7 @@ cause_is_word causes.Reply = refl
 cause_is_word causes.Loss = refl
 cause_is_word causes.Timeout = refl
 
-code_is_word : (c : Code) → IsCode c → is_word (code_word c) ≡ true
+code_is_word : (c : Code) → IsCode c → is_word (unwrap_or (code_word c) (decimal (number_of c))) ≡ true
 code_is_word (codes_of.Win n) fits = decimal_word n (omega (arith, fits))
 code_is_word codes_of.Full fits = refl
 code_is_word codes_of.NotNow fits = refl
@@ -226,6 +230,9 @@ value_is_word s (values.Thread t) h fits = decimal_word t.0 (omega (arith, fits)
 value_is_word s (values.Count k) h fits = decimal_word k (omega (arith, fits))
 value_is_word s (values.ShortMessage m) h fits = message_is_word m (name_in message_rows m) (omega (arith, fits)) refl
 value_is_word s (values.Pixel x) h fits = signed_is_word x (wider x fits)
+value_is_word s (values.Flag true) h fits = decimal_word 1 (omega arith)
+value_is_word s (values.Flag false) h fits = decimal_word 0 (omega arith)
+value_is_word s (values.RegionKind n) h fits = decimal_word n (omega (arith, fits))
 value_is_word s (values.Source o) h fits = source_is_word o
 value_is_word s (values.Cause c) h fits = cause_is_word c
 value_is_word s (values.Code c) h fits = code_is_word c fits

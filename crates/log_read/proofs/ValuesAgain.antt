@@ -13,6 +13,7 @@ use Rattle.std.proofs.lemmas.Fmt.{decimal_is_IsNumeral}
 use Rattle.std.proofs.lemmas.List.{length-append}
 use Rattle.std.proofs.lemmas.Slice.Eq.{bytes_eq-Decides}
 use Rattle.std.proofs.lemmas.Str.Parse.{digit_from_value}
+use Rattle.win_num.specs.Codes.{number_of}
 use Rattle.win_num.specs.declared.code.Code.{Code}
 use Rattle.win_num.specs.declared.code.Code.TheVariants as codes_of
 use Rattle.win_num.specs.declared.message.Thread.{Thread}
@@ -26,7 +27,7 @@ use Rattle.user_model.specs.declared.entry.Origin.TheVariants as origins
 use Rattle.call_fields.specs.declared.value.Value.{Value}
 use Rattle.call_fields.specs.declared.value.Value.TheVariants as values
 use Rattle.call_fields.specs.Values.{field_of}
-use Rattle.call_fields.specs.Words.{source_word, cause_word}
+use Rattle.call_fields.specs.Words.{source_word, cause_word, code_word}
 use Rattle.script_tree.specs.Tree.{Tree, ProcedureTree}
 use Rattle.script_lines.specs.Known.{known_of}
 use Rattle.script_lines.specs.LineReading.{◌>>=◌, number_at, word_at}
@@ -37,7 +38,7 @@ use Rattle.log_text.specs.declared.end.End.TheVariants as ends
 use Rattle.log_read.specs.Limits.{IsCode, IsValue}
 use Rattle.log_read.specs.Reading.{small_at, signed_at, pixel_at, number_or, message_at, source_at, cause_at, code_at, name_at, procedure_at, value_at, values_from, end_at, actor_at}
 use Rattle.log_text.specs.Endings.{end_word}
-use Rattle.log_read.specs.Words.{code_word, message_word, value_word}
+use Rattle.log_read.specs.Words.{message_word, value_word}
 
 -- ---- numbers
 
@@ -122,6 +123,7 @@ pub source_again : (o : Origin) → source_at (source_word o) ≡ Some o
 unfolding source_at
 source_again origins.Posted = refl
 source_again origins.Quit = refl
+source_again origins.Paint = refl
 
 pub cause_again : (c : Cause) → cause_at (cause_word c) ≡ Some c
 unfolding cause_at
@@ -149,7 +151,7 @@ digits_code (c ∷ cs) all some =
     let n : (c == 110) ≡ false = no_letter c 110 range (omega arith) in
     rw (f, n) refl
 
-pub code_again : (c : Code) → IsCode c → code_at (code_word c) ≡ c
+pub code_again : (c : Code) → IsCode c → code_at (unwrap_or (code_word c) (decimal (number_of c))) ≡ c
 unfolding code_at
 code_again (codes_of.Win n) fits =
     let numeral = decimal_is_IsNumeral n (omega (arith, fits)) in
@@ -227,6 +229,9 @@ value_again s (values.Thread t) h fits = ap (λ x. some (values.Thread (record {
 value_again s (values.Count k) h fits = ap (λ x. some (values.Count x)) (small_number 32 k (omega (arith, fits)) fits)
 value_again s (values.ShortMessage m) h fits = ap (λ x. some (values.ShortMessage x)) (small_again 32 m (message_at (message_word m)) (message_again m (omega (arith, fits))) fits)
 value_again s (values.Pixel x) h fits = ap (option_map (λ y. values.Pixel y)) (pixel_again x fits)
+value_again s (values.Flag true) h fits = ap (λ x. some (values.Flag (not (x == 0)))) (number_again 1 (omega arith))
+value_again s (values.Flag false) h fits = ap (λ x. some (values.Flag (not (x == 0)))) (number_again 0 (omega arith))
+value_again s (values.RegionKind n) h fits = ap (λ x. some (values.RegionKind x)) (small_number 8 n (omega (arith, fits)) fits)
 value_again s (values.Source o) h fits = ap (option_map (λ y. values.Source y)) (source_again o)
 value_again s (values.Cause c) h fits = ap (option_map (λ y. values.Cause y)) (cause_again c)
 value_again s (values.Code c) h fits = ap (λ y. some (values.Code y)) (code_again c fits)

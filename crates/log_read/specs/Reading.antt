@@ -1,6 +1,6 @@
 -- Taking the words of a log apart, loosely: a number may have leading zeros, or be too large. Whether the
 -- text is that of what was found is seen by writing it again.
-use Rattle.std.specs.Prelude.{ℕ, ℤ, pos, negsuc, ◌+◌, ◌-◌, ◌^◌, min, ◌==◌, if◌then◌else◌, ◌&&◌, int_le, nat_le, List, [], ◌∷◌, codes, find, Option, Some, None, option_map, Bool, false}
+use Rattle.std.specs.Prelude.{ℕ, ℤ, pos, negsuc, ◌+◌, ◌-◌, ◌^◌, min, ◌==◌, if◌then◌else◌, ◌&&◌, int_le, nat_le, List, [], ◌∷◌, codes, find, Option, Some, None, option_map, Bool, false, not}
 use Rattle.std.specs.List.{position_from}
 use Rattle.std.specs.Str.{bytes_eq}
 use Rattle.win_num.specs.declared.code.Code.{Code}
@@ -36,6 +36,10 @@ signed_at (c ∷ cs) = if c == 45 then negsuc (min (number_at cs - 1) (2 ^ 63 - 
 unfoldable pub pixel_at : List ℕ → Option ℤ
 pixel_at word = if int_le (negsuc 2147483647) (signed_at word) && int_le (signed_at word) (pos 2147483647) then Some (signed_at word) else None
 
+-- yes or no: 0 is no
+abbrev pub flag_at : List ℕ → Bool
+flag_at word = not (number_at word == 0)
+
 abbrev pub number_or : ℕ → Option ℕ → ℕ
 number_or n None = n
 number_or n (Some m) = m
@@ -49,7 +53,7 @@ abbrev pub short_message_at : List ℕ → ℕ
 short_message_at word = min (message_at word) (2 ^ 32 - 1)
 
 abbrev pub all_sources : List Origin
-all_sources = origins.Posted ∷ origins.Quit ∷ []
+all_sources = origins.Posted ∷ origins.Quit ∷ origins.Paint ∷ []
 
 unfoldable pub source_at : List ℕ → Option Origin
 source_at word = find (λ o. bytes_eq (source_word o) word) all_sources
@@ -89,6 +93,8 @@ value_at s fields.Thread word = Some (values.Thread (record { 0 = small_at 8 wor
 value_at s fields.Count word = Some (values.Count (small_at 32 word))
 value_at s fields.ShortMessage word = Some (values.ShortMessage (short_message_at word))
 value_at s fields.Pixel word = option_map (λ x. values.Pixel x) (pixel_at word)
+value_at s fields.Flag word = Some (values.Flag (flag_at word))
+value_at s fields.RegionKind word = Some (values.RegionKind (small_at 8 word))
 value_at s fields.Source word = option_map (λ o. values.Source o) (source_at word)
 value_at s fields.Cause word = option_map (λ c. values.Cause c) (cause_at word)
 value_at s fields.Code word = Some (values.Code (code_at word))

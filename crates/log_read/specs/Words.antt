@@ -1,8 +1,7 @@
 -- The words of a log.
 use Rattle.std.specs.Prelude.{ℕ, List, [], ◌∷◌, ◌++◌, map, codes, decimal, unwrap_or, slice_get}
 use Rattle.std.specs.Fmt.{signed_decimal}
-use Rattle.win_num.specs.declared.code.Code.{Code}
-use Rattle.win_num.specs.declared.code.Code.TheVariants as codes_of
+use Rattle.win_num.specs.Codes.{number_of}
 use Rattle.name_table.specs.Rows.{name_in}
 use Rattle.name_table.specs.Messages.{message_rows}
 use Rattle.user_model.specs.declared.call.Call.{Call}
@@ -13,7 +12,8 @@ use Rattle.call_fields.specs.declared.value.Value.{Value}
 use Rattle.call_fields.specs.declared.value.Value.TheVariants as values
 use Rattle.call_table.specs.Calls.{call_row, call_name, call_parts}
 use Rattle.answer_table.specs.Answers.{answer_row, answer_name, answer_parts}
-use Rattle.call_fields.specs.Words.{source_word, cause_word}
+use Rattle.call_fields.specs.Values.{flag_number}
+use Rattle.call_fields.specs.Words.{source_word, cause_word, code_word}
 use Rattle.script_tree.specs.Tree.{Tree}
 use Rattle.log_text.specs.declared.end.End.{End}
 use Rattle.log_text.specs.Endings.{end_word}
@@ -21,13 +21,6 @@ use Rattle.log_text.specs.Entries.{procedure_name}
 use Rattle.log_read.specs.declared.log.Extra.{Extra}
 use Rattle.log_read.specs.declared.log.Extra.TheVariants as extras
 use Rattle.log_read.specs.Logs.{LogTree}
-
--- the code of a refusal
-abbrev pub code_word : Code → List ℕ
-code_word (codes_of.Win n) = decimal n
-code_word codes_of.Full = codes "full"
-code_word codes_of.NotNow = codes "not_now"
-code_word codes_of.NoTarget = codes "no_target"
 
 -- a message, by its name where it has one
 abbrev pub message_word : ℕ → List ℕ
@@ -46,9 +39,11 @@ value_word s (values.Thread t) = decimal t.0
 value_word s (values.Count k) = decimal k
 value_word s (values.ShortMessage m) = message_word m
 value_word s (values.Pixel x) = signed_decimal x
+value_word s (values.Flag b) = decimal (flag_number b)
+value_word s (values.RegionKind n) = decimal n
 value_word s (values.Source o) = source_word o
 value_word s (values.Cause c) = cause_word c
-value_word s (values.Code c) = code_word c
+value_word s (values.Code c) = unwrap_or (code_word c) (decimal (number_of c))
 
 -- a call, and what stands behind it
 abbrev pub call_words : Tree → Call → List (List ℕ) → List (List ℕ)

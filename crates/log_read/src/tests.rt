@@ -161,6 +161,26 @@ fn lines(rt: HostRuntime) -> Result<(), Fail> {
         (b"1 await 1 = done 3 reply\nend done\n", true),
         (b"1 await 1 = done 3\nend done\n", false),
         (
+            b"1 get 0 0 0 = got paint 0 16 WM_PAINT 0 0 0 0 0\nend done\n",
+            true,
+        ),
+        (
+            b"1 invalidate 16 -1 0 2 3 1 = ok\n1 validate 16 -1 0 2 3 = ok\nend done\n",
+            true,
+        ),
+        (
+            b"1 update_rect 16 = update 255 -1 0 2147483647 -2147483648\nend done\n",
+            true,
+        ),
+        (b"1 update_rect 16 = update 256 0 0 0 0\nend done\n", false),
+        (b"1 begin_paint 16 = painting 1 0 0 2 3\nend done\n", true),
+        (
+            b"1 begin_paint 16 = painting 0 0 0 2 3\n1 end_paint 16 = ok\nend done\n",
+            true,
+        ),
+        (b"1 begin_paint 16 = painting 2 0 0 2 3\nend done\n", false),
+        (b"1 begin_paint 16 = painting 01 0 0 2 3\nend done\n", false),
+        (
             b"1 get 0 0 0 = got posted 1 16 WM_USER 5 6 0 -1 2147483648\nend done\n",
             false,
         ),

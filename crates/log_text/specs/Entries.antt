@@ -3,7 +3,7 @@ use Rattle.std.specs.Prelude.{ℕ, ℤ, List, [], ◌∷◌, ◌++◌, codes, de
 use Rattle.std.specs.Fmt.{signed_decimal}
 use Rattle.std.specs.List.{flat_map}
 use Rattle.win_num.specs.declared.code.Code.{Code}
-use Rattle.win_num.specs.declared.code.Code.TheVariants as codes_of
+use Rattle.win_num.specs.Codes.{number_of}
 use Rattle.name_table.specs.Rows.{name_in}
 use Rattle.name_table.specs.Messages.{message_rows}
 use Rattle.user_model.specs.declared.call.Call.{Call}
@@ -14,7 +14,8 @@ use Rattle.call_fields.specs.declared.value.Value.{Value}
 use Rattle.call_fields.specs.declared.value.Value.TheVariants as values
 use Rattle.call_table.specs.Calls.{call_row, call_name, call_parts}
 use Rattle.answer_table.specs.Answers.{answer_row, answer_name, answer_parts}
-use Rattle.call_fields.specs.Words.{source_word, cause_word}
+use Rattle.call_fields.specs.Values.{flag_number}
+use Rattle.call_fields.specs.Words.{source_word, cause_word, code_word}
 use Rattle.user_io.specs.Text.{operand}
 use Rattle.script_tree.specs.Tree.{Tree, ProcedureTree}
 
@@ -42,12 +43,9 @@ signed_text x = 32 ∷ signed_decimal x
 abbrev pub counted : List ℕ → ℕ → List ℕ
 counted word n = word ++ operand n
 
--- a blank and the code of a refusal
+-- a blank and the code of a refusal, by its word where it has one
 abbrev pub code_text : Code → List ℕ
-code_text (codes_of.Win n) = operand n
-code_text codes_of.Full = codes " full"
-code_text codes_of.NotNow = codes " not_now"
-code_text codes_of.NoTarget = codes " no_target"
+code_text c = 32 ∷ unwrap_or (code_word c) (decimal (number_of c))
 
 -- a blank and the value of a field, by its kind
 abbrev pub value_text : Tree → Value → List ℕ
@@ -62,6 +60,8 @@ value_text s (values.Thread t) = operand t.0
 value_text s (values.Count k) = operand k
 value_text s (values.ShortMessage m) = message_text m
 value_text s (values.Pixel x) = signed_text x
+value_text s (values.Flag b) = operand (flag_number b)
+value_text s (values.RegionKind n) = operand n
 value_text s (values.Source o) = 32 ∷ source_word o
 value_text s (values.Cause c) = 32 ∷ cause_word c
 value_text s (values.Code c) = code_text c

@@ -8,7 +8,7 @@ ghost use Rattle.log_text.specs.Entries.{counted, code_text, value_text, call_te
 
 use crate::words::Words;
 use answer_table::{answer_form, split_answer};
-use call_fields::{Value, cause_word, source_word};
+use call_fields::{Value, cause_word, code_word, source_word};
 use call_table::{call_form, split_call};
 use std::alloc::AllocError;
 use user_io::text::{put_number, put_operand, put_signed, put_text};
@@ -37,11 +37,9 @@ fn put_word(out: &mut Vec<u8>, word: &[u8]) -> Result<(), AllocError>
 fn put_code(out: &mut Vec<u8>, code: Code) -> Result<(), AllocError>
     ensures { OnOk result (Adds out.old.items out.new.items (code_text code)) }
 {
-    match code {
-        Code::Win(number) => put_operand(out, u64::from(number)),
-        Code::Full => put_word(out, b"full"),
-        Code::NotNow => put_word(out, b"not_now"),
-        Code::NoTarget => put_word(out, b"no_target"),
+    match code_word(code) {
+        Some(word) => put_word(out, word),
+        None => put_operand(out, u64::from(code.number())),
     }
 }
 
@@ -61,6 +59,8 @@ fn put_value(out: &mut Vec<u8>, words: &Words, value: Value) -> Result<(), Alloc
         Value::Count(number) => put_operand(out, u64::from(number)),
         Value::ShortMessage(number) => words.put_message(out, u64::from(number)),
         Value::Pixel(number) => put_signed(out, i64::from(number)),
+        Value::Flag(flag) => put_operand(out, u64::from(flag)),
+        Value::RegionKind(kind) => put_operand(out, u64::from(kind)),
         Value::Source(source) => put_word(out, source_word(source)),
         Value::Cause(cause) => put_word(out, cause_word(cause)),
         Value::Code(code) => put_code(out, code),

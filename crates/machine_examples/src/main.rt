@@ -4,13 +4,13 @@
 //! range, and each must have that answer. Names and procedures are their numbers. Empty lines and comments are written as they are.
 #![tactic(auto)]
 
-ghost use Rattle.std.specs.Prelude.{◌≡◌, ◌&&◌, nat_le};
+ghost use Rattle.std.specs.Prelude.{◌≡◌, ◌≤◌, ◌&&◌, nat_le};
 
 mod lines;
 mod told;
 
 use lines::{Line, range_of};
-use std::alloc::Global;
+use std::alloc::{AllocError, Global};
 use std::io::{BufRead, BufReader};
 use told::Told;
 use user_core::User;
@@ -23,12 +23,20 @@ fn is_count(threads: u8) -> bool
     1 <= threads && threads <= 15
 }
 
+/// Puts a new machine for so many threads in the place of the old one.
+fn renew(alloc: Global, machine: &mut User, threads: u8) -> Result<(), AllocError>
+    requires { (1 ≤ threads) × (threads ≤ 15) }
+{
+    *machine = User::new(alloc, Setup::new(threads, 8, 4))?;
+    Ok(())
+}
+
 /// Does what a line asks for, and writes it again with the answer.
 fn run_line(rt: &impl Print, alloc: Global, machine: &mut User, line: &str) -> anyhow::Result<()> {
     match Line::parse(line) {
         Some(Line::Comment) => println!(rt; "{line}")?,
         Some(Line::Machine(threads)) if is_count(threads) => {
-            *machine = User::new(alloc, Setup::new(threads, 8, 4))?;
+            renew(alloc, machine, threads)?;
             println!(rt; "{line}")?;
         }
         Some(Line::Barred(actor)) => println!(rt; "{line} = {}", machine.barred(actor))?,

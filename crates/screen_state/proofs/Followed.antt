@@ -1,21 +1,16 @@
 -- The regions after an entry are those of the past with the entry.
-use Rattle.std.proofs.Common.{◌≡◌, ◌≢◌, ◌∙◌, ℕ, Bool, true, false, not, cond, eqb, List, [], ◌∷◌, Option, Some, None, refl, sym, ap, subst}
-use Rattle.std.specs.Prelude.{◌&&◌, ◌||◌, All, find, option_map}
+use Rattle.std.proofs.Common.{◌≡◌, ◌≢◌, ◌∙◌, ℕ, Bool, true, false, not, cond, eqb, List, [], ◌∷◌, Option, Some, None, refl, sym, ap}
+use Rattle.std.specs.Prelude.{◌&&◌, ◌||◌, option_map}
 use Rattle.std.specs.List.{list_all}
-use Rattle.std.proofs.lemmas.Bool.{eqb-true, eqb-false, eq-eqb, ne_eqb, false≢true, true≢false}
-use Rattle.std.proofs.lemmas.List.Elements.{All-cons, All-nil}
+use Rattle.std.proofs.lemmas.Bool.{eqb-true, eqb-false, eq-eqb, ne_eqb, false≢true}
 use Rattle.win_num.specs.declared.message.Hwnd.{Hwnd}
 use Rattle.win_num.specs.declared.message.Thread.{Thread}
 use Rattle.win_num.specs.declared.shapes.Point.{Point}
 use Rattle.win_num.specs.declared.shapes.Rect.{Rect}
 use Rattle.win_num.specs.PixelSets.{has_pixel}
 use Rattle.band_region.specs.Regions.{region_has}
-use Rattle.win_rows.specs.declared.window.Window.{Window as KeptWindow}
-use Rattle.win_rows.specs.Windows.{Windows, no_windows, window_of}
-use Rattle.win_order.specs.Kept.{is_child}
-use Rattle.win_order.specs.Layers.{Layers, empty, siblings_of}
-use Rattle.win_order.proofs.ChildLaws.{each_child}
-use Rattle.win_order.proofs.KeptLaws.{empty_kept}
+use Rattle.win_rows.specs.Windows.{Windows}
+use Rattle.win_order.specs.Layers.{Layers}
 use Rattle.user_model.specs.declared.call.Call.{Call}
 use Rattle.user_model.specs.declared.call.Call.TheVariants as calls
 use Rattle.user_model.specs.declared.entry.Answer.{Answer}
@@ -26,10 +21,9 @@ use Rattle.user_model.specs.Past.{Past}
 use Rattle.user_model.specs.Idle.{reply}
 use Rattle.user_model.specs.Legal.{IsLawful}
 use Rattle.user_model.specs.Pixels.{owner, screen}
-use Rattle.user_model.specs.ZOrder.{hwnd, siblings}
 use Rattle.user_model.proofs.WindowLooks.{changes_look, look-same}
 use Rattle.window_state.specs.Orders.{IsOrderAt}
-use Rattle.window_state.specs.Trees.{IsTreeAt, as_made}
+use Rattle.window_state.specs.Trees.{IsTreeAt}
 use Rattle.window_state.proofs.LookSteps.{fits_looking}
 use Rattle.window_state.proofs.NewWindows.{doom_not_refused, drop_not_refused}
 use Rattle.window_state.proofs.OrderNeeds.{fits_order, fits_order_effect, ordered_at}
@@ -39,7 +33,7 @@ use Rattle.window_state.proofs.TreeNeeds.{fits_making, fits_unmaking}
 use Rattle.window_state.proofs.TreeSteps.{tree_after}
 use Rattle.screen_owners.specs.declared.owners.Owned.{Owned}
 use Rattle.screen_owners.proofs.Children.{listed_children}
-use Rattle.screen_owners.specs.Owners.{AreChildren, AreOwners, IsChildOf, entry_of, owned_region, region_in}
+use Rattle.screen_owners.specs.Owners.{AreChildren, AreOwners, entry_of, owned_region, region_in}
 use Rattle.screen_state.specs.Entries.{FitsEntry, FitsTable, IsEntered}
 use Rattle.screen_state.specs.Owned.{AreOwnersAt, FollowsOwners, IsNext, keeps_owners, told_has}
 use Rattle.screen_state.specs.Shown.{changes_owners, shows}
@@ -76,28 +70,22 @@ entered_children setup t t2 z z2 e n made =
     let tree = tree_after setup n.past e t made.grown t2 n.lawful n.tree n.right made.added made.settled in
     listed_children (e ∷ n.past) t2 z2 (ordered_at setup (e ∷ n.past) t2 (n.lawful, n.right) tree) tree (order_after setup n.past e t made.grown t2 z made.placed z2 n.lawful n.tree tree n.order n.right made.added made.put made.left)
 
-pub entered_follow : (setup : Setup) (t t2 : Windows) (z z2 : Layers) (e : Entry) (old new : List Owned) → IsEntered e.who.0 e.answer e.call t t2 z z2 → AreOwners t2.live z2 setup.width setup.height new → FollowsOwners setup t z e old new
-entered_follow setup t t2 z z2 e old new made own past lawful tree order right was =
-    let tree2 = tree_after setup past e t made.grown t2 lawful tree right made.added made.settled in
-    let order2 = order_after setup past e t made.grown t2 z made.placed z2 lawful tree tree2 order right made.added made.put made.left in
-    of_past setup (e ∷ past) t2 z2 new (lawful, right) tree2 order2 own
-
 -- ---- regions that stay
 
-no_order : (call : Call) (a : Answer) → changes_owners call a ≡ false → changes_order call a ≡ false
+pub no_order : (call : Call) (a : Answer) → changes_owners call a ≡ false → changes_order call a ≡ false
 no_order call answers.Ended h = h
 no_order (calls.NewWindow name title parent style ex l t r b) (answers.Window w) h = h
 no_order (calls.Drop w) answers.Okay h = h
 no_order (calls.Place w after l t r b flags) (answers.Value v) h = h
 no_order call a h = refl
 
-no_look : (call : Call) (a : Answer) → changes_owners call a ≡ false → changes_look call a ≡ false
+pub no_look : (call : Call) (a : Answer) → changes_owners call a ≡ false → changes_look call a ≡ false
 no_look (calls.NewWindow name title parent style ex l t r b) (answers.Window w) h = h
 no_look (calls.Place w after l t r b flags) (answers.Value v) h = h
 no_look (calls.Show w on) (answers.Value v) h = h
 no_look call a h = refl
 
-region_none : (os : List Owned) (w : ℕ) → list_all (λ (o : Owned). eqb o.window.0 0) os ≡ true → w ≢ 0 → region_in os w ≡ []
+pub region_none : (os : List Owned) (w : ℕ) → list_all (λ (o : Owned). eqb o.window.0 0) os ≡ true → w ≢ 0 → region_in os w ≡ []
 region_none [] w all some = refl
 region_none (o ∷ os) w all some = by (λ rest. region_none os w rest some) (eqb o.window.0 0) refl all
   where

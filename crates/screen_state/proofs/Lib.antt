@@ -1,4 +1,15 @@
+pub mod Changed
+pub mod DirtyAt
+pub mod Drawing
 pub mod Entered
 pub mod Followed
 pub mod OwnersKept
+pub mod Parts
+pub mod Owning
 pub mod QuietEntries
+pub mod Screens
+pub mod Somewhere
+pub mod Undrawn
+pub mod Unset
+pub mod UpdateBoxes
+pub mod Walking

@@ -1,5 +1,5 @@
 -- Where an entry leaves the live windows, how they look, and their siblings, it leaves the owners of pixels.
-use Rattle.std.proofs.Common.{◌≡◌, ◌∙◌, ℕ, zero, suc, Bool, true, false, cond, eqb, List, [], ◌∷◌, length, Option, Some, None, refl, sym, ap}
+use Rattle.std.proofs.Common.{◌≡◌, ◌∙◌, ℕ, zero, suc, true, false, cond, eqb, List, [], ◌∷◌, length, Option, Some, None, refl, ap}
 use Rattle.std.specs.Prelude.{◌&&◌, pos, find, reverse}
 use Rattle.win_num.specs.declared.message.Hwnd.{Hwnd}
 use Rattle.win_num.specs.declared.names.TheConstants.{WS_VISIBLE}
@@ -28,7 +28,7 @@ module _ (past : Past) (e : Entry) (lives : live (e ∷ past) ≡ live past) (lo
       ∙ ap (λ (o : Point). stepped n w o (look later w)) (origin_same n (parent_in (live past) w))
       ∙ ap (stepped n w (origin_within n past (parent_in (live past) w))) (looks w)
 
-  box_same : (w : ℕ) → box_of later w ≡ box_of past w
+  pub box_same : (w : ℕ) → box_of later w ≡ box_of past w
   box_same w =
       ap (λ (ws : List Window). shifted (origin later (parent_in ws w)) (place_of later w)) lives
       ∙ ap (λ (o : Point). shifted o (place_of later w)) (origin_same (parent_in (live past) w) (parent_in (live past) w))

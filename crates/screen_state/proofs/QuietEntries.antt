@@ -1,6 +1,6 @@
 -- Where no window owns a pixel and an entry shows none, no window owns a pixel afterwards.
-use Rattle.std.proofs.Common.{◌≡◌, ◌≢◌, ◌∙◌, ℕ, zero, suc, Bool, true, false, not, cond, eqb, List, [], ◌∷◌, ◌++◌, length, Option, Some, None, append-nil, refl, sym, ap, subst}
-use Rattle.std.specs.Prelude.{◌+◌, ◌&&◌, ℤ, filter, find, option_map, unwrap_or, is_some}
+use Rattle.std.proofs.Common.{◌≡◌, ◌≢◌, ◌∙◌, ℕ, Bool, true, false, not, cond, eqb, List, [], ◌∷◌, ◌++◌, length, Option, Some, None, append-nil, refl, sym, ap}
+use Rattle.std.specs.Prelude.{◌+◌, ◌&&◌, ℤ, filter, is_some}
 use Rattle.std.proofs.lemmas.Bool.{eqb-true, eqb-false, false≢true, true≢false}
 use Rattle.win_num.specs.declared.message.Hwnd.{Hwnd}
 use Rattle.win_num.specs.declared.message.Thread.{Thread}
@@ -16,15 +16,14 @@ use Rattle.user_model.specs.declared.entry.Setup.{Setup}
 use Rattle.user_model.specs.Past.{Past, is_refused}
 use Rattle.user_model.specs.Legal.{IsLawful}
 use Rattle.user_model.specs.Machines.{entry_of}
-use Rattle.user_model.specs.Windows.{Window, drops, find_window, has_flag, is_live, live, made_by, parent_in, window, windows_made}
+use Rattle.user_model.specs.Windows.{Window, drops, find_window, has_flag, live, made_by, parent_in, window, windows_made}
 use Rattle.user_model.specs.Looks.{Look, look, is_shown}
-use Rattle.user_model.specs.ZOrder.{hwnd}
 use Rattle.user_model.specs.Pixels.{covers, origin, owner, screen, shifted}
 use Rattle.user_model.proofs.Forests.{IsRising, find_filter}
 use Rattle.user_model.proofs.LiveWindows.{live-new, made_by-other, new_window, sound}
 use Rattle.user_model.proofs.WindowLaws.{live-next, live-refused}
 use Rattle.user_model.proofs.WindowLooks.{changes_look, look-new, look-other, look-same}
-use Rattle.window_state.proofs.PixelLaws.{HasTop, owner_has, pixel_owned, top_has}
+use Rattle.window_state.proofs.PixelLaws.{owner_has, pixel_owned, top_has}
 use Rattle.window_state.proofs.Standings.{found_out, parent_found}
 use Rattle.screen_state.specs.Shown.{shows}
 
@@ -71,7 +70,7 @@ stays_quiet setup past e p lawful lawful_too shows quiet = pick (eqb (owner setu
 -- ---- which entries show none
 
 -- what is found in what is left was found before
-none_kept : (q : Window → Bool) (ws : List Window) (v : ℕ) → find_window ws v ≡ None → find_window (filter q ws) v ≡ None
+pub none_kept : (q : Window → Bool) (ws : List Window) (v : ℕ) → find_window ws v ≡ None → find_window (filter q ws) v ≡ None
 none_kept q [] v e = refl
 none_kept q (y ∷ ws) v e = pick (none_kept q ws v) (eqb y.number v) refl e (q y)
   where

@@ -1,3 +1,6 @@
 pub mod Entries
 pub mod Owned
+pub mod Parts
+pub mod Screens
 pub mod Shown
+pub mod Walks

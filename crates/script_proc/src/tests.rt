@@ -169,6 +169,26 @@ fn destroys(alloc: Global) -> Result<Body, AllocError> {
     Ok(Body::new(body))
 }
 
+/// Gets a message and dispatches it, makes a pixel dirty, and tells the kind of what is dirty.
+fn paints(alloc: Global) -> Result<Body, AllocError> {
+    let window = Operand::Variable(Variable::GotWindow);
+    let dirty = CallStatement::Invalidate(
+        window,
+        Operand::Minus(1),
+        number(0),
+        number(1),
+        number(1),
+        number(1),
+    );
+    let mut body = Vec::new(alloc);
+    body.push(get())?;
+    body.push(Statement::Call(CallStatement::Dispatch))?;
+    body.push(Statement::Call(dirty))?;
+    body.push(Statement::Call(CallStatement::UpdateRect(window)))?;
+    body.push(quits(Variable::Result))?;
+    Ok(Body::new(body))
+}
+
 fn program(alloc: Global) -> Result<Program, AllocError> {
     let mut procedures = Vec::new(alloc);
     procedures.push(hands_on(alloc)?)?;
@@ -181,6 +201,7 @@ fn program(alloc: Global) -> Result<Program, AllocError> {
     threads.push(asks(alloc)?)?;
     threads.push(waits_for_others(alloc)?)?;
     threads.push(destroys(alloc)?)?;
+    threads.push(paints(alloc)?)?;
     let script = Script::new(
         8,
         4,
@@ -419,5 +440,45 @@ fn destroys_and_returns(rt: HostRuntime) -> Result<(), Fail> {
     makes(&rt, &mut worker, &program, &wanted)?;
     assert!(rt; worker.next_call(&program)? == None);
     assert_eq!(rt; worker.used(), 13);
+    Ok(())
+}
+
+#[test]
+fn paints_by_default(rt: HostRuntime) -> Result<(), Fail> {
+    let program = program(rt.alloc())?;
+    let mut worker = Worker::new(rt.alloc(), &program, 8)?;
+    let msg = Msg {
+        hwnd: Hwnd(16),
+        number: 15,
+        wparam: 0,
+        lparam: 0,
+        time: 0,
+        point: Point { x: 0, y: 0 },
+    };
+    let paint = Answer::Got {
+        origin: Origin::Paint,
+        number: 0,
+        msg,
+    };
+    let update = Answer::Update {
+        kind: 2,
+        l: 0,
+        t: 0,
+        r: 1,
+        b: 1,
+    };
+    let wanted = [
+        (Call::Get(0, 0, 0), paint),
+        (Call::Dispatch(16, 15, 0, 0), Answer::Called(1)),
+        (Call::Validate(16, 0, 0, 4096, 4096), Answer::Okay),
+        (Call::Leave(0), left(0)),
+        (Call::Invalidate(16, -1, 0, 1, 1, 1), Answer::Okay),
+        (Call::UpdateRect(16), update),
+        (Call::PostQuit(2), Answer::Okay),
+        (Call::EndThread, Answer::Ended),
+    ];
+    makes(&rt, &mut worker, &program, &wanted)?;
+    assert!(rt; worker.next_call(&program)? == None);
+    assert_eq!(rt; worker.used(), 8);
     Ok(())
 }

@@ -8,7 +8,7 @@ use Rattle.user_model.specs.declared.entry.Answer.TheVariants.{Window, Tell, Las
 use Rattle.script_tree.specs.declared.statement.CallStatement.{CallStatement}
 use Rattle.script_tree.specs.declared.statement.CallStatement.TheVariants.{Yield}
 use Rattle.script_tree.specs.declared.frame.Place.{Place}
-use Rattle.script_tree.specs.declared.frame.Place.TheVariants.{Making, Greeting, Telling, Undoing, Dooming, Unmaking, Destroying, Parting, Dropping, Defaulting}
+use Rattle.script_tree.specs.declared.frame.Place.TheVariants.{Making, Greeting, Telling, Undoing, Dooming, Unmaking, Destroying, Parting, Dropping, Single, Defaulting}
 use Rattle.script_tree.specs.declared.frame.Lead.{Lead}
 use Rattle.script_tree.specs.declared.frame.Lead.TheVariants.{Calls, Runs, Ends}
 use Rattle.script_tree.specs.declared.variables.Variables.{Variables}
@@ -60,5 +60,6 @@ plain_compound (Unmaking w) a x = tt
 plain_compound (Destroying w) a x = tt
 plain_compound (Parting w v) a x = tt
 plain_compound (Dropping w) a x = tt
+plain_compound Single a x = tt
 plain_compound (Defaulting y) (Refused code) x = tt
 plain_compound (Defaulting y) a x = tt

@@ -1,5 +1,5 @@
 -- How each part of a program ends by the rows: statements with the variables or at a `return`, calls with an answer, procedures with a result.
-use Rattle.std.proofs.Common.{sym, subst}
+use Rattle.std.proofs.Common.{◌≡◌, ℕ, refl, ap, sym, subst}
 use Rattle.user_model.specs.declared.call.Call.{Call}
 use Rattle.user_model.specs.declared.call.Call.TheVariants.{Doom, SleepUntil}
 use Rattle.user_model.specs.declared.entry.Answer.{Answer}
@@ -7,8 +7,8 @@ use Rattle.user_model.specs.declared.entry.Answer.TheVariants.{Refused}
 use Rattle.script_tree.specs.declared.variables.Parameters.{Parameters}
 use Rattle.script_tree.specs.Tree.{Tree}
 use Rattle.script_tree.specs.Values.{value_of, call_of, creation_call, time_after}
-use Rattle.script_tree.specs.Pieces.{Returning, Given, Trace}
-use Rattle.script_tree.specs.Rows.{Point, At, CutBefore, on, settling, giving, returning, restoring, defaulting, undone, Part, Body, Line, Asleep, Frame, Exit, Rows, call_cut, after_cut, body_over, body, body_left, lets, computes, if_holds, if_fails, if_first, if_second, while_ends, while_left, while_cut, while_again, while_yields, returns, makes, sleeps, asleep_refused, asleep, defaults, destroys, creates, call_waits, call_enters, call_back, leave_back, call_inside, call_calls, call_begins, call_ends, frame, exit_returned, exit_callback, exit_default, default_close, default_greeting, default_other, destruction, doom_refused, doomed, unmaking, unmade_tell, unmade_last, unmade_refused, unmade_gone, create_refused, create_none, created, greeted_no, greeted, told_refused, told_no, told, thread}
+use Rattle.script_tree.specs.Pieces.{State, Going, Returning, Given, Trace}
+use Rattle.script_tree.specs.Rows.{Point, At, CutBefore, on, settling, giving, returning, restoring, defaulting, undone, Part, Body, Line, Asleep, Frame, Exit, Rows, call_cut, after_cut, body_over, body, body_left, lets, computes, if_holds, if_fails, if_first, if_second, while_ends, while_left, while_cut, while_again, while_yields, returns, makes, sleeps, asleep_refused, asleep, defaults, destroys, creates, call_waits, call_enters, call_back, leave_back, call_inside, call_calls, call_begins, call_ends, frame, exit_returned, exit_callback, exit_default, default_close, default_paint, default_greeting, default_other, destruction, doom_refused, doomed, unmaking, unmade_tell, unmade_last, unmade_refused, unmade_gone, create_refused, create_none, created, greeted_no, greeted, told_refused, told_no, told, thread}
 
 -- an answer, or a cut
 abbrev pub IsGiven : Point → Type 0
@@ -55,6 +55,27 @@ defaulting_given x (At (Given v (Refused code) y)) k = tt
 defaulting_given x (At (Given v a y)) k = tt
 defaulting_given x (At st) k = absurd k
 defaulting_given x (CutBefore c) k = tt
+
+-- the answer to the one call of a compound is its end
+abbrev pub answering : State → State
+answering (Given v a x) = Given v a 0
+answering st = st
+
+pub answering_given : (got : Point) → IsGiven got → IsGiven (on answering got)
+answering_given (At (Given v a x)) k = tt
+answering_given (At st) k = absurd k
+answering_given (CutBefore c) k = tt
+
+-- which makes nothing else of the result of the default procedure
+answered_default : (x : ℕ) (st : State) → defaulting x st ≡ defaulting x (answering st)
+answered_default x (Given v (Refused code) y) = refl
+answered_default x (Given v a y) = refl
+answered_default x (Going v) = refl
+answered_default x (Returning v y) = refl
+
+pub default_answered : (x : ℕ) (got : Point) → on (defaulting x) got ≡ on (defaulting x) (on answering got)
+default_answered x (At st) = ap At (answered_default x st)
+default_answered x (CutBefore c) = refl
 
 giving_given : (a : Answer) (got : Point) → IsReturned got → IsGiven (on (giving a) got)
 giving_given a (At (Returning v x)) k = tt
@@ -115,8 +136,9 @@ module _ (s : Tree) where
   kind (exit_callback {got = got} h d f) = subst IsReturned (sym f) (returning_returned _ got (kind d))
   kind (exit_default h d e f) = kind e
   kind (default_close {got = got} h d f) = subst IsGiven (sym f) (defaulting_given 0 got (kind d))
+  kind (default_paint {got = got} h d f) = subst IsGiven (sym f) (defaulting_given 0 got (kind d))
   kind (default_greeting h) = tt
-  kind (default_other h g) = tt
+  kind (default_other h g k) = tt
   kind (destruction d e f) = kind e
   kind (doom_refused h) = tt
   kind (doomed h d) = kind d

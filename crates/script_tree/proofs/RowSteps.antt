@@ -6,7 +6,7 @@ use Rattle.user_model.specs.declared.call.Call.{Call}
 use Rattle.user_model.specs.declared.entry.Answer.{Answer}
 use Rattle.user_model.specs.declared.entry.Answer.TheVariants.{Wait, Value, Window as WindowMade, Called, Inside, Begun, Enter, Callback, Tell, Last, Refused}
 use Rattle.user_model.specs.Stacks.{waits}
-use Rattle.script_tree.specs.declared.messages.TheConstants.{WM_CLOSE, WM_NCCREATE, WM_CREATE}
+use Rattle.script_tree.specs.declared.messages.TheConstants.{WM_PAINT, WM_CLOSE, WM_NCCREATE, WM_CREATE}
 use Rattle.script_tree.specs.declared.variables.Parameters.{Parameters}
 use Rattle.script_tree.specs.declared.variables.Variables.{Variables}
 use Rattle.script_tree.specs.declared.frame.Place.TheVariants.{Telling}
@@ -89,6 +89,9 @@ kept_yes w x h = ap (λ z. if z then undoes w else Ends (Value w)) (other_number
 
 pub close_result : (p : Parameters) → p.number ≡ WM_CLOSE → default_result p ≡ 0
 close_result p h = ap (λ z. if z then 1 else 0) (other_number p.number WM_NCCREATE (λ e. absurd (omega arith)))
+
+pub paint_result : (p : Parameters) → p.number ≡ WM_PAINT → default_result p ≡ 0
+paint_result p h = ap (λ z. if z then 1 else 0) (other_number p.number WM_NCCREATE (λ e. absurd (omega arith)))
 
 pub other_result : (p : Parameters) → p.number ≢ WM_NCCREATE → default_result p ≡ 0
 other_result p h = ap (λ z. if z then 1 else 0) (other_number p.number WM_NCCREATE h)

@@ -9,7 +9,7 @@ use Rattle.user_model.specs.declared.call.Call.TheVariants.{Await, Leave, Doom, 
 use Rattle.user_model.specs.declared.entry.Answer.{Answer}
 use Rattle.user_model.specs.declared.entry.Answer.TheVariants.{Wait, Value, Window as WindowMade, Called, Inside, Begun, Enter, Callback, Tell, Last, Refused}
 use Rattle.user_model.specs.Stacks.{leaves, waits}
-use Rattle.script_tree.specs.declared.messages.TheConstants.{WM_CLOSE, WM_NCCREATE, WM_CREATE, WM_DESTROY, WM_NCDESTROY}
+use Rattle.script_tree.specs.declared.messages.TheConstants.{WM_PAINT, WM_CLOSE, WM_NCCREATE, WM_CREATE, WM_DESTROY, WM_NCDESTROY}
 use Rattle.win_num.specs.declared.send.Frame.TheVariants.{Inside as InsideFrame, Called as CalledFrame}
 use Rattle.script_tree.specs.declared.operand.Test.{Test}
 use Rattle.script_tree.specs.declared.operand.Operand.{Operand}
@@ -20,18 +20,18 @@ use Rattle.script_tree.specs.declared.variables.Parameters.{Parameters}
 use Rattle.script_tree.specs.declared.variables.Variables.{Variables}
 use Rattle.script_tree.specs.declared.frame.Run.{Run}
 use Rattle.script_tree.specs.declared.frame.Place.{Place}
-use Rattle.script_tree.specs.declared.frame.Place.TheVariants.{Making as MakingWindow, Greeting, Telling, Undoing, Defaulting, Dooming, Unmaking as UnmakingPlace, Destroying, Parting, Dropping}
+use Rattle.script_tree.specs.declared.frame.Place.TheVariants.{Making as MakingWindow, Greeting, Telling, Undoing, Defaulting, Dooming, Unmaking as UnmakingPlace, Destroying, Parting, Dropping, Single}
 use Rattle.script_tree.specs.declared.frame.Lead.{Lead}
 use Rattle.script_tree.specs.declared.frame.Lead.TheVariants.{Calls as CallsLead, Ends}
 use Rattle.script_tree.specs.Tree.{Tree, body_of, procedure_of}
 use Rattle.script_tree.specs.Values.{value_of, holds, call_of, creation_call, time_after, start, inside_of, settled}
-use Rattle.script_tree.specs.Compounds.{sent, undoes, default_result, after_making, after_greeting, kept_or_undone, after_telling, after_dooming, after_unmaking, after_default, compound_after}
+use Rattle.script_tree.specs.Compounds.{sent, undoes, validation, default_result, after_making, after_greeting, kept_or_undone, after_telling, after_dooming, after_unmaking, after_default, compound_after}
 use Rattle.script_tree.specs.Pieces.{Piece, Lines, One, PassEnd, Making, Again, Giving, Settle, Quiet, Sleeping, Running, Leaving, Leaves, Left, Restore, Feed, State, Going, Returning, Given, Step, Becomes, Asks, Trace, End}
 use Rattle.script_tree.specs.Steps.{step, statement, begins, returns_to, takes, leaving, default_pieces, is_callback, goes_on, sleeps as slept, passes, follows, following, given, answered, after_answer, is_last, parameters_of, run_of, variables_of}
 use Rattle.script_tree.specs.Traces.{Makes, over, silent, entry, cut, program, IsTrace}
-use Rattle.script_tree.specs.Rows.{Point, At, CutBefore, on, going, settling, giving, returning, restoring, defaulting, undone, ends_call, is_final, is_refusal, entered, called_back, end_of, ByRows, Part, Body, Line, Asleep, Calls, Frame, Exit, DefaultFor, Destruction, Doomed, Unmaking, Unmade, Created, Greeted, Told, Thread, Rows, call_cut, after_cut, body_over, body, body_left, lets, computes, if_holds, if_fails, if_first, if_second, while_ends, while_left, while_cut, while_again, while_yields, returns, makes, sleeps, asleep_refused, asleep, defaults, destroys, creates, call_waits, call_enters, call_back, leave_back, call_inside, call_calls, call_begins, call_ends, frame, exit_returned, exit_callback, exit_default, default_close, default_greeting, default_other, destruction, doom_refused, doomed, unmaking, unmade_tell, unmade_last, unmade_refused, unmade_gone, create_refused, create_none, created, greeted_no, greeted, told_refused, told_no, told, thread}
-use Rattle.script_tree.proofs.RowKinds.{IsGiven, IsReturned, IsRun, HasKind, kind}
-use Rattle.script_tree.proofs.RowSteps.{counted, uncounted, number_is, number_isnt, close_result}
+use Rattle.script_tree.specs.Rows.{Point, At, CutBefore, on, going, settling, giving, returning, restoring, defaulting, undone, ends_call, is_final, is_refusal, entered, called_back, end_of, ByRows, Part, Body, Line, Asleep, Calls, Frame, Exit, DefaultFor, Destruction, Doomed, Unmaking, Unmade, Created, Greeted, Told, Thread, Rows, call_cut, after_cut, body_over, body, body_left, lets, computes, if_holds, if_fails, if_first, if_second, while_ends, while_left, while_cut, while_again, while_yields, returns, makes, sleeps, asleep_refused, asleep, defaults, destroys, creates, call_waits, call_enters, call_back, leave_back, call_inside, call_calls, call_begins, call_ends, frame, exit_returned, exit_callback, exit_default, default_close, default_paint, default_greeting, default_other, destruction, doom_refused, doomed, unmaking, unmade_tell, unmade_last, unmade_refused, unmade_gone, create_refused, create_none, created, greeted_no, greeted, told_refused, told_no, told, thread}
+use Rattle.script_tree.proofs.RowKinds.{IsGiven, IsReturned, IsRun, HasKind, kind, answering, answering_given, default_answered}
+use Rattle.script_tree.proofs.RowSteps.{counted, uncounted, number_is, number_isnt, close_result, paint_result}
 use Rattle.script_tree.proofs.Defaults.{default_either, default_append}
 
 -- the `yield` of a `while` sets nothing
@@ -77,6 +77,7 @@ CompoundRow s (UnmakingPlace w) v a x tr out = Rows s (Unmade w) (At (Given v a 
 CompoundRow s (Destroying w) v a x tr out = Rows s (Unmaking w) (At (Going v)) tr out
 CompoundRow s (Parting w part) v a x tr out = Two s (Calls (Drop part)) (At (Going v)) (Unmaking w) going tr out
 CompoundRow s (Dropping w) v a x tr out = Rows s (Unmaking w) (At (Going v)) tr out
+CompoundRow s Single v a x tr out = Maps answering (Given v a x) tr out
 CompoundRow s (Defaulting y) v a x tr out = Maps (defaulting y) (Given v a x) tr out
 
 -- one of two
@@ -306,6 +307,11 @@ module _ (s : Tree) where
   defaulting_at y (Returning v x) m tr out k r = absurd k
   defaulting_at y (Given v a x) m tr out k r = r
 
+  single_at : (mid : State) (m : ℕ) (tr : Trace) (out : Point) → IsGiven (At mid) → RowOf s (Feed Single) mid m tr out → Maps answering mid tr out
+  single_at (Going v) m tr out k r = absurd k
+  single_at (Returning v x) m tr out k r = absurd k
+  single_at (Given v a x) m tr out k r = r
+
   -- destructions
   unmaking_rows : (w : ℕ) (v : Variables) (n : ℕ) (tr : Trace) (out : Point) → Parts s (Making (Unmake w) ∷ Feed (UnmakingPlace w) ∷ []) (Going v) n tr out → Rows s (Unmaking w) (At (Going v)) tr out
   unmaking_rows w v n tr out d = let r = call_first (Unmake w) (Feed (UnmakingPlace w)) (Unmade w) same v n tr out (unmade_at w) d in unmaking r.one (same_other r) r.all
@@ -325,15 +331,32 @@ module _ (s : Tree) where
       let r = inside_rows p.hwnd (Defaulting 0) (defaulting 0) v n tr out (defaulting_at 0) e in
       default_close h r.row r.result
 
-  other_rows : (b : Bool) (p : Parameters) (v : Variables) (tr : Trace) (out : Point) → p.number ≢ WM_CLOSE → (p.number == WM_NCCREATE) ≡ b → (tr ≡ []) × (out ≡ At (Given v (Value (if b then 1 else 0)) 0)) → Rows s (DefaultFor p) (At (Going v)) tr out
-  other_rows true p v tr out g h k = at_empty (λ tr out. Rows s (DefaultFor p) (At (Going v)) tr out) (Given v (Value 1) 0) tr out (default_greeting (number_is p.number WM_NCCREATE h)) k
-  other_rows false p v tr out g h k = at_empty (λ tr out. Rows s (DefaultFor p) (At (Going v)) tr out) (Given v (Value 0) 0) tr out (default_other g (number_isnt p.number WM_NCCREATE h)) k
+  -- a compound of one call
+  single_rows : (call : Call) (v : Variables) (n : ℕ) (tr : Trace) (out : Point) → Parts s (Making call ∷ Feed Single ∷ []) (Going v) n tr out → Mapped (λ tr out. Rows s (Calls call) (At (Going v)) tr out) answering tr out
+  single_rows call v n tr out d =
+      mapped_of (Making call ∷ []) (Feed Single) (λ tr out. Rows s (Calls call) (At (Going v)) tr out) answering (Going v) n tr out (λ tr out x. single x) (λ first mid m tr out r k. single_at mid m tr out (kind s r) k) (divide (Making call ∷ []) (Feed Single ∷ []) d)
+
+  single_given : (call : Call) (v : Variables) (tr : Trace) (out : Point) → Mapped (λ tr out. Rows s (Calls call) (At (Going v)) tr out) answering tr out → IsGiven out
+  single_given call v tr out r = subst IsGiven (sym r.result) (answering_given r.got (kind s r.row))
+
+  paint_rows : (p : Parameters) (v : Variables) (n : ℕ) (tr : Trace) (out : Point) → p.number ≡ WM_PAINT → Parts s (Making (validation p.hwnd) ∷ Feed Single ∷ Feed (Defaulting (default_result p)) ∷ []) (Going v) n tr out → Rows s (DefaultFor p) (At (Going v)) tr out
+  paint_rows p v n tr out h d =
+      let call : Call = validation p.hwnd in
+      let P : Trace → Point → Type 0 = λ tr out. Mapped (λ tr out. Rows s (Calls call) (At (Going v)) tr out) answering tr out in
+      let e = subst (λ x. Parts s (Making call ∷ Feed Single ∷ Feed (Defaulting x) ∷ []) (Going v) n tr out) (paint_result p h) d in
+      let r = mapped_of (Making call ∷ Feed Single ∷ []) (Feed (Defaulting 0)) P (defaulting 0) (Going v) n tr out (single_rows call v n) (λ first mid m tr out r k. defaulting_at 0 mid m tr out (single_given call v first (At mid) r) k) (divide (Making call ∷ Feed Single ∷ []) (Feed (Defaulting 0) ∷ []) e) in
+      default_paint h r.row.row (r.result ∙ ap (on (defaulting 0)) r.row.result ∙ sym (default_answered 0 r.row.got))
+
+  other_rows : (b : Bool) (p : Parameters) (v : Variables) (tr : Trace) (out : Point) → p.number ≢ WM_CLOSE → p.number ≢ WM_PAINT → (p.number == WM_NCCREATE) ≡ b → (tr ≡ []) × (out ≡ At (Given v (Value (if b then 1 else 0)) 0)) → Rows s (DefaultFor p) (At (Going v)) tr out
+  other_rows true p v tr out g f h k = at_empty (λ tr out. Rows s (DefaultFor p) (At (Going v)) tr out) (Given v (Value 1) 0) tr out (default_greeting (number_is p.number WM_NCCREATE h)) k
+  other_rows false p v tr out g f h k = at_empty (λ tr out. Rows s (DefaultFor p) (At (Going v)) tr out) (Given v (Value 0) 0) tr out (default_other g f (number_isnt p.number WM_NCCREATE h)) k
 
   default_rows : (p : Parameters) (v : Variables) (n : ℕ) (tr : Trace) (out : Point) → Parts s (default_pieces p []) (Going v) n tr out → Rows s (DefaultFor p) (At (Going v)) tr out
   default_rows p v n tr out =
       default_either (λ qs. Parts s qs (Going v) n tr out → Rows s (DefaultFor p) (At (Going v)) tr out) p []
       (λ h d. close_rows p v n tr out (number_is p.number WM_CLOSE h) d)
-      (λ h d. other_rows (p.number == WM_NCCREATE) p v tr out (number_isnt p.number WM_CLOSE h) refl (single d))
+      (λ h d. paint_rows p v n tr out (number_is p.number WM_PAINT h) d)
+      (λ h g d. other_rows (p.number == WM_NCCREATE) p v tr out (number_isnt p.number WM_CLOSE h) (number_isnt p.number WM_PAINT g) refl (single d))
 
   -- and the pieces behind it
   default_divided : (p : Parameters) (ps : List Piece) (v : Variables) (n : ℕ) (tr : Trace) (out : Point) → Parts s (default_pieces p ps) (Going v) n tr out → Divided s (default_pieces p []) ps (Going v) n tr out
@@ -398,6 +421,7 @@ module _ (s : Tree) where
   compound_rows (Destroying w) v a x n = λ tr out d. unmaking_rows w v n tr out d
   compound_rows (Parting w part) v a x n = λ tr out d. call_first (Drop part) (Feed (Dropping w)) (Unmaking w) going v n tr out (dropping_at w) d
   compound_rows (Dropping w) v a x n = λ tr out d. unmaking_rows w v n tr out d
+  compound_rows Single v a x n = λ tr out d. nothing d
   compound_rows (Defaulting y) v a x n = defaulted_rows y v a x n
 
   -- procedures

@@ -1,14 +1,14 @@
 -- The compounds: how each begins, and where the answer to each of their calls leads. A compound may begin inside of another.
-use Rattle.std.specs.Prelude.{ℕ, ◌==◌, if◌then◌else◌, Option, Some, None}
-use Rattle.script_tree.specs.declared.messages.TheConstants.{WM_CLOSE, WM_NCCREATE, WM_CREATE, WM_DESTROY, WM_NCDESTROY}
+use Rattle.std.specs.Prelude.{ℕ, pos, ◌==◌, if◌then◌else◌, Option, Some, None}
+use Rattle.script_tree.specs.declared.messages.TheConstants.{WM_PAINT, WM_CLOSE, WM_NCCREATE, WM_CREATE, WM_DESTROY, WM_NCDESTROY}
 use Rattle.user_model.specs.declared.call.Call.{Call}
-use Rattle.user_model.specs.declared.call.Call.TheVariants.{Send, Doom, Unmake, Drop}
+use Rattle.user_model.specs.declared.call.Call.TheVariants.{Send, Doom, Unmake, Drop, Validate}
 use Rattle.user_model.specs.declared.entry.Answer.{Answer}
 use Rattle.user_model.specs.declared.entry.Answer.TheVariants.{Value, Window as WindowMade, Tell, Last, Refused}
 use Rattle.script_tree.specs.declared.variables.Parameters.{Parameters}
 use Rattle.script_tree.specs.declared.frame.Begin.{Begin}
 use Rattle.script_tree.specs.declared.frame.Place.{Place}
-use Rattle.script_tree.specs.declared.frame.Place.TheVariants.{Making, Greeting, Telling, Undoing, Dooming, Unmaking, Destroying, Parting, Dropping, Defaulting}
+use Rattle.script_tree.specs.declared.frame.Place.TheVariants.{Making, Greeting, Telling, Undoing, Dooming, Unmaking, Destroying, Parting, Dropping, Single, Defaulting}
 use Rattle.script_tree.specs.declared.frame.Lead.{Lead}
 use Rattle.script_tree.specs.declared.frame.Lead.TheVariants.{Calls, Runs, Ends}
 
@@ -24,9 +24,17 @@ creation call = record { call = call; place = Making }
 abbrev pub destruction : ℕ → Begin
 destruction w = record { call = Doom w; place = Dooming w }
 
--- the default procedure destroys a window that is to close
+-- the call that makes all of a window clean: none is wider or higher than 4096 pixels
+abbrev pub validation : ℕ → Call
+validation w = Validate w (pos 0) (pos 0) (pos 4096) (pos 4096)
+
+-- a compound of that call alone
+abbrev pub cleaning : ℕ → Begin
+cleaning w = record { call = validation w; place = Single }
+
+-- the default procedure destroys a window that is to close, and makes one clean that is to paint
 abbrev pub default_begin : Parameters → Option Begin
-default_begin p = if p.number == WM_CLOSE then Some (destruction p.hwnd) else None
+default_begin p = if p.number == WM_CLOSE then Some (destruction p.hwnd) else if p.number == WM_PAINT then Some (cleaning p.hwnd) else None
 
 -- the result of the default procedure
 abbrev pub default_result : Parameters → ℕ
@@ -87,4 +95,5 @@ compound_after (Unmaking w) a x = after_unmaking w a
 compound_after (Destroying w) a x = unmakes w
 compound_after (Parting w v) a x = Calls (Drop v) (Dropping w)
 compound_after (Dropping w) a x = unmakes w
+compound_after Single a x = Ends a
 compound_after (Defaulting y) a x = after_default y a

@@ -1,6 +1,6 @@
 -- The traces of a thread as a reader of the script tells them: one row for each form of statement, call and procedure.
 use Rattle.std.specs.Prelude.{◌≡◌, ◌≢◌, ℕ, not, Bool, true, false, if◌then◌else◌, List, [], ◌∷◌, ◌++◌}
-use Rattle.script_tree.specs.declared.messages.TheConstants.{WM_CLOSE, WM_NCCREATE, WM_CREATE, WM_DESTROY, WM_NCDESTROY}
+use Rattle.script_tree.specs.declared.messages.TheConstants.{WM_PAINT, WM_CLOSE, WM_NCCREATE, WM_CREATE, WM_DESTROY, WM_NCDESTROY}
 use Rattle.win_num.specs.declared.message.Hwnd.{Hwnd}
 use Rattle.win_num.specs.declared.send.SendId.{SendId}
 use Rattle.win_num.specs.declared.send.Frame.TheVariants.{Entered, Inside as InsideFrame, Called as CalledFrame, CallbackRun}
@@ -22,7 +22,7 @@ use Rattle.script_tree.specs.declared.variables.Variables.{Variables}
 use Rattle.script_tree.specs.declared.frame.Run.{Run}
 use Rattle.script_tree.specs.Tree.{Tree, body_of, procedure_of}
 use Rattle.script_tree.specs.Values.{value_of, computed, holds, assigned, call_of, creation_call, time_after, start, inside_of, received, settled}
-use Rattle.script_tree.specs.Compounds.{sent, default_result}
+use Rattle.script_tree.specs.Compounds.{sent, validation, default_result}
 use Rattle.script_tree.specs.Pieces.{State, Going, Returning, Given, Trace, End, Whole, Cut}
 use Rattle.script_tree.specs.Steps.{is_callback, is_last, parameters_from, parameters_of, run_of, result_of, variables_of}
 
@@ -227,10 +227,12 @@ pub data Rows (s : Tree) : Part → Point → Trace → Point → Type 0 where
   exit_default : {run : Run} {v : Variables} {tr first second : Trace} {mid out : Point} → is_callback run.frame ≡ false → Rows s (DefaultFor run.parameters) (At (Going v)) first mid → Rows s (Exit run) (on (returning (default_result run.parameters)) mid) second out → tr ≡ first ++ second → Rows s (Exit run) (At (Going v)) tr out
   -- the default procedure of WM_CLOSE: the destruction of the window, and the result 0 or the refusal
   default_close : {p : Parameters} {v : Variables} {tr : Trace} {got out : Point} → p.number ≡ WM_CLOSE → Rows s (Destruction p.hwnd) (At (Going v)) tr got → out ≡ on (defaulting 0) got → Rows s (DefaultFor p) (At (Going v)) tr out
+  -- of WM_PAINT: the call that makes all of the window clean, and the result 0 or the refusal
+  default_paint : {p : Parameters} {v : Variables} {tr : Trace} {got out : Point} → p.number ≡ WM_PAINT → Rows s (Calls (validation p.hwnd)) (At (Going v)) tr got → out ≡ on (defaulting 0) got → Rows s (DefaultFor p) (At (Going v)) tr out
   -- of WM_NCCREATE: nothing, and the result 1
   default_greeting : {p : Parameters} {v : Variables} → p.number ≡ WM_NCCREATE → Rows s (DefaultFor p) (At (Going v)) [] (ended v (Value 1))
   -- of all other messages: nothing, and the result 0
-  default_other : {p : Parameters} {v : Variables} → p.number ≢ WM_CLOSE → p.number ≢ WM_NCCREATE → Rows s (DefaultFor p) (At (Going v)) [] (ended v (Value 0))
+  default_other : {p : Parameters} {v : Variables} → p.number ≢ WM_CLOSE → p.number ≢ WM_PAINT → p.number ≢ WM_NCCREATE → Rows s (DefaultFor p) (At (Going v)) [] (ended v (Value 0))
   -- a destruction: `doom`, and then the rest
   destruction : {w : ℕ} {v : Variables} {tr first second : Trace} {got out : Point} → Rows s (Calls (Doom w)) (At (Going v)) first got → Rows s (Doomed w) got second out → tr ≡ first ++ second → Rows s (Destruction w) (At (Going v)) tr out
   -- a refused `doom` ends it

@@ -1,10 +1,10 @@
 //! How compound statements begin, and where they go on.
 
 ghost use Rattle.std.specs.Prelude.{◌≡◌};
-ghost use Rattle.script_tree.specs.Compounds.{sent as sent_of, creation as creation_of, destruction as destruction_of, default_begin, default_result as default_of, undoes as undoes_of, unmakes as unmakes_of, compound_after, after_making as making_leads, after_greeting as greeting_leads, after_telling as telling_leads, after_dooming as dooming_leads, after_unmaking as unmaking_leads, after_default as default_leads};
+ghost use Rattle.script_tree.specs.Compounds.{sent as sent_of, creation as creation_of, destruction as destruction_of, cleaning as cleaning_of, default_begin, default_result as default_of, undoes as undoes_of, unmakes as unmakes_of, compound_after, after_making as making_leads, after_greeting as greeting_leads, after_telling as telling_leads, after_dooming as dooming_leads, after_unmaking as unmaking_leads, after_default as default_leads};
 
 use crate::frame::{Begin, Lead, Place};
-use crate::messages::{WM_CLOSE, WM_CREATE, WM_DESTROY, WM_NCCREATE, WM_NCDESTROY};
+use crate::messages::{WM_CLOSE, WM_CREATE, WM_DESTROY, WM_NCCREATE, WM_NCDESTROY, WM_PAINT};
 use crate::variables::Parameters;
 use user_model::{Answer, Call};
 use win_num::Hwnd;
@@ -29,16 +29,29 @@ impl Begin {
             place: Place::Dooming(window),
         }
     }
+
+    /// The call that makes all of the window of this number clean. No window is wider or higher than 4096
+    /// pixels.
+    fn cleaning(window: u64) -> Begin
+        ensures { result ≡ cleaning_of window }
+    {
+        Begin {
+            call: Call::Validate(window, 0, 0, 4096, 4096),
+            place: Place::Single,
+        }
+    }
 }
 
 impl Parameters {
     /// The compound inside of the default procedure for this message, if there is one: it destroys a window
-    /// that is to close (Microsoft, WM_CLOSE message).
+    /// that is to close, and makes one clean that is to paint (Microsoft, WM_CLOSE and WM_PAINT messages).
     pub fn default_begin(&self) -> Option<Begin>
         ensures { result ≡ default_begin self.now }
     {
         if self.number == u64::from(WM_CLOSE) {
             Some(Begin::destruction(self.hwnd))
+        } else if self.number == u64::from(WM_PAINT) {
+            Some(Begin::cleaning(self.hwnd))
         } else {
             None
         }
@@ -72,6 +85,7 @@ impl Place {
             Place::Destroying(window) => unmakes(window),
             Place::Parting(window, part) => Lead::Calls(Call::Drop(part), Place::Dropping(window)),
             Place::Dropping(window) => unmakes(window),
+            Place::Single => Lead::Ends(*answer),
             Place::Defaulting(result) => after_default(result, answer),
         }
     }

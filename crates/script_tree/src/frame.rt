@@ -36,6 +36,8 @@ pub enum Place {
     Parting(u64, u64),
     /// `destroy`: a window is taken away.
     Dropping(u64),
+    /// A compound of one call: that is being made.
+    Single,
     /// The default procedure, which has this result where nothing is refused: the compound inside of it
     /// runs (Microsoft, DefWindowProc function).
     Defaulting(u64),

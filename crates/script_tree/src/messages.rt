@@ -6,6 +6,9 @@ pub const WM_CREATE: u32 = 1;
 /// A window is being destroyed (Microsoft, WM_DESTROY message).
 pub const WM_DESTROY: u32 = 2;
 
+/// A window is to be painted (Microsoft, WM_PAINT message).
+pub const WM_PAINT: u32 = 15;
+
 /// A window is to be closed (Microsoft, WM_CLOSE message).
 pub const WM_CLOSE: u32 = 16;
 

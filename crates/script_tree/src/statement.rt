@@ -49,6 +49,15 @@ pub enum CallStatement {
     AwaitTitle(u32),
     /// `window_at X Y`; a value from 2^63 on is a number below 0, by two's complement (Microsoft, WindowFromPoint function).
     WindowAt(Operand, Operand),
+    /// `invalidate W L T R B ERASE`; an edge from 2^63 on is a number below 0, by two's complement (Microsoft,
+    /// InvalidateRect function).
+    Invalidate(Operand, Operand, Operand, Operand, Operand, Operand),
+    /// `validate W L T R B`, likewise (Microsoft, ValidateRect function).
+    Validate(Operand, Operand, Operand, Operand, Operand),
+    /// `update_rect W` (Microsoft, GetUpdateRgn and GetUpdateRect functions).
+    UpdateRect(Operand),
+    /// `end_paint W` (Microsoft, EndPaint function).
+    EndPaint(Operand),
     /// `clock` (Microsoft, GetTickCount64 function).
     Clock,
     /// `yield`

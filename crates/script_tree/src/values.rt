@@ -1,7 +1,7 @@
 //! The values of operands and tests, and the calls of statements.
 
 ghost use Rattle.std.specs.Prelude.{◌≡◌};
-ghost use Rattle.script_tree.specs.Values.{value_of, edge_of, computed, compared, holds as holds_of, call_of, creation_call, dispatch_of, IsSend, IsShort};
+ghost use Rattle.script_tree.specs.Values.{value_of, edge_of, computed, compared, holds as holds_of, call_of, creation_call, dispatch_of, IsSend, IsRectangle, IsShort};
 
 use crate::operand::{Comparison, Operand, Operator, Test};
 use crate::statement::{CallStatement, Creation};
@@ -125,6 +125,8 @@ impl CallStatement {
             CallStatement::SendTimeout(_, _, _, _, _, _) => self.send(variables),
             CallStatement::SendNotify(_, _, _, _) => self.send(variables),
             CallStatement::SendCallback(_, _, _, _, _, _) => self.send(variables),
+            CallStatement::Invalidate(_, _, _, _, _, _) => self.rectangle(variables),
+            CallStatement::Validate(_, _, _, _, _) => self.rectangle(variables),
             _ => self.short_call(variables),
         }
     }
@@ -170,6 +172,30 @@ impl CallStatement {
         }
     }
 
+    fn rectangle(&self, variables: &Variables) -> Call
+        requires { IsRectangle self.now }
+        ensures { result ≡ call_of self.now variables.now }
+    {
+        match self {
+            CallStatement::Invalidate(window, left, top, right, bottom, erase) => Call::Invalidate(
+                window.value(variables),
+                left.edge(variables),
+                top.edge(variables),
+                right.edge(variables),
+                bottom.edge(variables),
+                erase.value(variables),
+            ),
+            CallStatement::Validate(window, left, top, right, bottom) => Call::Validate(
+                window.value(variables),
+                left.edge(variables),
+                top.edge(variables),
+                right.edge(variables),
+                bottom.edge(variables),
+            ),
+            _ => unreachable!(),
+        }
+    }
+
     fn short_call(&self, variables: &Variables) -> Call
         requires { IsShort self.now }
         ensures { result ≡ call_of self.now variables.now }
@@ -190,6 +216,8 @@ impl CallStatement {
             CallStatement::WindowAt(x, y) => {
                 Call::WindowAt(x.edge(variables), y.edge(variables))
             }
+            CallStatement::UpdateRect(window) => Call::UpdateRect(window.value(variables)),
+            CallStatement::EndPaint(window) => Call::EndPaint(window.value(variables)),
             CallStatement::Clock => Call::Clock,
             CallStatement::Yield => Call::Yield,
             _ => unreachable!(),

@@ -160,6 +160,7 @@ impl Variables {
             Answer::Done { result, cause } => (*result, error_of(*cause)),
             Answer::Value(number) => (*number, 0),
             Answer::Window(window) => (u64::from(window.0), 0),
+            Answer::Update { kind, .. } => (u64::from(*kind), 0),
             Answer::Got { msg, .. } => (u64::from(msg.number != names::WM_QUIT), 0),
             Answer::Nothing => (0, 0),
             Answer::Called(_) => (value, 0),
@@ -168,7 +169,7 @@ impl Variables {
             Answer::Ended | Answer::Wait | Answer::Stuck | Answer::Gone => (1, 0),
             Answer::Posted(_) | Answer::Begun(_) | Answer::Left(_) => (1, 0),
             Answer::Tell(_) | Answer::Last(_) => (1, 0),
-            Answer::Advanced(_) | Answer::Busy(_) => (1, 0),
+            Answer::Advanced(_) | Answer::Busy(_) | Answer::Painting { .. } => (1, 0),
             Answer::Enter { .. } | Answer::Callback { .. } => (1, 0),
         };
         self.last_result = last_result;

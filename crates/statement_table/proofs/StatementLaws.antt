@@ -1,22 +1,13 @@
 -- A statement is made of its parts again.
-use Rattle.std.proofs.Common.{◌≡◌, List, Option, Some, None, refl, ap, sym, ◌∙◌}
-use Rattle.std.specs.Prelude.{map, option_map}
-use Rattle.std.specs.Option.{option_or}
+use Rattle.std.proofs.Common.{◌≡◌, List, Some, refl, ap, sym, ◌∙◌}
+use Rattle.std.specs.Prelude.{map}
 use Rattle.call_table.specs.declared.calls.CallName.{CallName}
 use Rattle.script_tree.specs.declared.statement.CallStatement.{CallStatement}
 use Rattle.script_tree.specs.declared.statement.CallStatement.TheVariants as calls
 use Rattle.statement_table.specs.declared.part.Part.{Part}
-use Rattle.statement_table.specs.declared.split.SplitStatement.{SplitStatement}
 use Rattle.statement_table.specs.Parts.{place_of_part}
 use Rattle.statement_table.specs.Places.{statement_places}
-use Rattle.statement_table.specs.Splits.{Split, read_split}
 use Rattle.statement_table.specs.Statements.{found_split, statement_name, statement_parts, made_statement}
-
--- ---- the groups one after the other
-
-pub found_next : (a b r : Option SplitStatement) (x y : Option Split) → option_map read_split a ≡ x → option_map read_split b ≡ y → r ≡ option_or a b → option_map read_split r ≡ option_or x y
-found_next None b r x y first next or = ap (option_map read_split) or ∙ next ∙ ap (λ (o : Option Split). option_or o y) first
-found_next (Some s) b r x y first next or = ap (option_map read_split) or ∙ ap (λ (o : Option Split). option_or o y) first
 
 -- no statement is left out
 pub is_found : (c : CallStatement) → found_split c ≡ Some (record { name = statement_name c; parts = statement_parts c })

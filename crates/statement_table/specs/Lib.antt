@@ -1,5 +1,6 @@
 pub mod Clock
 pub mod Delivery
+pub mod Drawing
 pub mod Lookups
 pub mod Parts
 pub mod Places

@@ -7,6 +7,7 @@
 
 mod clock;
 mod delivery;
+mod drawing;
 mod lookups;
 mod part;
 mod parts;

@@ -24,6 +24,8 @@ fn place_of(field: Field) -> Place
         Field::Count => Place::Operand,
         Field::ShortMessage => Place::Operand,
         Field::Pixel => Place::Operand,
+        Field::Flag => Place::Operand,
+        Field::RegionKind => Place::Operand,
         Field::Source => Place::Operand,
         Field::Cause => Place::Operand,
         Field::Code => Place::Operand,

@@ -9,6 +9,7 @@ ghost use Rattle.statement_table.specs.Statements.{found_split, statement_name, 
 
 use crate::clock::{made_clock, split_clock};
 use crate::delivery::{made_delivery, split_delivery};
+use crate::drawing::{made_drawing, split_drawing};
 use crate::lookups::{made_lookup, split_lookup};
 use crate::part::{Part, Parts};
 use crate::registrations::{made_registration, split_registration};
@@ -18,16 +19,29 @@ use crate::split::SplitStatement;
 use call_table::CallName;
 use script_tree::CallStatement;
 
-/// A statement taken apart by its group.
+/// A statement taken apart by the first group that has it. The groups after it are not asked.
 fn found_split(call: CallStatement) -> Option<SplitStatement>
     ensures { option_map read_split result ≡ found_split call }
 {
-    split_delivery(call)
-        .or(split_send(call))
-        .or(split_reply(call))
-        .or(split_registration(call))
-        .or(split_lookup(call))
-        .or(split_clock(call))
+    if let Some(split) = split_delivery(call) {
+        return Some(split);
+    }
+    if let Some(split) = split_send(call) {
+        return Some(split);
+    }
+    if let Some(split) = split_reply(call) {
+        return Some(split);
+    }
+    if let Some(split) = split_registration(call) {
+        return Some(split);
+    }
+    if let Some(split) = split_lookup(call) {
+        return Some(split);
+    }
+    if let Some(split) = split_drawing(call) {
+        return Some(split);
+    }
+    split_clock(call)
 }
 
 /// A statement taken apart: the call that it makes, and its parts in their places.
@@ -67,6 +81,7 @@ fn made_statement(name: CallName, parts: &[Part]) -> Option<CallStatement>
         CallName::Registration(name) => made_registration(name, parts),
         CallName::Window(_) => None,
         CallName::Lookup(name) => made_lookup(name, parts),
+        CallName::Drawing(name) => made_drawing(name, parts),
         CallName::Clock(name) => made_clock(name, parts),
     }
 }

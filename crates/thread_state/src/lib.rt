@@ -5,7 +5,7 @@
 mod passing;
 mod thread;
 
-pub use passing::passes;
+pub use passing::{passes, passes_window};
 pub use thread::ThreadState;
 
 #[cfg(test)]

@@ -19,7 +19,7 @@ pub fn passes(tree: &Tree, filter: Filter, msg: &Msg) -> bool
 
 /// Whether a filter's window lets a window pass: 0 lets all pass, minus one what has no window, and a
 /// live window itself and what stands below it.
-fn passes_window(tree: &Tree, wanted: u64, w: Hwnd) -> bool
+pub fn passes_window(tree: &Tree, wanted: u64, w: Hwnd) -> bool
     ensures { result ≡ passes_window_in tree.now.live wanted w.0 }
 {
     if wanted == 0 || (wanted == names::NO_WINDOW && w.0 == 0) {

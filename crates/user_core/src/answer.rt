@@ -1,7 +1,7 @@
 //! What a call answers, from the state.
 
 ghost use Rattle.std.specs.Prelude.{◌≡◌, ◌<◌, ◌≤◌, false};
-ghost use Rattle.core_deliver.specs.Groups.{is_delivery, is_retrieval, is_window_call};
+ghost use Rattle.core_deliver.specs.Groups.{is_delivery, is_drawing, is_retrieval, is_window_call};
 ghost use Rattle.user_model.specs.Past.{is_full};
 ghost use Rattle.user_model.specs.Replies.{row, thread_reply};
 ghost use Rattle.win_num.specs.declared.code.Code.TheVariants.{Full};
@@ -11,8 +11,9 @@ ghost use Rattle.user_model.specs.Idle.{is_wait, is_idle, is_barred, first_busy,
 use crate::actor::{Actor, actor_of};
 use crate::clock::{advanced, sleep_until_answer, soonest, tick_answer};
 use core_deliver::{
-    admit, delivery_answer, is_delivery, is_retrieval, is_window_call, retrieval_answer,
+    admit, delivery_answer, is_delivery, is_drawing, is_retrieval, is_window_call, retrieval_answer,
 };
+use core_draw::drawing_answer;
 use core_state::CoreState;
 use core_window::window_answer;
 use user_model::{Answer, Call};
@@ -25,6 +26,7 @@ fn row_answer(state: &CoreState, thread: u8, call: Call) -> Answer
     requires no_retrieval { is_retrieval call ≡ false }
     requires no_delivery { is_delivery call ≡ false }
     requires no_window { is_window_call call ≡ false }
+    requires no_drawing { is_drawing call ≡ false }
     ensures { result ≡ row state.now.setup state.now.past thread call }
 {
     match call {
@@ -42,6 +44,7 @@ fn own_answer(state: &CoreState, who: Thread, call: Call) -> Answer
     requires no_retrieval { is_retrieval call ≡ false }
     requires no_delivery { is_delivery call ≡ false }
     requires no_window { is_window_call call ≡ false }
+    requires no_drawing { is_drawing call ≡ false }
     ensures { result ≡ refuse (is_full state.now.past) Full (thread_reply state.now.setup state.now.past who.0 call) }
 {
     match admit(state, who, call) {
@@ -64,6 +67,9 @@ fn thread_answer(state: &CoreState, thread: u8, call: Call) -> Answer
     }
     if is_window_call(call) {
         return window_answer(state, Thread(thread), call);
+    }
+    if is_drawing(call) {
+        return drawing_answer(state, Thread(thread), call);
     }
     own_answer(state, Thread(thread), call)
 }
@@ -153,6 +159,7 @@ pub fn answer(state: &CoreState, who: Thread, call: Call) -> Answer
     requires no_retrieval { is_retrieval call ≡ false }
     requires no_delivery { is_delivery call ≡ false }
     requires no_window { is_window_call call ≡ false }
+    requires no_drawing { is_drawing call ≡ false }
     ensures { result ≡ reply state.now.setup state.now.past who.0 call }
 {
     match actor_of(who) {

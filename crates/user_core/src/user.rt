@@ -8,7 +8,8 @@ ghost use Rattle.user_model.specs.Setups.{IsSetup};
 
 use crate::actor::{Actor, actor_of};
 use crate::answer::{answer, have_all_ended, is_barred, is_clock_barred};
-use core_deliver::{deliver, is_delivery, is_retrieval, is_window_call, retrieve};
+use core_deliver::{deliver, is_delivery, is_drawing, is_retrieval, is_window_call, retrieve};
+use core_draw::draw;
 use core_state::CoreState;
 use core_window::window;
 use std::alloc::{AllocError, Global};
@@ -78,6 +79,9 @@ impl Machine for User {
         }
         if is_window_call(call) {
             return window(&mut self.state, who, call);
+        }
+        if is_drawing(call) {
+            return draw(&mut self.state, who, call);
         }
         let answer = answer(&self.state, who, call);
         if self.state.is_full() {

@@ -1,6 +1,6 @@
 -- A refused entry changes nothing, and posts leave in posted order.
 use Rattle.std.proofs.Common.{◌≡◌, ◌≢◌, ◌≤◌, ◌<◌, ℕ, zero, suc, not, reverse, Bool, true, false, cond, eqb, List, [], ◌∷◌, length, Option, Some, None, refl, sym, ap, ◌∙◌, subst, arith}
-use Rattle.std.specs.Prelude.{◌+◌, ◌&&◌, pos, nat_le, nat_lt, find}
+use Rattle.std.specs.Prelude.{◌+◌, ◌&&◌, nat_le, nat_lt, find, unwrap_or}
 use Rattle.std.specs.List.{AllByRecursion}
 use Rattle.std.proofs.lemmas.Bool.{false≢true, eqb-true}
 use Rattle.std.proofs.lemmas.Bool.Decides.{nat_tests}
@@ -8,36 +8,34 @@ use Rattle.win_num.specs.declared.message.Thread.{Thread}
 use Rattle.win_num.specs.declared.message.Filter.{Filter}
 use Rattle.win_num.specs.declared.message.Hwnd.{Hwnd}
 use Rattle.win_num.specs.declared.shapes.Point.{Point}
-use Rattle.win_num.specs.PixelSets.{Box, has_pixel}
+use Rattle.win_num.specs.PixelSets.{Box, kind_of}
 use Rattle.win_num.specs.declared.code.Code.{Code}
 use Rattle.win_num.specs.declared.code.Code.TheVariants.{Full, NotNow}
 use Rattle.user_model.specs.declared.call.Call.{Call}
-use Rattle.user_model.specs.declared.call.Call.TheVariants.{Tick, Advance, WindowAt}
+use Rattle.user_model.specs.declared.call.Call.TheVariants.{Peek, Get, UpdateRect, BeginPaint, Tick, Advance, WindowAt}
 use Rattle.user_model.specs.declared.entry.Answer.{Answer}
-use Rattle.user_model.specs.declared.entry.Answer.TheVariants.{Refused, Value, Window as WindowTold}
+use Rattle.user_model.specs.declared.entry.Answer.TheVariants.{Nothing, Refused, Value, Wait, Window as WindowTold}
 use Rattle.user_model.specs.declared.entry.Entry.{Entry}
 use Rattle.user_model.specs.declared.entry.Setup.{Setup}
 use Rattle.user_model.specs.Past.{Past, is_full, is_refused, is_refusal}
 use Rattle.user_model.specs.Posts.{PostedMsg, first_post, passes, posted}
 use Rattle.user_model.specs.Next.{is_empty, next_quit}
-use Rattle.user_model.specs.Refusals.{refuse, invalid_parameter}
-use Rattle.user_model.specs.Looks.{place_of, is_shown}
-use Rattle.user_model.specs.Pixels.{owner, point}
+use Rattle.user_model.specs.Filters.{filter_of, is_no_filter_window}
+use Rattle.user_model.specs.Refusals.{refuse, if_live, if_own, invalid_parameter, invalid_window_handle}
+use Rattle.user_model.specs.Pixels.{origin, point}
+use Rattle.user_model.specs.Dirty.{dirty_pixels, must_erase}
+use Rattle.user_model.specs.Painting.{is_painting}
+use Rattle.user_model.specs.ReplyDrawing.{bounds_from, painting_begun, update_told}
 use Rattle.user_model.specs.Replies.{is_barred_by, row, thread_reply}
 use Rattle.user_model.specs.Stacks.{top}
 use Rattle.user_model.specs.Threads.{is_running}
-use Rattle.user_model.specs.Windows.{live, parent_in}
-use Rattle.user_model.specs.ZOrder.{hwnd, siblings}
+use Rattle.user_model.specs.Windows.{is_live}
 use Rattle.user_model.specs.Idle.{reply, clock_row}
 use Rattle.user_model.specs.Legal.{IsLawful}
 use Rattle.user_model.specs.Machines.{entry_of}
 use Rattle.user_model.proofs.PostLaws.{IsRising, posted_rises}
-use Rattle.screen_state.proofs.OwnersKept.{owner_same}
 use Rattle.user_laws.specs.Kept.{ChangesNothing}
-
--- a refused entry leaves the owners of pixels
-owner_kept : (past : Past) (by : Thread) (asked : Call) (code : Code) (setup : Setup) (p : Point) → owner setup (entry_of by asked (Refused code) ∷ past) p ≡ owner setup past p
-owner_kept past by asked code setup p = owner_same past (entry_of by asked (Refused code)) refl (λ w. refl) (λ q. refl) setup p
+use Rattle.user_laws.proofs.PaintKept.{corner_kept, dirty_kept, next_kept, owner_kept, pixels_kept}
 
 changes_none : (past : Past) (who : Thread) (call : Call) (a : Answer) → is_refusal a ≡ true → ChangesNothing past (entry_of who call a)
 changes_none past who call (Refused code) is = record {
@@ -49,6 +47,9 @@ changes_none past who call (Refused code) is = record {
   same_looks = λ w. refl;
   same_siblings = λ p. refl;
   same_owners = λ setup p. owner_kept past who call code setup p;
+  same_dirty = λ setup w p. dirty_kept past who call code setup w p;
+  same_flags = λ setup w. refl;
+  same_painting = λ w. refl;
   same_marks = λ w. refl;
   same_steps = λ step. refl;
   same_classes = refl;
@@ -74,8 +75,19 @@ changes_nothing past e is = changes_none past e.who e.call e.answer is
 fewer : (n : ℕ) → nat_le 2097152 (suc n) ≡ false → nat_le 2097152 n ≡ false
 fewer n is = grind (arith, nat_tests, is)
 
+-- what is told of a window's dirty pixels
+update_same : (past : Past) (by : Thread) (asked : Call) (code : Code) (setup : Setup) (w : ℕ) (tell : ℕ → Box → Answer)
+    → tell (kind_of (dirty_pixels setup (entry_of by asked (Refused code) ∷ past) w)) (bounds_from (origin (entry_of by asked (Refused code) ∷ past) w) (dirty_pixels setup (entry_of by asked (Refused code) ∷ past) w)) ≡ tell (kind_of (dirty_pixels setup past w)) (bounds_from (origin past w) (dirty_pixels setup past w))
+update_same past by asked code setup w tell =
+    ap (λ (ps : List Point). tell (kind_of ps) (bounds_from (origin (entry_of by asked (Refused code) ∷ past) w) ps)) (pixels_kept past by asked code setup w)
+    ∙ ap (λ (o : Point). tell (kind_of (dirty_pixels setup past w)) (bounds_from o (dirty_pixels setup past w))) (corner_kept past by asked code w)
+
 row_same : (setup : Setup) (past : Past) (by : Thread) (asked : Call) (code : Code) (who : ℕ) (call : Call) → row setup (entry_of by asked (Refused code) ∷ past) who call ≡ row setup past who call
 row_same setup past by asked code who (WindowAt x y) = ap (λ (w : Hwnd). WindowTold w) (owner_kept past by asked code setup (point x y))
+row_same setup past by asked code who (Peek w min max flags) = ap (λ (o : Option Answer). refuse (nat_lt 3 flags) invalid_parameter (refuse (is_no_filter_window past who w) invalid_window_handle (unwrap_or o Nothing))) (next_kept past by asked code setup who (filter_of w min max))
+row_same setup past by asked code who (Get w min max) = ap (λ (o : Option Answer). refuse (is_no_filter_window past who w) invalid_window_handle (unwrap_or o Wait)) (next_kept past by asked code setup who (filter_of w min max))
+row_same setup past by asked code who (UpdateRect w) = update_same past by asked code setup w (λ n b. if_live past w (update_told n b))
+row_same setup past by asked code who (BeginPaint w) = update_same past by asked code setup w (λ n b. refuse (is_live past w && is_painting past w) invalid_parameter (if_own past who w (painting_begun (must_erase setup past w) b)))
 row_same setup past by asked code who _ = refl
 
 thread_same : (setup : Setup) (past : Past) (by : Thread) (asked : Call) (a : Answer) → is_refusal a ≡ true → (who : ℕ) (call : Call) → thread_reply setup (entry_of by asked a ∷ past) who call ≡ thread_reply setup past who call

@@ -3,6 +3,8 @@ pub mod Forest
 pub mod KeptByRefusals
 pub mod LastLooks
 pub mod Once
+pub mod Painted
+pub mod PaintKept
 pub mod ReadyOrder
 pub mod Rows
 pub mod Standing

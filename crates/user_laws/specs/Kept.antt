@@ -9,6 +9,8 @@ use Rattle.user_model.specs.Windows.{live, windows_made}
 use Rattle.user_model.specs.Looks.{look}
 use Rattle.user_model.specs.ZOrder.{siblings}
 use Rattle.user_model.specs.Pixels.{owner}
+use Rattle.user_model.specs.Dirty.{is_dirty, must_erase}
+use Rattle.user_model.specs.Painting.{is_painting}
 use Rattle.user_model.specs.Destruction.{Step, is_marked, was_given}
 use Rattle.user_model.specs.Classes.{classes, registered_count, message_names}
 use Rattle.user_model.specs.Posts.{posts, posted, quit}
@@ -26,6 +28,9 @@ pub record ChangesNothing (past : Past) (e : Entry) : Type 0 where
   pub same_looks : (w : ℕ) → look (e ∷ past) w ≡ look past w
   pub same_siblings : (p : ℕ) → siblings (e ∷ past) p ≡ siblings past p
   pub same_owners : (setup : Setup) (p : Point) → owner setup (e ∷ past) p ≡ owner setup past p
+  pub same_dirty : (setup : Setup) (w : ℕ) (p : Point) → is_dirty setup (e ∷ past) w p ≡ is_dirty setup past w p
+  pub same_flags : (setup : Setup) (w : ℕ) → must_erase setup (e ∷ past) w ≡ must_erase setup past w
+  pub same_painting : (w : ℕ) → is_painting (e ∷ past) w ≡ is_painting past w
   pub same_marks : (w : ℕ) → is_marked (e ∷ past) w ≡ is_marked past w
   pub same_steps : (step : Step) → was_given (e ∷ past) step ≡ was_given past step
   pub same_classes : classes (e ∷ past) ≡ classes past

@@ -4,6 +4,7 @@
 
 mod machines;
 mod orders;
+mod painting;
 mod ranks;
 mod refusals;
 mod sends;
@@ -13,6 +14,7 @@ mod words;
 
 pub use machines::{send_law, sum_law};
 pub use orders::{destruction_is_in_order, kin_are_destroyed_once, kin_go_before_what_is_above};
+pub use painting::{dirty_pixels_follow, painted_windows_are_live};
 pub use ranks::{owners_have_their_pixels, siblings_are_mended};
 pub use refusals::{posts_leave_in_order, refusals_change_nothing};
 pub use sends::{

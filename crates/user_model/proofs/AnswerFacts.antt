@@ -2,6 +2,7 @@
 use Rattle.std.proofs.Common.{◌≡◌, ℕ, Bool, true, false, not, eqb, List, [], length, Option, Some, None}
 use Rattle.std.specs.Prelude.{◌⊎◌, ◌||◌, nat_le}
 use Rattle.win_num.specs.declared.message.Filter.{Filter}
+use Rattle.win_num.specs.declared.message.Hwnd.{Hwnd}
 use Rattle.win_num.specs.declared.message.Msg.{Msg}
 use Rattle.win_num.specs.declared.send.SendId.{SendId}
 use Rattle.win_num.specs.declared.send.Cause.{Cause}
@@ -11,7 +12,7 @@ use Rattle.win_num.specs.declared.send.Frame.{Frame}
 use Rattle.win_num.specs.declared.send.Frame.TheVariants.{Entered, Inside as InsideFrame}
 use Rattle.win_num.specs.declared.code.Code.{Code}
 use Rattle.win_num.specs.declared.code.Code.TheVariants.{NotNow}
-use Rattle.win_num.specs.declared.names.TheConstants.{WM_QUIT}
+use Rattle.win_num.specs.declared.names.TheConstants.{WM_PAINT, WM_QUIT}
 use Rattle.user_model.specs.declared.call.Call.{Call}
 use Rattle.user_model.specs.declared.call.Call.TheVariants.{Post, PostThread, Dispatch, Await, Leave, Unmake, EndThread}
 use Rattle.user_model.specs.declared.entry.Answer.{Answer}
@@ -28,7 +29,8 @@ use Rattle.user_model.specs.Posts.{PostedMsg, PostedQuit, message, posted, queue
 use Rattle.user_model.specs.Stacks.{top, has_room, waits}
 use Rattle.user_model.specs.Sends.{SentMsg, Outcome, send, answer, unfinished}
 use Rattle.user_model.specs.Ready.{ReadyMsg, to_enter, to_call_back, ready_head}
-use Rattle.user_model.specs.Next.{next, next_ready, result_of}
+use Rattle.user_model.specs.Next.{next, next_ready, next_quit, result_of}
+use Rattle.user_model.specs.Painting.{to_paint}
 use Rattle.user_model.specs.Refusals.{is_no_message}
 use Rattle.user_model.specs.ReplyDelivery.{next_post_number, is_no_post_window}
 use Rattle.user_model.specs.ReplySends.{next_send_number, deadline, has_come}
@@ -69,6 +71,18 @@ pub record IsQuit (past : Past) (who : ℕ) (call : Call) (n : ℕ) (m : Msg) : 
   pub stands : quit past who ≡ Some of
   pub is_zero : n ≡ 0
   pub is_message : m ≡ message 0 WM_QUIT of.code 0 (clock past) (cursor past)
+
+-- WM_PAINT was retrieved: nothing is ready, no post passes, quit doesn't come, and the window is the first that wants it
+pub record IsPaint (setup : Setup) (past : Past) (who : ℕ) (call : Call) (n : ℕ) (m : Msg) : Type 0 where
+  pub pass : Filter
+  pub is_call : retrieves call ≡ Some pass
+  pub is_unready : next_ready past who ≡ None
+  pub is_none : first_post past who pass ≡ None
+  pub no_quit : next_quit past who ≡ None
+  pub of : Hwnd
+  pub is_first : to_paint setup past who pass ≡ Some of
+  pub is_zero : n ≡ 0
+  pub is_message : m ≡ message of.0 WM_PAINT 0 0 (clock past) (cursor past)
 
 -- a retrieval with the filter finds no next message
 abbrev pub NoneComes : Setup → Past → ℕ → Call → Type 0
@@ -192,11 +206,14 @@ Says setup past who call (answers.Tell v) = IsUnmaking call
 Says setup past who call (answers.Last v) = IsUnmaking call
 Says setup past who call (answers.Advanced time) = ⊥
 Says setup past who call (answers.Busy t) = ⊥
+Says setup past who call (answers.Update kind l t r b) = Unit {0}
+Says setup past who call (answers.Painting erases l t r b) = Unit {0}
 Says setup past who call (answers.Enter s proc_no w message wparam lparam) = IsEntry past who call s.0 proc_no w.0 message wparam lparam
 Says setup past who call (answers.Callback s proc_no w message extra result) = IsResult past who call s.0 proc_no w.0 message extra result ⊎ IsInsideResult past who call s.0 proc_no w.0 message extra result
 Says setup past who call (answers.Done result cause) = IsDone past who call result cause
 Says setup past who call (answers.Got origins.Posted n m) = IsTaken past who call n m
 Says setup past who call (answers.Got origins.Quit n m) = IsQuit past who call n m
+Says setup past who call (answers.Got origins.Paint n m) = IsPaint setup past who call n m
 Says setup past who call (answers.Refused code) = IsProper call code
 
 -- the same as a fact of its own

@@ -8,7 +8,7 @@ use Rattle.user_model.specs.declared.entry.Origin.TheVariants as origins
 use Rattle.user_model.specs.declared.entry.Setup.{Setup}
 use Rattle.user_model.specs.Past.{Past}
 use Rattle.user_model.specs.Replies.{row}
-use Rattle.user_model.proofs.AnswerFacts.{IsPost, IsTaken, IsQuit, NoneComes}
+use Rattle.user_model.proofs.AnswerFacts.{IsPost, IsTaken, IsQuit, IsPaint, NoneComes}
 use Rattle.user_model.proofs.RowFacts.{says_of}
 
 -- the answer that a post was made tells which, and where it went
@@ -22,6 +22,10 @@ take_told setup past who call n m e = says_of setup past who call (answers.Got o
 -- quit that was handed out tells its filter and its code
 pub quit_told : (setup : Setup) (past : Past) (who : ℕ) (call : Call) (n : ℕ) (m : Msg) → row setup past who call ≡ answers.Got origins.Quit n m → IsQuit past who call n m
 quit_told setup past who call n m e = says_of setup past who call (answers.Got origins.Quit n m) e
+
+-- WM_PAINT that was handed out tells its filter, and the window that is painted first
+pub paint_told : (setup : Setup) (past : Past) (who : ℕ) (call : Call) (n : ℕ) (m : Msg) → row setup past who call ≡ answers.Got origins.Paint n m → IsPaint setup past who call n m
+paint_told setup past who call n m e = says_of setup past who call (answers.Got origins.Paint n m) e
 
 -- a peek that gets nothing finds no next message
 pub nothing_told : (setup : Setup) (past : Past) (who : ℕ) (call : Call) → row setup past who call ≡ answers.Nothing → NoneComes setup past who call

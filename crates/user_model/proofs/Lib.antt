@@ -1,6 +1,7 @@
 pub mod AnswerFacts
 pub mod ClockLaws
 pub mod DeliveryReplies
+pub mod DirtyLaws
 pub mod Forests
 pub mod KeptWindows
 pub mod LegalLaws

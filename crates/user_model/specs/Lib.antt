@@ -2,12 +2,14 @@ pub mod Classes
 pub mod Counts
 pub mod Deeds
 pub mod Destruction
+pub mod Dirty
 pub mod Filters
 pub mod Idle
 pub mod Legal
 pub mod Looks
 pub mod Machines
 pub mod Next
+pub mod Painting
 pub mod Past
 pub mod Pixels
 pub mod Places
@@ -17,6 +19,7 @@ pub mod Refusals
 pub mod Replies
 pub mod ReplyClock
 pub mod ReplyDelivery
+pub mod ReplyDrawing
 pub mod ReplySends
 pub mod ReplyWindows
 pub mod Retrievals

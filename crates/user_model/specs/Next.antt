@@ -1,17 +1,19 @@
 -- The next message of a thread.
 use Rattle.std.specs.Prelude.{if◌then◌else◌, ℕ, Bool, true, false, List, [], ◌∷◌, Option, Some, None, option_map}
 use Rattle.win_num.specs.declared.message.Filter.{Filter}
-use Rattle.win_num.specs.declared.names.TheConstants.{WM_QUIT}
+use Rattle.win_num.specs.declared.message.Hwnd.{Hwnd}
+use Rattle.win_num.specs.declared.names.TheConstants.{WM_PAINT, WM_QUIT}
 use Rattle.user_model.specs.declared.entry.Setup.{Setup}
 use Rattle.user_model.specs.declared.entry.Answer.{Answer}
 use Rattle.user_model.specs.declared.entry.Answer.TheVariants.{Enter, Callback, Got}
-use Rattle.user_model.specs.declared.entry.Origin.TheVariants.{Posted, Quit}
+use Rattle.user_model.specs.declared.entry.Origin.TheVariants.{Posted, Quit, Paint}
 use Rattle.user_model.specs.Past.{Past, or_else}
 use Rattle.user_model.specs.Places.{clock, cursor}
 use Rattle.user_model.specs.Classes.{proc_of}
 use Rattle.user_model.specs.Stacks.{has_room}
 use Rattle.user_model.specs.Sends.{Outcome, answer}
 use Rattle.user_model.specs.Ready.{ReadyMsg, to_enter, to_call_back, ready_head}
+use Rattle.user_model.specs.Painting.{to_paint}
 use Rattle.user_model.specs.Posts.{PostedMsg, PostedQuit, message, posted, first_post, quit}
 
 -- the result of a send, or 0
@@ -49,6 +51,14 @@ is_empty (x ∷ xs) = false
 abbrev pub next_quit : Past → ℕ → Option Answer
 next_quit past t = if is_empty (posted past t) then option_map (got_quit past) (quit past t) else None
 
--- ready sends and results, then the first posted message that passes, then quit
+-- WM_PAINT of a window, with the clock and the cursor of the retrieval
+abbrev pub got_paint : Past → Hwnd → Answer
+got_paint past w = Got Paint 0 (message w.0 WM_PAINT 0 0 (clock past) (cursor past))
+
+-- WM_PAINT for the first window that has a dirty pixel and passes
+abbrev pub next_paint : Setup → Past → ℕ → Filter → Option Answer
+next_paint setup past t f = option_map (got_paint past) (to_paint setup past t f)
+
+-- ready sends and results, then the first posted message that passes, then quit, then painting
 abbrev pub next : Setup → Past → ℕ → Filter → Option Answer
-next setup past t f = or_else (next_ready past t) (or_else (next_posted past t f) (next_quit past t))
+next setup past t f = or_else (next_ready past t) (or_else (next_posted past t f) (or_else (next_quit past t) (next_paint setup past t f)))

@@ -32,9 +32,9 @@ number_or_next past name = unwrap_or (message_number past name) (49152 + length 
 abbrev pub message_reply : Past → ℕ → Answer
 message_reply past name = refuse (is_none (message_number past name) && nat_le 16384 (length (message_names past))) Full (Value (number_or_next past name))
 
--- the styles that a window may have; without painting none is visible
+-- the styles that a window may have
 abbrev pub known_styles : ℕ
-known_styles = WS_CHILD + WS_POPUP + WS_DISABLED
+known_styles = WS_CHILD + WS_POPUP + WS_DISABLED + WS_VISIBLE
 
 -- an unknown style, a child that is a popup, or an extended style that isn't topmost, or is a child's
 abbrev pub is_no_style : ℕ → ℕ → Bool

@@ -82,6 +82,19 @@ pub enum Call {
     IsWindow(u64),
     /// The window's parent, or its owner (Microsoft, GetParent function).
     Parent(u64),
+    /// Makes the pixels of a rectangle dirty that the window owns: the window, the left, top, right and bottom edge in
+    /// pixels from its own left top corner, and 1 where its background is to be erased too, else 0 (Microsoft,
+    /// InvalidateRect function).
+    Invalidate(u64, i64, i64, i64, i64, u64),
+    /// Makes the pixels of a rectangle clean: the window, and the left, top, right and bottom edge in pixels from its own
+    /// left top corner (Microsoft, ValidateRect function).
+    Validate(u64, i64, i64, i64, i64),
+    /// The window's dirty pixels, by kind and least rectangle (Microsoft, GetUpdateRgn and GetUpdateRect functions).
+    UpdateRect(u64),
+    /// Begins to paint a window: makes all of it clean, and tells what was dirty (Microsoft, BeginPaint function).
+    BeginPaint(u64),
+    /// Ends what BeginPaint has begun (Microsoft, EndPaint function).
+    EndPaint(u64),
     /// Ends the thread that makes it, and drops its windows.
     EndThread,
     /// The virtual clock (Microsoft, GetTickCount64 function).

@@ -12,6 +12,8 @@ pub enum Origin {
     Posted,
     /// The thread's own posting of quit.
     Quit,
+    /// A window with dirty pixels (Microsoft, WM_PAINT message).
+    Paint,
 }
 
 /// What a call answers.
@@ -74,7 +76,25 @@ pub enum Answer {
         result: u64,
         cause: Cause,
     },
-    /// A message was retrieved. `number` is that of the post, or 0 for quit.
+    /// A window's dirty pixels: 1 where there is none, 2 where they are all pixels of one rectangle, else 3; and the left,
+    /// top, right and bottom edge of the least rectangle around them, in pixels from the window's left top corner, or 0 0 0 0.
+    Update {
+        kind: u8,
+        l: i32,
+        t: i32,
+        r: i32,
+        b: i32,
+    },
+    /// A window's painting was begun: whether its background is to be erased, and the edges of the least rectangle around
+    /// the pixels that were dirty, in pixels from the window's left top corner, or 0 0 0 0.
+    Painting {
+        erases: bool,
+        l: i32,
+        t: i32,
+        r: i32,
+        b: i32,
+    },
+    /// A message was retrieved. `number` is that of the post, or 0 for another message.
     Got {
         origin: Origin,
         number: u32,

@@ -10,7 +10,7 @@ use Rattle.script_tree.specs.declared.statement.CallStatement.TheVariants.{Yield
 use Rattle.script_tree.specs.declared.statement.Statement.{Statement}
 use Rattle.script_tree.specs.declared.statement.Statement.TheVariants.{Let, Compute, If', IfElse', While', Return, Call as CallOf, Sleep, Create, Destroy, Default as DefaultOf}
 use Rattle.script_tree.specs.declared.frame.Place.{Place}
-use Rattle.script_tree.specs.declared.frame.Place.TheVariants.{Making as MakingWindow, Greeting, Telling, Undoing, Dooming, Unmaking, Destroying, Parting, Dropping, Defaulting}
+use Rattle.script_tree.specs.declared.frame.Place.TheVariants.{Making as MakingWindow, Greeting, Telling, Undoing, Dooming, Unmaking, Destroying, Parting, Dropping, Single, Defaulting}
 use Rattle.script_tree.specs.declared.frame.Lead.{Lead}
 use Rattle.script_tree.specs.declared.frame.Lead.TheVariants.{Calls, Runs, Ends}
 use Rattle.script_tree.specs.declared.variables.Variables.{Variables}
@@ -84,6 +84,7 @@ free_compound (Unmaking w) a x = free_unmaking w a
 free_compound (Destroying w) a x = refl
 free_compound (Parting w v) a x = refl
 free_compound (Dropping w) a x = refl
+free_compound Single a x = tt
 free_compound (Defaulting y) a x = free_default y a
 
 free_call : (ask : CallStatement) (v : Variables) → is_of_clock (call_of ask v) ≡ false
@@ -101,7 +102,7 @@ module _ (s : Tree) (n : ℕ) (left : List Piece) (h : Free left) where
   free_statement (If' t k a) v = either (holds t v) _ _ h h
   free_statement (While' t k a) v = either (holds t v) _ _ h h
   free_statement (CallOf ask) v = (free_call ask v, h)
-  free_statement DefaultOf v = default_either (λ qs. FreeStep left (Becomes qs (Going v))) v.parameters (Settle (Doom v.parameters.hwnd) ∷ []) (λ e. (refl, h)) (λ e. h)
+  free_statement DefaultOf v = default_either (λ qs. FreeStep left (Becomes qs (Going v))) v.parameters (Settle (Doom v.parameters.hwnd) ∷ []) (λ e. (refl, h)) (λ e. (refl, h)) (λ e d. h)
   free_statement (Let x e) v = h
   free_statement (Compute x e op f) v = h
   free_statement (IfElse' t k a j b) v = h
@@ -126,7 +127,7 @@ module _ (s : Tree) (n : ℕ) (left : List Piece) (h : Free left) where
   free_begins (PassEnd loop began) v k = either (n == began) _ _ (refl, h) h
   free_begins (Making call) v k = k
   free_begins (Running run) v k = h
-  free_begins (Leaving run) v k = either (is_callback run.frame) _ _ h (default_either (λ qs. FreeStep left (Becomes qs (Going v))) run.parameters (Left (default_result run.parameters) ∷ Leaving run ∷ []) (λ e. (refl, h)) (λ e. h))
+  free_begins (Leaving run) v k = either (is_callback run.frame) _ _ h (default_either (λ qs. FreeStep left (Becomes qs (Going v))) run.parameters (Left (default_result run.parameters) ∷ Leaving run ∷ []) (λ e. (refl, h)) (λ e. (refl, h)) (λ e d. h))
   free_begins (Leaves frame x) v k = (refl, h)
   free_begins p v k = h
 

@@ -12,19 +12,19 @@ use Rattle.user_model.specs.declared.entry.Answer.TheVariants.{Wait, Window, Tel
 use Rattle.script_tree.specs.declared.frame.Begin.{Begin}
 use Rattle.script_tree.specs.declared.frame.Run.{Run}
 use Rattle.script_tree.specs.declared.frame.Place.{Place}
-use Rattle.script_tree.specs.declared.frame.Place.TheVariants.{Making as MakingWindow, Greeting, Telling, Undoing, Dooming, Unmaking, Destroying, Parting, Dropping, Defaulting}
+use Rattle.script_tree.specs.declared.frame.Place.TheVariants.{Making as MakingWindow, Greeting, Telling, Undoing, Dooming, Unmaking, Destroying, Parting, Dropping, Single, Defaulting}
 use Rattle.script_tree.specs.declared.frame.Lead.{Lead}
 use Rattle.script_tree.specs.declared.frame.Lead.TheVariants.{Calls, Runs, Ends}
 use Rattle.script_tree.specs.declared.variables.Parameters.{Parameters}
 use Rattle.script_tree.specs.declared.variables.Variables.{Variables}
-use Rattle.script_tree.specs.Compounds.{destruction, default_begin, default_result, compound_after}
+use Rattle.script_tree.specs.Compounds.{destruction, cleaning, default_begin, default_result, compound_after}
 use Rattle.script_tree.specs.Values.{settled, received, inside_of}
 use Rattle.script_tree.specs.Tree.{Tree}
 use Rattle.script_tree.specs.Pieces.{Piece, Making, Again, Giving, Settle, Running, Leaving, Leaves, Left, Restore, Feed, State, Going, Returning, Given, Becomes}
 use Rattle.script_tree.specs.Steps.{step, follows, following, answered, after_answer, given, result_of, is_last, goes_on, begun_over, default_over, default_pieces, run_of, parameters_from, parameters_of}
 use Rattle.win_calls.specs.declared.compound.Compound.{Compound}
 use Rattle.win_calls.specs.declared.compound.Compound.TheVariants.{Create, Destroy, Default as DefaultOf}
-use Rattle.script_tree.specs.declared.messages.TheConstants.{WM_CLOSE}
+use Rattle.script_tree.specs.declared.messages.TheConstants.{WM_PAINT, WM_CLOSE}
 use Rattle.win_calls.specs.declared.compound.Got.{Got}
 use Rattle.win_calls.specs.declared.compound.Got.TheVariants.{Start, Answered, Returned}
 use Rattle.win_calls.specs.declared.compound.Next.{Next}
@@ -91,6 +91,7 @@ lead_suits (Unmaking w) a x window around h i = tt
 lead_suits (Destroying w) a x window around h i = plain tt tt refl refl i
 lead_suits (Parting w v) a x window around h i = plain tt tt refl refl i
 lead_suits (Dropping w) a x window around h i = plain tt tt refl refl i
+lead_suits Single a x window around h i = tt
 lead_suits (Defaulting y) (Refused code) x window around h i = tt
 lead_suits (Defaulting y) a x window around h i = tt
 
@@ -209,10 +210,11 @@ hands_to_two turn q a h e =
     let i : IsInside turn.place (Two q a) = subst (λ x. IsInside turn.place x) e h.inside in
     plain h.sent (outer_place q turn.window i.1) h.stays h.goes_on (outer_inside q a i.1 i.2)
 
--- the default procedure has a destruction inside of it, or nothing
-default_some : (b : Bool) (w : ℕ) (begin : Begin) → Some begin ≡ (if b then Some (destruction w) else None) → begin ≡ destruction w
-default_some true w begin e = cc
-default_some false w begin e = absurd cc
+-- the default procedure has a destruction inside of it, the call that makes a window clean, or nothing
+default_begins : (P : Begin → Type 0) (b c : Bool) (w : ℕ) (begin : Begin) → Some begin ≡ (if b then Some (destruction w) else if c then Some (cleaning w) else None) → P (destruction w) → P (cleaning w) → P begin
+default_begins P true c w begin e f g = let same : begin ≡ destruction w = cc in subst P (sym same) f
+default_begins P false true w begin e f g = let same : begin ≡ cleaning w = cc in subst P (sym same) g
+default_begins P false false w begin e f g = absurd cc
 
 first_suits : (c : Compound) (window : Hwnd) (q : Place) (around : Around) → IsPlaceOf window q → IsInside q around → Suits window (first_call c) q around
 first_suits (Create class title parent style extended left top right bottom) window q around h i = plain tt h refl refl i
@@ -400,12 +402,11 @@ module _ (s : Tree) (n : ℕ) where
       (subst (λ x. Leads s n (begun c) (Going v) (Asked (first_turn x Nobody call)) (Make x.call)) (sym f)
       (subst (λ ps. Leads s n ps (Going v) (Asked (first_turn b' Nobody call)) (Make b'.call)) (sym e) l))
 
-  -- the statement `default` of a message that closes a window
+  -- the statement `default` of a message that closes a window, or is to paint it
   pub default_leads : (c : Compound) (p : Parameters) (b : Begin) (x : ℕ) (call : Call) (r : Step) (v : Variables) → begun c ≡ default_pieces p (Settle call ∷ []) → Some b ≡ default_begin p → x ≡ default_result p → r ≡ record { stage = Asked (first_turn b (One (Defaulting x)) call); next = Make b.call } → Leads s n (begun c) (Going v) r.stage r.next
   default_leads c p b x call r v e f g k =
       let turn = first_turn b (One (Defaulting x)) call in
-      let closes : b ≡ destruction p.hwnd = default_some (p.number == WM_CLOSE) p.hwnd b f in
-      let suits : IsTurn turn = subst (λ y. IsTurn (first_turn y (One (Defaulting x)) call)) (sym closes) (plain tt tt refl refl (omega arith, tt)) in
+      let suits : IsTurn turn = default_begins (λ y. IsTurn (first_turn y (One (Defaulting x)) call)) (p.number == WM_CLOSE) (p.number == WM_PAINT) p.hwnd b f (plain tt tt refl refl (omega arith, tt)) (plain tt tt refl refl (omega arith, tt)) in
       let pieces : begun c ≡ Making b.call ∷ behind turn = e ∙ ap (λ y. default_over y (default_result p) (Settle call ∷ [])) (sym f) ∙ ap (λ y. default_over (Some b) y (Settle call ∷ [])) (sym g) in
       carry (begun c) (Going v) (Asked turn) (Make b.call) r k (subst (λ ps. Leads s n ps (Going v) (Asked turn) (Make b.call)) (sym pieces) (asks_leads turn v suits))
 

@@ -3,7 +3,7 @@ use Rattle.std.specs.Prelude.{◌≡◌, ◌<◌, ◌≤◌, ◌^◌, ℕ, false
 use Rattle.script_tree.specs.declared.frame.Begin.{Begin}
 use Rattle.script_tree.specs.declared.frame.Run.{Run}
 use Rattle.script_tree.specs.declared.frame.Place.{Place}
-use Rattle.script_tree.specs.declared.frame.Place.TheVariants.{Making as MakingWindow, Greeting, Telling, Undoing, Dooming, Unmaking, Destroying, Parting, Dropping, Defaulting}
+use Rattle.script_tree.specs.declared.frame.Place.TheVariants.{Making as MakingWindow, Greeting, Telling, Undoing, Dooming, Unmaking, Destroying, Parting, Dropping, Single, Defaulting}
 use Rattle.script_tree.specs.declared.variables.Parameters.{Parameters}
 use Rattle.script_tree.specs.declared.variables.Variables.{Variables}
 use Rattle.script_tree.specs.Tree.{Tree}
@@ -78,6 +78,7 @@ depth (Unmaking w) = 0
 depth (Destroying w) = 0
 depth (Parting w v) = 0
 depth (Dropping w) = 0
+depth Single = 0
 depth (Defaulting x) = 0
 
 -- a place behind a compound inside, from which no other begins

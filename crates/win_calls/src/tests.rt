@@ -156,7 +156,8 @@ fn destroys_a_window_with_a_child(rt: HostRuntime) -> Result<(), Fail> {
     Ok(())
 }
 
-/// A window that is destroyed, one that is gone, and one that goes to another thread meanwhile.
+/// A window that is destroyed, one that is gone, and one that goes to another thread meanwhile; and one
+/// that is to paint.
 #[test]
 fn closes_by_default(rt: HostRuntime) -> Result<(), Fail> {
     let wanted = [
@@ -185,6 +186,18 @@ fn closes_by_default(rt: HostRuntime) -> Result<(), Fail> {
         Compound::Default(16, 16, 0, 0),
         make(Call::Doom(16)),
         &wanted,
+    );
+    asks(
+        &rt,
+        Compound::Default(16, 15, 0, 0),
+        make(Call::Validate(16, 0, 0, 4096, 4096)),
+        &[(answered(Answer::Okay), done(0, 0))],
+    );
+    asks(
+        &rt,
+        Compound::Default(16, 15, 0, 0),
+        make(Call::Validate(16, 0, 0, 4096, 4096)),
+        &[(refused(1400), done(0, 1400))],
     );
     asks(&rt, Compound::Default(16, 129, 0, 0), done(1, 0), &[]);
     asks(&rt, Compound::Default(16, 1024, 0, 0), done(0, 0), &[]);

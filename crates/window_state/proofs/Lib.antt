@@ -1,8 +1,10 @@
+pub mod BoxLaws
 pub mod Bridges
 pub mod ClassLaws
 pub mod ClassSteps
 pub mod Descents
 pub mod Destructions
+pub mod LiveCounts
 pub mod Lookups
 pub mod LookSteps
 pub mod Newest

@@ -56,7 +56,7 @@ less_both x l o = omega (arith, ints)
 less_none : (x : ℤ) → x ≡ x -ℤ pos 0
 less_none x = omega (arith, ints)
 
-same_point : (a b c d : ℤ) → a ≡ c → b ≡ d → point a b ≡ point c d
+pub same_point : (a b c d : ℤ) → a ≡ c → b ≡ d → point a b ≡ point c d
 same_point a b c d e f = cc
 
 -- ---- corners on the screen

@@ -1,3 +1,4 @@
+pub mod Boxes
 pub mod ClassTables
 pub mod Effects
 pub mod Needs

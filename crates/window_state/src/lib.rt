@@ -5,6 +5,7 @@
 //! what it does to the past.
 #![tactic(auto)]
 
+mod boxes;
 mod finding;
 mod looks;
 mod pixels;
@@ -12,6 +13,7 @@ mod ranks;
 mod tables;
 mod titles;
 
+pub use boxes::{moved_windows, origin_of};
 pub use finding::{parent_of, step_told, thread_of, up, window_or_none};
 pub use looks::{Edges, Placing, is_shown, placing_changes, relook};
 pub use pixels::owner_at;

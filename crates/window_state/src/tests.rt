@@ -3,7 +3,7 @@
 use super::*;
 use std::test::Fail;
 use user_model::Answer;
-use win_num::{Hwnd, Rect, Thread};
+use win_num::{Hwnd, Point, Rect, Thread};
 use win_order::Order;
 use win_tree::{Tree, Unmade, WindowRow};
 
@@ -15,6 +15,8 @@ fn no_window_is_found(rt: HostRuntime) -> Result<(), Fail> {
     let order = Order::new(rt.alloc());
     assert_eq!(rt; titled(&tree, &order, 2), None);
     assert_eq!(rt; owner_at(&tree, &order, 8, 4, 0, 0), Hwnd(0));
+    assert_eq!(rt; origin_of(&tree, Hwnd(16)), Point { x: 0, y: 0 });
+    assert_eq!(rt; moved_windows(rt.alloc(), &tree, &tree)?.len(), 0);
     Ok(())
 }
 

@@ -3,6 +3,7 @@ use Rattle.std.specs.Prelude.{◌≡◌, ℕ, pos, List, [], ◌∷◌, reverse,
 use Rattle.std.proofs.Common.{lit≤}
 use Rattle.win_num.specs.declared.send.Cause.{Cause}
 use Rattle.win_num.specs.declared.code.Code.{Code}
+use Rattle.region_box.specs.Screens.{screen_points, row_points}
 use Rattle.user_model.specs.declared.call.Call.{Call}
 use Rattle.user_model.specs.declared.entry.Answer.{Answer}
 use Rattle.user_model.specs.declared.entry.Entry.{Entry}
@@ -55,7 +56,7 @@ abbrev pub past : Past
 past = reverse history
 
 pub answers : told past ≡ replies setup past
-unfolding reply
+unfolding reply screen_points row_points
 answers = refl
 
 -- so it is legal

@@ -4,6 +4,7 @@ use Rattle.std.specs.Str.{bytes_eq}
 use Rattle.call_fields.proofs.Finding.{found_further, found_word}
 use Rattle.answer_table.specs.declared.answers.AnswerName.{AnswerName}
 use Rattle.answer_table.specs.Answers.{all_answers, answer_named, answer_row}
+use Rattle.answer_table.specs.Drawing.{drawing_answers}
 use Rattle.answer_table.specs.Messages.{message_answers}
 use Rattle.answer_table.specs.Plain.{plain_answers}
 use Rattle.answer_table.specs.Sends.{send_answers}
@@ -15,7 +16,8 @@ unfolding answer_named
 returns-clause-value c =
     let has : AnswerName → Bool = λ n. bytes_eq (answer_row n).word c.args.word.now in
     let messages = found_further has plain_answers message_answers c.answer_in-found.result c.or_in-found.result c.answer_in-found.ensures c.or_in-found.ensures in
-    found_further has (plain_answers ++ message_answers) send_answers c.or_in-found.result c.or_in.result messages c.or_in.ensures
+    let sends = found_further has (plain_answers ++ message_answers) send_answers c.or_in-found.result c.or_in-found-2.result messages c.or_in-found-2.ensures in
+    found_further has (plain_answers ++ message_answers ++ send_answers) drawing_answers c.or_in-found-2.result c.or_in.result sends c.or_in.ensures
 
 pub returns-clause-found : goal.returns-clause-found
 unfolding answer_named

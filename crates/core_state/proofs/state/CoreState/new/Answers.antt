@@ -1,4 +1,4 @@
-use Rattle.std.proofs.Common.{rules, ◌≡◌, List, [], reverse, sym, subst, arith}
+use Rattle.std.proofs.Common.{rules, List, reverse, sym, subst, arith}
 use Rattle.user_model.specs.declared.entry.Entry.{Entry}
 use Rattle.core_state.specs.States.{Stands, parts}
 use Rattle.core_state.proofs.FreshSends.{no_order, no_parts_stand}
@@ -6,12 +6,12 @@ use Rattle.core_state.proofs.state.CoreState.new.Goals as goal
 
 pub invariant_of-result : goal.invariant_of-result
 invariant_of-result c =
-    subst (λ (l : List Entry). Stands c.args.setup (reverse l) (parts c.new-2.result c.new-3.result c.in_ok-first_owners.field-0 c.new-4.result c.in_ok-fresh_threads.field-0.items 0 0 c.in_ok-new.field-0 c.new-6.result c.new-7.result.items)) (sym c.new.ensures.items) (record {
+    subst (λ (l : List Entry). Stands c.args.setup (reverse l) (parts c.new-2.result c.new-3.result c.in_ok-new.field-0 c.new-5.result c.in_ok-fresh_threads.field-0.items 0 0 c.in_ok-new-2.field-0 c.new-7.result c.new-8.result.items)) (sym c.new.ensures.items) (record {
       lawful = search rules;
       short = search (rules, arith);
       tree = search rules;
       order = no_order c.new-3.result c.new-3.ensures;
-      owners = c.in_ok-first_owners.ensures;
+      screen = c.in_ok-new.ensures;
       classes = search rules;
       count = search rules;
       each = search rules;

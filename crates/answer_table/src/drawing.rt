@@ -1,0 +1,104 @@
+//! Answers that speak of the pixels of a window, one row each.
+
+ghost use Rattle.std.specs.Prelude.{◌≡◌, option_map};
+ghost use Rattle.call_fields.specs.Forms.{read_form};
+ghost use Rattle.answer_table.specs.Drawing.{drawing_row, split_drawing, made_drawing};
+ghost use Rattle.answer_table.specs.Splits.{read_split};
+
+use crate::answers::AnswerName;
+use crate::answers::AnswerName::Drawing;
+use crate::split::{SplitAnswer, split_of};
+use call_fields::{Field, Form, Value, flag_at, pixel_at, region_kind_at, row_of};
+use user_model::Answer;
+
+/// The forms of these answers.
+#[derive(Clone, Copy, Debug, PartialEq, Eq)]
+pub enum DrawingAnswer {
+    Update,
+    Painting,
+}
+
+/// These forms.
+pub static DRAWING_ANSWERS: [AnswerName; 2] = [
+    Drawing(DrawingAnswer::Update),
+    Drawing(DrawingAnswer::Painting),
+];
+
+/// The word of an answer of this group, and the kinds of its fields.
+pub fn drawing_form(name: DrawingAnswer) -> Form
+    ensures { read_form result ≡ drawing_row name }
+{
+    match name {
+        DrawingAnswer::Update => row_of(
+            b"update",
+            &[
+                Field::RegionKind,
+                Field::Pixel,
+                Field::Pixel,
+                Field::Pixel,
+                Field::Pixel,
+            ],
+        ),
+        DrawingAnswer::Painting => row_of(
+            b"painting",
+            &[
+                Field::Flag,
+                Field::Pixel,
+                Field::Pixel,
+                Field::Pixel,
+                Field::Pixel,
+            ],
+        ),
+    }
+}
+
+/// Takes apart an answer of this group. None comes exactly where it is of another.
+pub fn split_drawing(answer: Answer) -> Option<SplitAnswer>
+    ensures { option_map read_split result ≡ split_drawing answer }
+{
+    match answer {
+        Answer::Update { kind, l, t, r, b } => split_of(
+            Drawing(DrawingAnswer::Update),
+            &[
+                Value::RegionKind(kind),
+                Value::Pixel(l),
+                Value::Pixel(t),
+                Value::Pixel(r),
+                Value::Pixel(b),
+            ],
+        ),
+        Answer::Painting { erases, l, t, r, b } => split_of(
+            Drawing(DrawingAnswer::Painting),
+            &[
+                Value::Flag(erases),
+                Value::Pixel(l),
+                Value::Pixel(t),
+                Value::Pixel(r),
+                Value::Pixel(b),
+            ],
+        ),
+        _ => None,
+    }
+}
+
+/// The answer of this form, of the values at its places.
+pub fn made_drawing(name: DrawingAnswer, values: &[Value]) -> Answer
+    ensures { result ≡ made_drawing name values.now }
+{
+    match name {
+        DrawingAnswer::Update => Answer::Update {
+            kind: region_kind_at(values, 0),
+            l: pixel_at(values, 1),
+            t: pixel_at(values, 2),
+            r: pixel_at(values, 3),
+            b: pixel_at(values, 4),
+        },
+        DrawingAnswer::Painting => Answer::Painting {
+            erases: flag_at(values, 0),
+            l: pixel_at(values, 1),
+            t: pixel_at(values, 2),
+            r: pixel_at(values, 3),
+            b: pixel_at(values, 4),
+        },
+    }
+}

@@ -1,0 +1,20 @@
+use Rattle.std.proofs.Common.{rules, refl}
+use Rattle.core_state.proofs.ScreenSteps.{no_draws}
+use Rattle.core_state.proofs.change.add_item.Goals as goal
+
+pub returns-in_default : goal.returns-in_default
+returns-in_default c = record {
+  classes = search rules;
+  tree = search rules;
+  order = search rules;
+  threads = search rules;
+  sends = search rules;
+  drawn = λ drawn. absurd (no_draws c.args.entry.call c.args.entry.answer c.in_default.not-Okay c.in_default.not-Painting drawn);
+  screen = λ drawn. refl;
+  classes_stay = search rules;
+  tree_stays = search rules;
+  order_stays = search rules;
+  threads_stay = search rules;
+  sends_stay = search rules;
+  screen_stays = search rules;
+}

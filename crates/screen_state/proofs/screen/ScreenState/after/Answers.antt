@@ -1,0 +1,26 @@
+use Rattle.std.proofs.Common.{◌≡◌, ◌∙◌, Option, false, sym}
+use Rattle.std.proofs.lemmas.Result.{IfOk-weaker}
+use Rattle.screen_state.specs.Screens.{Change, FollowsScreen, LeavesScreen, draws, replaced}
+use Rattle.screen_state.proofs.Changed.{entered_leaves}
+use Rattle.screen_state.proofs.Followed.{entered_children, entry_fits}
+use Rattle.screen_state.proofs.Screens.{stays_follow}
+use Rattle.screen_state.proofs.screen.ScreenState.after.Goals as goal
+
+pub returns-then-stays-clause-windows : goal.returns-then-stays-clause-windows
+returns-then-stays-clause-windows c quiet = stays_follow c.args.setup c.args.tree.now c.args.order.now c.args.entry c.args.self.now (sym c.stays.ensures ∙ c.if-stays.true) quiet
+
+pub layout_after-requires : goal.layout_after-requires
+layout_after-requires c = entry_fits c.args.setup c.args.tree.now c.args.order.now c.args.entry c.requires
+
+pub changed-requires : goal.changed-requires
+changed-requires c = entered_children c.args.setup c.args.tree.now c.in_ok-layout.layout.tree c.args.order.now c.in_ok-layout.layout.order c.args.entry c.requires c.in_ok-layout.ensures
+
+pub returns-clause-windows : goal.returns-clause-windows
+returns-clause-windows c =
+    let t = c.args.tree.now in
+    let l = c.in_ok-layout.layout in
+    let s = c.args.self.now in
+    let e = c.args.entry in
+    IfOk-weaker c.changed.result (λ (o : Option Change). LeavesScreen c.args.setup t l.tree l.order s (replaced o s)) (λ (o : Option Change). draws e.call e.answer ≡ false → FollowsScreen c.args.setup t c.args.order.now e s (replaced o s))
+    (λ o leaves quiet. entered_leaves c.args.setup t l.tree c.args.order.now l.order e s (replaced o s) c.in_ok-layout.ensures (sym c.stays.ensures ∙ c.if-stays.false) leaves)
+    c.changed.ensures
