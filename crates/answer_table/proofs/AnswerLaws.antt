@@ -1,8 +1,7 @@
 -- An answer is made of its parts again.
-use Rattle.std.proofs.Common.{◌≡◌, ℕ, Bool, true, List, Option, Some, None, refl, ap, sym, ◌∙◌}
-use Rattle.std.specs.Prelude.{find, map, option_map}
+use Rattle.std.proofs.Common.{◌≡◌, ℕ, Bool, true, List, Some, refl, ap, sym, ◌∙◌}
+use Rattle.std.specs.Prelude.{find, map}
 use Rattle.std.specs.List.{list_all}
-use Rattle.std.specs.Option.{option_or}
 use Rattle.std.specs.Str.{bytes_eq}
 use Rattle.user_model.specs.declared.entry.Answer.{Answer}
 use Rattle.user_model.specs.declared.entry.Answer.TheVariants as answers
@@ -15,15 +14,7 @@ use Rattle.answer_table.specs.declared.drawing.DrawingAnswer.TheVariants as draw
 use Rattle.answer_table.specs.declared.messages.MessageAnswer.TheVariants as messages
 use Rattle.answer_table.specs.declared.plain.PlainAnswer.TheVariants as plain
 use Rattle.answer_table.specs.declared.sends.SendAnswer.TheVariants as sends
-use Rattle.answer_table.specs.declared.split.SplitAnswer.{SplitAnswer}
 use Rattle.answer_table.specs.Answers.{IsAnswerOf, all_answers, answer_name, answer_parts, answer_row, answer_named, found_split, made_answer}
-use Rattle.answer_table.specs.Splits.{Split, read_split}
-
--- ---- the groups one after the other
-
-pub found_next : (a b r : Option SplitAnswer) (x y : Option Split) → option_map read_split a ≡ x → option_map read_split b ≡ y → r ≡ option_or a b → option_map read_split r ≡ option_or x y
-found_next None b r x y first next or = ap (option_map read_split) or ∙ next ∙ ap (λ (o : Option Split). option_or o y) first
-found_next (Some s) b r x y first next or = ap (option_map read_split) or ∙ ap (λ (o : Option Split). option_or o y) first
 
 -- no answer is left out
 pub is_found : (a : Answer) → found_split a ≡ Some (record { name = answer_name a; values = answer_parts a })

@@ -27,7 +27,7 @@ pub enum AnswerName {
     Message(MessageAnswer),
     /// It speaks of a send.
     Send(SendAnswer),
-    /// It speaks of the pixels of a window.
+    /// It speaks of the pixels of a window or of the screen.
     Drawing(DrawingAnswer),
 }
 
@@ -78,14 +78,20 @@ pub fn answer_named(word: &[u8]) -> Option<AnswerName>
     or_in(found, &DRAWING_ANSWERS, word)
 }
 
-/// An answer taken apart by its group.
+/// An answer taken apart by the first group that has it. The groups after it are not asked.
 fn found_split(answer: Answer) -> Option<SplitAnswer>
     ensures { option_map read_split result ≡ found_split answer }
 {
-    split_plain(answer)
-        .or(split_message(answer))
-        .or(split_send(answer))
-        .or(split_drawing(answer))
+    if let Some(split) = split_plain(answer) {
+        return Some(split);
+    }
+    if let Some(split) = split_message(answer) {
+        return Some(split);
+    }
+    if let Some(split) = split_send(answer) {
+        return Some(split);
+    }
+    split_drawing(answer)
 }
 
 /// An answer taken apart: which form it has, and the values of its fields.

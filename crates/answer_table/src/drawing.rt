@@ -1,4 +1,4 @@
-//! Answers that speak of the pixels of a window, one row each.
+//! Answers that speak of the pixels of a window or of the screen, one row each.
 
 ghost use Rattle.std.specs.Prelude.{◌≡◌, option_map};
 ghost use Rattle.call_fields.specs.Forms.{read_form};
@@ -8,7 +8,7 @@ ghost use Rattle.answer_table.specs.Splits.{read_split};
 use crate::answers::AnswerName;
 use crate::answers::AnswerName::Drawing;
 use crate::split::{SplitAnswer, split_of};
-use call_fields::{Field, Form, Value, flag_at, pixel_at, region_kind_at, row_of};
+use call_fields::{Field, Form, Value, count_at, flag_at, pixel_at, region_kind_at, row_of};
 use user_model::Answer;
 
 /// The forms of these answers.
@@ -16,12 +16,14 @@ use user_model::Answer;
 pub enum DrawingAnswer {
     Update,
     Painting,
+    Snap,
 }
 
 /// These forms.
-pub static DRAWING_ANSWERS: [AnswerName; 2] = [
+pub static DRAWING_ANSWERS: [AnswerName; 3] = [
     Drawing(DrawingAnswer::Update),
     Drawing(DrawingAnswer::Painting),
+    Drawing(DrawingAnswer::Snap),
 ];
 
 /// The word of an answer of this group, and the kinds of its fields.
@@ -49,6 +51,7 @@ pub fn drawing_form(name: DrawingAnswer) -> Form
                 Field::Pixel,
             ],
         ),
+        DrawingAnswer::Snap => row_of(b"snap", &[Field::Count]),
     }
 }
 
@@ -77,6 +80,7 @@ pub fn split_drawing(answer: Answer) -> Option<SplitAnswer>
                 Value::Pixel(b),
             ],
         ),
+        Answer::Snap(frame) => split_of(Drawing(DrawingAnswer::Snap), &[Value::Count(frame)]),
         _ => None,
     }
 }
@@ -100,5 +104,6 @@ pub fn made_drawing(name: DrawingAnswer, values: &[Value]) -> Answer
             r: pixel_at(values, 3),
             b: pixel_at(values, 4),
         },
+        DrawingAnswer::Snap => Answer::Snap(count_at(values, 0)),
     }
 }

@@ -52,6 +52,7 @@ fn answers_again(rt: HostRuntime) -> Result<(), Fail> {
             },
             b"painting",
         ),
+        (Answer::Snap(5), b"snap"),
         (Answer::Inside(SendId(3), 4), b"inside"),
         (Answer::Refused(Code::Full), b"refused"),
     ] {

@@ -34,6 +34,10 @@ impl<M: Machine> Machine for Wanting<M> {
         self.machine.history()
     }
 
+    fn frame(&self, number: u32) -> Option<&[u8]> {
+        self.machine.frame(number)
+    }
+
     fn send_count(&self) -> SendCount {
         self.machine.send_count()
     }

@@ -39,7 +39,7 @@ pub enum CallName {
     Window(WindowCall),
     /// It looks for a window.
     Lookup(LookupCall),
-    /// It is about pixels that are to be painted.
+    /// It is about pixels that are to be painted, or their colours.
     Drawing(DrawingCall),
     /// It is about time, or ends a thread.
     Clock(ClockCall),

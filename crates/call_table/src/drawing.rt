@@ -1,9 +1,10 @@
-//! Calls about the pixels of windows that are to be painted, one row each.
+//! Calls about the pixels of windows: those that are to be painted, and their colours, one row each.
 
-ghost use Rattle.std.specs.Prelude.{◌≡◌, option_map};
+ghost use Rattle.std.specs.Prelude.{◌≡◌, ◌∷◌, [], option_map};
 ghost use Rattle.call_fields.specs.Forms.{read_form};
+ghost use Rattle.call_fields.specs.declared.value.Value.TheVariants as values;
 ghost use Rattle.call_table.specs.Drawing.{drawing_row, split_drawing, made_drawing};
-ghost use Rattle.call_table.specs.Splits.{read_split};
+ghost use Rattle.call_table.specs.Splits.{read_split, split};
 
 use crate::calls::CallName;
 use crate::calls::CallName::Drawing;
@@ -20,15 +21,21 @@ pub enum DrawingCall {
     UpdateRect,
     BeginPaint,
     EndPaint,
+    Fill,
+    Erase,
+    Snap,
 }
 
 /// These calls.
-pub static DRAWING_CALLS: [CallName; 5] = [
+pub static DRAWING_CALLS: [CallName; 8] = [
     Drawing(DrawingCall::Invalidate),
     Drawing(DrawingCall::Validate),
     Drawing(DrawingCall::UpdateRect),
     Drawing(DrawingCall::BeginPaint),
     Drawing(DrawingCall::EndPaint),
+    Drawing(DrawingCall::Fill),
+    Drawing(DrawingCall::Erase),
+    Drawing(DrawingCall::Snap),
 ];
 
 /// The word of a call of this group, and the kinds of its fields.
@@ -44,7 +51,30 @@ pub fn drawing_form(name: DrawingCall) -> Form
         DrawingCall::UpdateRect => row_of(b"update_rect", &[Number]),
         DrawingCall::BeginPaint => row_of(b"begin_paint", &[Number]),
         DrawingCall::EndPaint => row_of(b"end_paint", &[Number]),
+        DrawingCall::Fill => row_of(b"fill", &[Number, Signed, Signed, Signed, Signed, Number]),
+        DrawingCall::Erase => row_of(b"erase", &[Number]),
+        DrawingCall::Snap => row_of(b"snap", &[]),
     }
+}
+
+/// The left, top, right and bottom edge of a rectangle.
+type Edges = (i64, i64, i64, i64);
+
+/// A call of this name for a rectangle of a window, with one number more.
+fn split_rectangle(name: CallName, window: u64, edges: Edges, last: u64) -> Option<SplitCall>
+    ensures { option_map read_split result ≡ split name (values.Number window ∷ values.Signed edges.0 ∷ values.Signed edges.1 ∷ values.Signed edges.2 ∷ values.Signed edges.3 ∷ values.Number last ∷ []) }
+{
+    split_of(
+        name,
+        &[
+            Value::Number(window),
+            Value::Signed(edges.0),
+            Value::Signed(edges.1),
+            Value::Signed(edges.2),
+            Value::Signed(edges.3),
+            Value::Number(last),
+        ],
+    )
 }
 
 /// Takes apart a call of this group. None comes exactly where it is of another.
@@ -52,16 +82,11 @@ pub fn split_drawing(call: Call) -> Option<SplitCall>
     ensures { option_map read_split result ≡ split_drawing call }
 {
     match call {
-        Call::Invalidate(window, left, top, right, bottom, erase) => split_of(
+        Call::Invalidate(window, left, top, right, bottom, erase) => split_rectangle(
             Drawing(DrawingCall::Invalidate),
-            &[
-                Value::Number(window),
-                Value::Signed(left),
-                Value::Signed(top),
-                Value::Signed(right),
-                Value::Signed(bottom),
-                Value::Number(erase),
-            ],
+            window,
+            (left, top, right, bottom),
+            erase,
         ),
         Call::Validate(window, left, top, right, bottom) => split_of(
             Drawing(DrawingCall::Validate),
@@ -76,6 +101,14 @@ pub fn split_drawing(call: Call) -> Option<SplitCall>
         Call::UpdateRect(window) => split_numbers(Drawing(DrawingCall::UpdateRect), &[window]),
         Call::BeginPaint(window) => split_numbers(Drawing(DrawingCall::BeginPaint), &[window]),
         Call::EndPaint(window) => split_numbers(Drawing(DrawingCall::EndPaint), &[window]),
+        Call::Fill(window, left, top, right, bottom, colour) => split_rectangle(
+            Drawing(DrawingCall::Fill),
+            window,
+            (left, top, right, bottom),
+            colour,
+        ),
+        Call::Erase(window) => split_numbers(Drawing(DrawingCall::Erase), &[window]),
+        Call::Snap => split_numbers(Drawing(DrawingCall::Snap), &[]),
         _ => None,
     }
 }
@@ -104,5 +137,15 @@ pub fn made_drawing(name: DrawingCall, values: &[Value]) -> Call
         DrawingCall::UpdateRect => Call::UpdateRect(window),
         DrawingCall::BeginPaint => Call::BeginPaint(window),
         DrawingCall::EndPaint => Call::EndPaint(window),
+        DrawingCall::Fill => Call::Fill(
+            window,
+            signed_at(values, 1),
+            signed_at(values, 2),
+            signed_at(values, 3),
+            signed_at(values, 4),
+            number_at(values, 5),
+        ),
+        DrawingCall::Erase => Call::Erase(window),
+        DrawingCall::Snap => Call::Snap,
     }
 }

@@ -16,6 +16,9 @@ fn calls_again(rt: HostRuntime) -> Result<(), Fail> {
         (Call::UpdateRect(16), b"update_rect"),
         (Call::BeginPaint(16), b"begin_paint"),
         (Call::EndPaint(16), b"end_paint"),
+        (Call::Fill(16, -1, 2, 3, 4, 15), b"fill"),
+        (Call::Erase(16), b"erase"),
+        (Call::Snap, b"snap"),
         (Call::Clock, b"clock"),
     ] {
         let form = call_form(call_name(call));

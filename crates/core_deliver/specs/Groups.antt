@@ -1,12 +1,12 @@
 -- Which layer answers a call.
 use Rattle.std.specs.Prelude.{Bool, true, false}
 use Rattle.user_model.specs.declared.call.Call.{Call}
-use Rattle.user_model.specs.declared.call.Call.TheVariants.{Peek, Get, Post, PostThread, PostQuit, Dispatch, Send, SendTimeout, SendNotify, SendCallback, Await, Leave, Reply, InSend, Message, Register, Unregister, NewWindow, Doom, Unmake, Drop, Place, Show, Find, AwaitTitle, NextTop, WindowAt, IsWindow, Parent, Invalidate, Validate, UpdateRect, BeginPaint, EndPaint, EndThread, Clock, SleepUntil, Yield, Tick, Advance}
+use Rattle.user_model.specs.declared.call.Call.TheVariants.{Peek, Get, Post, PostThread, PostQuit, Dispatch, Send, SendTimeout, SendNotify, SendCallback, Await, Leave, Reply, InSend, Message, Register, Unregister, NewWindow, Doom, Unmake, Drop, Place, Show, Find, AwaitTitle, NextTop, WindowAt, IsWindow, Parent, Invalidate, Validate, UpdateRect, BeginPaint, EndPaint, Fill, Erase, Snap, EndThread, Clock, SleepUntil, Yield, Tick, Advance}
 use Rattle.core_deliver.specs.declared.groups.Group.{Group}
 use Rattle.core_deliver.specs.declared.groups.Group.TheVariants.{Retrieval, Delivery, Window, Drawing, Other}
 
 -- the group of each call: it asks for a message; it posts, sends, hands a message to a procedure, is made inside or after a send,
--- or registers a message; it is about classes or windows; it is about dirty pixels and painting; or it is about time, or ends a thread
+-- or registers a message; it is about classes or windows; it is about dirty pixels, painting, colours or frames; or it is about time, or ends a thread
 abbrev pub group_of : Call → Group
 group_of (Peek w min max flags) = Retrieval
 group_of (Get w min max) = Retrieval
@@ -42,6 +42,9 @@ group_of (Validate w l t r b) = Drawing
 group_of (UpdateRect w) = Drawing
 group_of (BeginPaint w) = Drawing
 group_of (EndPaint w) = Drawing
+group_of (Fill w l t r b colour) = Drawing
+group_of (Erase w) = Drawing
+group_of Snap = Drawing
 group_of EndThread = Other
 group_of Clock = Other
 group_of (SleepUntil time) = Other
@@ -85,7 +88,7 @@ are_window_calls Other = false
 abbrev pub is_window_call : Call → Bool
 is_window_call call = are_window_calls (group_of call)
 
--- whether the group is that of the calls on dirty pixels and painting
+-- whether the group is that of the calls on dirty pixels, painting, colours and frames
 abbrev pub are_drawings : Group → Bool
 are_drawings Retrieval = false
 are_drawings Delivery = false
@@ -93,6 +96,6 @@ are_drawings Window = false
 are_drawings Drawing = true
 are_drawings Other = false
 
--- whether the call is about dirty pixels and painting
+-- whether the call is about dirty pixels, painting, colours or frames
 abbrev pub is_drawing : Call → Bool
 is_drawing call = are_drawings (group_of call)

@@ -14,7 +14,7 @@ pub enum Group {
     Delivery,
     /// It is about classes or windows, and `core_window` answers it.
     Window,
-    /// It is about dirty pixels and painting, and `core_draw` answers it.
+    /// It is about dirty pixels, painting, colours and frames, and `core_draw` answers it.
     Drawing,
     /// It is about time, or ends a thread, and the machine answers it.
     Other,
@@ -57,7 +57,10 @@ fn group_of(call: Call) -> Group
         | Call::Validate(..)
         | Call::UpdateRect(..)
         | Call::BeginPaint(..)
-        | Call::EndPaint(..) => Group::Drawing,
+        | Call::EndPaint(..)
+        | Call::Fill(..)
+        | Call::Erase(..)
+        | Call::Snap => Group::Drawing,
         Call::EndThread
         | Call::Clock
         | Call::SleepUntil(..)
@@ -97,7 +100,7 @@ pub fn is_window_call(call: Call) -> bool
     }
 }
 
-/// Whether the call is about dirty pixels and painting.
+/// Whether the call is about dirty pixels, painting, colours or frames.
 pub fn is_drawing(call: Call) -> bool
     ensures { result ≡ is_drawing call }
 {

@@ -1,4 +1,4 @@
-//! The calls on dirty pixels and painting: what each answers, and its entry.
+//! The calls on dirty pixels, painting, colours and frames: what each answers, and its entry.
 
 ghost use Rattle.std.specs.Prelude.{◌≡◌, true, IfOk, OnOk, OnErr};
 ghost use Rattle.core_deliver.specs.Groups.{is_drawing};
@@ -6,6 +6,7 @@ ghost use Rattle.user_model.specs.Idle.{reply};
 ghost use Rattle.user_model.specs.Machines.{after};
 ghost use Rattle.user_model.specs.Replies.{row};
 
+use crate::colours::{erase_answer, fill_answer, snap_answer};
 use crate::drawing::{
     begin_paint_answer, end_paint_answer, invalidate_answer, update_rect_answer, validate_answer,
 };
@@ -15,7 +16,7 @@ use std::alloc::AllocError;
 use user_model::{Answer, Call};
 use win_num::Thread;
 
-/// The answer of a call on dirty pixels and painting to a running thread, where its stack allows it.
+/// The answer of a call on dirty pixels, painting, colours or frames to a running thread, where its stack allows it.
 fn drawing_row(state: &CoreState, thread: u8, call: Call) -> Answer
     requires { is_drawing call ≡ true }
     ensures { result ≡ row state.now.setup state.now.past thread call }
@@ -28,11 +29,16 @@ fn drawing_row(state: &CoreState, thread: u8, call: Call) -> Answer
         Call::UpdateRect(w) => update_rect_answer(state, w),
         Call::BeginPaint(w) => begin_paint_answer(state, thread, w),
         Call::EndPaint(w) => end_paint_answer(state, thread, w),
+        Call::Fill(w, l, t, r, b, colour) => {
+            fill_answer(state, thread, w, Edges { l, t, r, b }, colour)
+        }
+        Call::Erase(w) => erase_answer(state, thread, w),
+        Call::Snap => snap_answer(state),
         _ => unreachable!(),
     }
 }
 
-/// What a call on dirty pixels and painting answers.
+/// What a call on dirty pixels, painting, colours or frames answers.
 pub fn drawing_answer(state: &CoreState, who: Thread, call: Call) -> Answer
     requires { is_drawing call ≡ true }
     ensures { result ≡ reply state.now.setup state.now.past who.0 call }
@@ -43,9 +49,9 @@ pub fn drawing_answer(state: &CoreState, who: Thread, call: Call) -> Answer
     }
 }
 
-/// Makes a call on dirty pixels and painting. The answer is the reply of the definitions, and stands with the call
+/// Makes a call on dirty pixels, painting, colours or frames. The answer is the reply of the definitions, and stands with the call
 /// as the newest entry, unless the history is full: then it stays as it was. After want of memory nothing has
-/// changed, and the call may be made again (Microsoft, InvalidateRect and BeginPaint functions).
+/// changed, and the call may be made again (Microsoft, InvalidateRect, BeginPaint and FillRect functions).
 pub fn draw(s: &mut CoreState, who: Thread, call: Call) -> Result<Answer, AllocError>
     requires { is_drawing call ≡ true }
     ensures answer { IfOk result (λ answer. answer ≡ reply s.old.setup s.old.past who.0 call) }

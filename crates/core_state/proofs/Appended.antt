@@ -20,15 +20,15 @@ use Rattle.user_model.specs.Legal.{IsLawful}
 use Rattle.user_model.specs.Threads.{is_running}
 use Rattle.user_model.proofs.DeliveryReplies.{post_told}
 use Rattle.user_model.proofs.ReplyLaws.{by_row}
-use Rattle.core_state.specs.Changes.{Change, changed, noted, count_kept, time_kept}
-use Rattle.core_state.specs.Deliveries.{adding_in, effect_in}
+use Rattle.thread_queues.specs.Changes.{Change, changed, noted, count_kept, time_kept}
+use Rattle.thread_queues.specs.Deliveries.{adding_in, effect_in}
 use Rattle.window_state.specs.Effects.{IsAddedBy, IsAffected, added_classes, affected_classes}
 use Rattle.window_state.specs.Needs.{FitsLooking, FitsNaming, FitsUnmaking}
 use Rattle.win_order.specs.Layers.{Layers}
 use Rattle.window_state.specs.Orders.{FitsOrder, FitsOrderEffect, IsOrderAdded, affected_order}
 use Rattle.window_state.proofs.OrderNeeds.{fits_order, fits_order_effect}
 use Rattle.window_state.proofs.OrderSteps.{order_after}
-use Rattle.core_state.specs.Needs.{FitsCarrying, FitsAdding, FitsEffect, IsOne}
+use Rattle.core_state.specs.Needs.{FitsCarrying, FitsAdding, FitsEffect}
 use Rattle.thread_state.specs.Threads.{ThreadView, thread_at}
 use Rattle.send_state.specs.Parts.{SendParts}
 use Rattle.send_state.specs.Standing.{PartsStand}
@@ -42,15 +42,16 @@ use Rattle.core_state.proofs.SendLosses.{dropped_stand, ended_stand}
 use Rattle.core_state.proofs.SendNeeds.{grown_fits, settled_fits}
 use Rattle.core_state.proofs.SendSteps.{sends_after}
 use Rattle.core_state.proofs.StoryChanges.{losses_noted, stories_after}
-use Rattle.core_state.specs.States.{EachBy, Parts, Stands, parts}
+use Rattle.core_state.specs.States.{Parts, Stands, parts}
+use Rattle.thread_queues.specs.Queues.{EachBy, IsOne}
 use Rattle.window_state.proofs.ClassSteps.{classes_after, fits_naming, fits_unregister}
 use Rattle.core_state.proofs.Deliveries.{both_changes, fits_post, fits_posting, running_is_one}
 use Rattle.window_state.proofs.NewWindows.{doom_not_refused, drop_not_refused}
-use Rattle.core_state.proofs.ThreadChanges.{thread-next, count_kept-next, time_kept-next}
+use Rattle.thread_queues.proofs.ThreadChanges.{thread-next, count_kept-next, time_kept-next}
 use Rattle.window_state.proofs.TreeNeeds.{fits_making, fits_unmaking}
 use Rattle.window_state.proofs.LookSteps.{fits_looking}
 use Rattle.window_state.proofs.TreeSteps.{tree_after}
-use Rattle.screen_state.specs.Screens.{Kept, IsScreenAt}
+use Rattle.display_state.specs.Displays.{Shown, IsDisplayAt}
 
 -- ---- what a change needs
 
@@ -164,24 +165,24 @@ tally_step setup past p e place lost tree sends st right here made begun counted
     tally_fits past p.tally lost st.tally st.short (subst (λ n. n ≤ 1024) (sym same) (losses_few setup past e p.sends p.tree.live (st.lawful, right) st.sends st.tree.windows))
 
 -- the parts that were brought up to date stand for the past with the entry
-pub stands_step : (setup : Setup) (past : Past) (p : Parts) (point : Point) (e : Entry) (classes1 classes2 : ClassTable) (tree1 tree2 : Windows) (order1 order2 : Layers) (screen2 : Kept) (threads1 threads2 threads3 : List ThreadView) (sends1 sends2 : SendParts) (first : Option Cause) (lost : ℕ) (tally : Tally) (stories1 stories2 stories3 : List SendStory) (place : ℕ)
+pub stands_step : (setup : Setup) (past : Past) (p : Parts) (point : Point) (e : Entry) (classes1 classes2 : ClassTable) (tree1 tree2 : Windows) (order1 order2 : Layers) (display2 : Shown) (threads1 threads2 threads3 : List ThreadView) (sends1 sends2 : SendParts) (first : Option Cause) (lost : ℕ) (tally : Tally) (stories1 stories2 stories3 : List SendStory) (place : ℕ)
     → is_full past ≡ false → e.answer ≡ reply setup past e.who.0 e.call → Stands setup past p → point ≡ cursor past
     → classes1 ≡ added_classes e.answer e.call p.classes → classes2 ≡ affected_classes e.answer e.call classes1
     → IsAddedBy e.who.0 e.answer e.call p.tree tree1 → IsAffected e.who.0 e.answer e.call tree1 tree2
-    → IsOrderAdded e.answer e.call p.tree tree1 p.order order1 → order2 ≡ affected_order e.answer e.call tree2 order1 → IsScreenAt setup (e ∷ past) screen2
+    → IsOrderAdded e.answer e.call p.tree tree1 p.order order1 → order2 ≡ affected_order e.answer e.call tree2 order1 → IsDisplayAt setup (e ∷ past) display2
     → EachBy (λ t. changed t (adding_in p.tree.live p.time point e.who.0 e.answer e.call)) p.threads threads1
     → EachBy (λ t. changed t (effect_in tree1.live e.who.0 e.answer e.call)) threads1 threads2
     → EachBy (λ t. noted t e) threads2 threads3
     → sends1 ≡ added_sends p.tree.live p.time place e.who e.answer e.call p.sends → sends2 ≡ affected_sends tree1.live place e.who.0 e.answer e.call sends1 → place ≡ place_after past
     → first ≡ first_cause p.sends e.who.0 e.answer e.call → lost ≡ losses_by tree1.live place e.who.0 e.answer e.call sends1 → tally ≡ tallied e.answer first lost p.tally
     → stories1 ≡ with_begun e.answer p.stories → EachStory (noted_losses tree1.live place e.who.0 e.answer e.call sends1) stories1 stories2 → EachStory (noted_answer e.answer (named_send p.sends e.who.0 e.answer e.call) place) stories2 stories3
-    → Stands setup (e ∷ past) (parts tree2 order2 screen2 classes2 threads3 (count_kept e.answer p.post_count) (time_kept e p.time) sends2 tally stories3)
-stands_step setup past p point e classes1 classes2 tree1 tree2 order1 order2 screen2 threads1 threads2 threads3 sends1 sends2 cause lost tally stories1 stories2 stories3 place room right st at grown settled made given ranked left_order seen first second note begun left here named counted noted_tally story_more story_losses story_answers = record {
+    → Stands setup (e ∷ past) (parts tree2 order2 display2 classes2 threads3 (count_kept e.answer p.post_count) (time_kept e p.time) sends2 tally stories3)
+stands_step setup past p point e classes1 classes2 tree1 tree2 order1 order2 display2 threads1 threads2 threads3 sends1 sends2 cause lost tally stories1 stories2 stories3 place room right st at grown settled made given ranked left_order seen first second note begun left here named counted noted_tally story_more story_losses story_answers = record {
   lawful = (st.lawful, right);
   short = grind (arith, nat_tests, room);
   tree = tree_after setup past e p.tree tree1 tree2 st.lawful st.tree right made given;
   order = order_after setup past e p.tree tree1 tree2 p.order order1 order2 st.lawful st.tree (tree_after setup past e p.tree tree1 tree2 st.lawful st.tree right made given) st.order right made ranked left_order;
-  screen = seen;
+  display = seen;
   classes = settled ∙ ap (affected_classes e.answer e.call) (grown ∙ ap (added_classes e.answer e.call) st.classes) ∙ sym (classes_after setup past e right);
   count = note.same_length ∙ second.same_length ∙ first.same_length ∙ st.count;
   each = record {

@@ -32,14 +32,15 @@ use Rattle.user_model.proofs.ReplyLaws.{not_false}
 use Rattle.user_model.proofs.PostOwners.{message_of, post_runs}
 use Rattle.window_state.specs.Trees.{as_made}
 use Rattle.thread_state.specs.Threads.{ThreadView, as_kept, queue_at, thread_at, told_post}
-use Rattle.core_state.specs.Changes.{Change, posts as posts_one, purges, none, change_by, changed, kin_of}
+use Rattle.thread_queues.specs.Changes.{Change, posts as posts_one, purges, none, change_by, changed, kin_of}
 use Rattle.thread_state.specs.Passing.{passes_window_in, passes_here, passes_in}
 use Rattle.window_state.specs.Trees.{thread_in}
-use Rattle.core_state.specs.Deliveries.{posting, FitsPost, kin_in, change_of_post, adding_in, carried_in, effect_in}
-use Rattle.core_state.specs.Needs.{IsOne, HasRoom, FitsPosting}
+use Rattle.thread_queues.specs.Deliveries.{posting, FitsPost, kin_in, change_of_post, adding_in, carried_in, effect_in}
+use Rattle.core_state.specs.Needs.{FitsPosting}
+use Rattle.thread_queues.specs.Queues.{IsOne, HasRoom}
 use Rattle.core_state.specs.States.{EachThread}
 use Rattle.window_state.proofs.Bridges.{window_made, live_made, kin_made, below_made, filter_made}
-use Rattle.core_state.proofs.QueueLists.{queue_below, queue_length}
+use Rattle.thread_queues.proofs.QueueLists.{queue_below, queue_length}
 
 -- ---- windows of the table
 

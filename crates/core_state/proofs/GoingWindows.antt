@@ -15,12 +15,12 @@ use Rattle.user_model.proofs.DeliveryReplies.{end_told}
 use Rattle.user_model.proofs.PostLaws.{drops_window-drop}
 use Rattle.user_model.proofs.ReplyLaws.{by_row}
 use Rattle.window_state.specs.Trees.{thread_in}
-use Rattle.core_state.specs.Deliveries.{goes_with}
+use Rattle.thread_queues.specs.Deliveries.{goes_with}
 use Rattle.core_state.specs.Sendings.{is_of}
 use Rattle.window_state.specs.Trees.{as_made}
 use Rattle.window_state.proofs.Bridges.{kin_made}
 use Rattle.core_state.proofs.Deliveries.{is_live-is, thread_in-is}
-use Rattle.core_state.proofs.QueueLists.{same_number}
+use Rattle.thread_queues.proofs.QueueLists.{same_number}
 
 -- a drop of v drops the windows that go with v
 pub dropped_goes : (past : Past) (e : Entry) (ws : List KeptWindow) (v w : ℕ) → map as_made ws ≡ live past → e.call ≡ calls.Drop v → e.answer ≡ answers.Okay → goes_with ws v w ≡ drops_window e past w

@@ -2,11 +2,8 @@ pub mod Appended
 pub mod Deliveries
 pub mod FreshSends
 pub mod GoingWindows
-pub mod KinLists
-pub mod Outcomes
-pub mod QueueLists
 pub mod ScreenReads
-pub mod ScreenSteps
+pub mod DisplaySteps
 pub mod SendCounts
 pub mod StoryChanges
 pub mod StoryReads
@@ -14,7 +11,6 @@ pub mod SendLosses
 pub mod SendNeeds
 pub mod SendStacks
 pub mod SendSteps
-pub mod ThreadChanges
 pub mod Tops
 pub mod Running
 pub mod SendNumbers

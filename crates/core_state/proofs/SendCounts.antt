@@ -34,7 +34,7 @@ use Rattle.send_state.proofs.Tallies.{lost-counted, tally-kept, tally-lost, tall
 use Rattle.send_state.proofs.Told.{runs}
 use Rattle.send_state.proofs.ToldDropped.{losing-dropped}
 use Rattle.send_state.proofs.ToldEnded.{losing-ended}
-use Rattle.core_state.specs.Deliveries.{goes_with}
+use Rattle.thread_queues.specs.Deliveries.{goes_with}
 use Rattle.window_state.specs.Effects.{IsAddedBy}
 use Rattle.core_state.specs.Sendings.{added_sends, is_of, losses_by}
 use Rattle.window_state.specs.Trees.{as_made}

@@ -14,7 +14,7 @@ use Rattle.send_state.specs.Standing.{PartsStand}
 use Rattle.send_state.proofs.LostSends.{IsLosing, can-lose-stands}
 use Rattle.send_state.proofs.ToldDropped.{losing-dropped, told-dropped}
 use Rattle.send_state.proofs.ToldEnded.{losing-ended, told-ended}
-use Rattle.core_state.specs.Deliveries.{goes_with}
+use Rattle.thread_queues.specs.Deliveries.{goes_with}
 use Rattle.core_state.specs.Sendings.{FitsLosing, is_of}
 use Rattle.window_state.specs.Trees.{as_made}
 use Rattle.core_state.proofs.GoingWindows.{dropped_goes, ended_goes}

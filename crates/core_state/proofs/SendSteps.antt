@@ -39,7 +39,7 @@ use Rattle.send_state.proofs.ToldBegun.{made, told-begun, told-inside}
 use Rattle.send_state.proofs.ToldDone.{told-done}
 use Rattle.send_state.proofs.ToldOwn.{told-leave}
 use Rattle.send_state.proofs.ToldReplied.{told-replied}
-use Rattle.core_state.specs.Deliveries.{goes_with}
+use Rattle.thread_queues.specs.Deliveries.{goes_with}
 use Rattle.core_state.specs.Frames.{IsOnTop}
 use Rattle.core_state.specs.Sendings.{begun_with, called_back, added_sends, is_answered_in, is_of, left_by_call, replied_by_call, replied_if, sending, affected_sends, waited}
 use Rattle.window_state.specs.Trees.{as_made}

@@ -21,7 +21,7 @@ use Rattle.send_state.specs.Tallies.{named_send}
 use Rattle.user_model.specs.declared.story.SendStory.{SendStory}
 use Rattle.send_state.proofs.Still.{is_drop, loses-none}
 use Rattle.send_state.proofs.Stories.{stories-kept, stories-lost, stories-refused}
-use Rattle.core_state.specs.Deliveries.{goes_with}
+use Rattle.thread_queues.specs.Deliveries.{goes_with}
 use Rattle.window_state.specs.Effects.{IsAddedBy}
 use Rattle.core_state.specs.Sendings.{added_sends, is_of, noted_losses}
 use Rattle.window_state.specs.Trees.{as_made}

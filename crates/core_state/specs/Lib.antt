@@ -1,5 +1,3 @@
-pub mod Changes
-pub mod Deliveries
 pub mod Frames
 pub mod Needs
 pub mod Sendings

@@ -1,5 +1,5 @@
 -- What the change of an entry needs of the parts.
-use Rattle.std.specs.Prelude.{◌≡◌, ℕ, ◌-◌, ◌<◌, ◌≤◌, false, List, length, All, slice_index_or, Option, Some, None}
+use Rattle.std.specs.Prelude.{◌≡◌, ℕ, false, List, Option, Some, None}
 use Rattle.win_num.specs.declared.message.Msg.{Msg}
 use Rattle.win_num.specs.declared.shapes.Point.{Point}
 use Rattle.win_class.specs.ClassTable.{ClassTable, unregister_refusal}
@@ -9,20 +9,10 @@ use Rattle.user_model.specs.declared.call.Call.{Call}
 use Rattle.user_model.specs.declared.call.Call.TheVariants.{Unregister, Doom, Drop, PostQuit}
 use Rattle.user_model.specs.declared.entry.Answer.{Answer}
 use Rattle.user_model.specs.declared.entry.Answer.TheVariants.{Okay, Ended, Value, Window, Posted as PostMade, Tell, Last, Got}
-use Rattle.core_state.specs.Deliveries.{posting, FitsPost}
+use Rattle.thread_queues.specs.Deliveries.{posting, FitsPost}
 use Rattle.window_state.specs.Needs.{FitsLooking, FitsMaking, FitsNaming, FitsUnmaking}
 use Rattle.thread_state.specs.Threads.{ThreadView}
-
--- it is the number of a thread
-pub record IsOne (threads : List ThreadView) (t : ℕ) : Type 0 where
-  pub some : 0 < t
-  pub known : t ≤ length threads
-
--- a post goes to a thread that has room for it, under a number above all that it has
-pub record HasRoom (threads : List ThreadView) (t k : ℕ) : Type 0 where
-  pub is_one : IsOne threads t
-  pub rises : (d : ThreadView) → All (λ p. p.number < k) (slice_index_or threads (t - 1) d).queue.posted
-  pub short : (d : ThreadView) → length (slice_index_or threads (t - 1) d).queue.posted < (slice_index_or threads (t - 1) d).queue.limit
+use Rattle.thread_queues.specs.Queues.{HasRoom, IsOne}
 
 abbrev pub FitsPosting : List ThreadView → ℕ → Option (ℕ × Msg) → Type 0
 FitsPosting threads k None = Unit {0}

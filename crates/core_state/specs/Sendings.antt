@@ -16,7 +16,7 @@ use Rattle.user_model.specs.declared.call.Call.TheVariants.{Send, SendTimeout, S
 use Rattle.user_model.specs.declared.entry.Answer.{Answer}
 use Rattle.user_model.specs.declared.entry.Answer.TheVariants.{Okay, Ended, Value, Inside, Begun, Enter, Callback, Called, Left, Done}
 use Rattle.window_state.specs.Trees.{thread_in}
-use Rattle.core_state.specs.Deliveries.{goes_with}
+use Rattle.thread_queues.specs.Deliveries.{goes_with}
 
 -- ---- a send is made
 

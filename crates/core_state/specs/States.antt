@@ -18,7 +18,7 @@ use Rattle.thread_state.specs.Threads.{ThreadView, thread_at}
 use Rattle.win_order.specs.Layers.{Layers}
 use Rattle.window_state.specs.Orders.{IsOrderAt}
 use Rattle.window_state.specs.Trees.{IsTreeAt}
-use Rattle.screen_state.specs.Screens.{Kept, IsScreenAt}
+use Rattle.display_state.specs.Displays.{Shown, IsDisplayAt}
 
 -- its setup and its past
 pub record Seen : Type 0 where
@@ -29,7 +29,7 @@ pub record Seen : Type 0 where
 pub record Parts : Type 0 where
   pub tree : Windows
   pub order : Layers
-  pub screen : Kept
+  pub display : Shown
   pub classes : ClassTable
   pub threads : List ThreadView
   pub post_count : ℕ
@@ -39,17 +39,12 @@ pub record Parts : Type 0 where
   pub stories : List SendStory
 
 -- the parts from their values
-abbrev pub parts : Windows → Layers → Kept → ClassTable → List ThreadView → ℕ → ℕ → SendParts → Tally → List SendStory → Parts
-parts tree order screen classes threads post_count time sends tally stories = record { tree = tree; order = order; screen = screen; classes = classes; threads = threads; post_count = post_count; time = time; sends = sends; tally = tally; stories = stories }
+abbrev pub parts : Windows → Layers → Shown → ClassTable → List ThreadView → ℕ → ℕ → SendParts → Tally → List SendStory → Parts
+parts tree order display classes threads post_count time sends tally stories = record { tree = tree; order = order; display = display; classes = classes; threads = threads; post_count = post_count; time = time; sends = sends; tally = tally; stories = stories }
 
 -- each thread's part is what the past says of the thread
 pub record EachThread (past : Past) (threads : List ThreadView) : Type 0 where
   pub at : (i : ℕ) (d : ThreadView) → i < length threads → slice_index_or threads i d ≡ thread_at past (i + 1)
-
--- each thread's part is changed so; threads are numbered from 1
-pub record EachBy (change : ℕ → ThreadView → ThreadView) (old new : List ThreadView) : Type 0 where
-  pub same_length : length new ≡ length old
-  pub at : (i : ℕ) (d : ThreadView) → i < length old → slice_index_or new i d ≡ change (i + 1) (slice_index_or old i d)
 
 -- the past is lawful and no longer than allowed, and each part is what the past says
 pub record Stands (setup : Setup) (past : Past) (p : Parts) : Type 0 where
@@ -57,7 +52,7 @@ pub record Stands (setup : Setup) (past : Past) (p : Parts) : Type 0 where
   pub short : length past ≤ 2097152
   pub tree : IsTreeAt past p.tree
   pub order : IsOrderAt past p.order
-  pub screen : IsScreenAt setup past p.screen
+  pub display : IsDisplayAt setup past p.display
   pub classes : p.classes ≡ classes_at past
   pub count : length p.threads ≡ setup.threads
   pub each : EachThread past p.threads

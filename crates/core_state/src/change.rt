@@ -2,22 +2,22 @@
 //! can't fail.
 
 ghost use Rattle.std.specs.Prelude.{◌≡◌, true, false, OnOk, OnErr};
-ghost use Rattle.core_state.specs.Changes.{changed};
-ghost use Rattle.core_state.specs.Deliveries.{carried_in, adding_in, effect_in};
+ghost use Rattle.thread_queues.specs.Changes.{changed};
+ghost use Rattle.thread_queues.specs.Deliveries.{carried_in, adding_in, effect_in};
 ghost use Rattle.window_state.specs.Effects.{IsAddedBy, named_by, carried_classes, carried_tree, added_classes, affected_classes, IsAffected};
 ghost use Rattle.core_state.specs.Needs.{FitsCarrying, FitsAdding, FitsEffect};
 ghost use Rattle.window_state.specs.Needs.{FitsNaming};
 ghost use Rattle.core_state.specs.Sendings.{FitsAddedSends, added_sends};
-ghost use Rattle.core_state.specs.States.{EachBy};
-ghost use Rattle.screen_state.specs.Screens.{draws, DrawsScreen, IsDrawn};
+ghost use Rattle.thread_queues.specs.Queues.{EachBy};
+ghost use Rattle.display_state.specs.Displays.{DrawsDisplay, IsPainting};
+ghost use Rattle.screen_state.specs.Screens.{draws};
 ghost use Rattle.window_state.specs.Orders.{FitsLeaving, FitsOrder, FitsOrderEffect, FitsReordering, IsOrderAdded, affected_order, carried_order, reordered_by};
 
-use crate::delivery::{Stamp, posting};
-use crate::queues::{end, post, purge_kin, set_quit, take};
 use crate::sendings::begin;
-use screen_state::ScreenState;
+use display_state::Display;
 use send_state::SendState;
 use std::alloc::{AllocError, Global};
+use thread_queues::{Stamp, end, post, posting, purge_kin, set_quit, take};
 use thread_state::ThreadState;
 use user_model::{Answer, Call, Entry};
 use win_class::Classes;
@@ -28,35 +28,35 @@ use window_state::{
     doom, drop_window, leave, make, name, relook, reorder, unmake, unregister, window_or_none,
 };
 
-/// Adds a post, a class, a message's name, a window or a send, puts a window elsewhere among its siblings, or
-/// changes dirty pixels and begun painting, as the answer says. After want of memory nothing has changed.
+/// Adds a post, a class, a message's name, a window or a send, puts a window elsewhere among its siblings, changes
+/// dirty pixels, begun painting and colours, or keeps a frame, as the answer says. After want of memory nothing has changed.
 pub fn add_item(
     classes: &mut Classes,
     tree: &mut Tree,
     order: &mut Order,
     threads: &mut Vec<ThreadState>,
     sends: &mut SendState,
-    screen: &mut ScreenState,
+    display: &mut Display,
     stamp: Stamp,
     entry: Entry,
 ) -> Result<(), AllocError>
     requires parts { FitsAdding classes.old tree.old threads.old.items stamp.time stamp.cursor entry.who.0 entry.answer entry.call }
     requires order { FitsOrder entry.who.0 entry.answer entry.call tree.old order.old }
     requires sends { FitsAddedSends tree.old.live stamp.time stamp.place entry.who entry.answer entry.call sends.old }
-    requires drawing { IsDrawn tree.old entry }
+    requires drawing { IsPainting tree.old classes.old entry }
     ensures classes { OnOk result (classes.new ≡ added_classes entry.answer entry.call classes.old) }
     ensures tree { OnOk result (IsAddedBy entry.who.0 entry.answer entry.call tree.old tree.new) }
     ensures order { OnOk result (IsOrderAdded entry.answer entry.call tree.old tree.new order.old order.new) }
     ensures threads { OnOk result (EachBy (λ t. changed t (adding_in tree.old.live stamp.time stamp.cursor entry.who.0 entry.answer entry.call)) threads.old.items threads.new.items) }
     ensures sends { OnOk result (sends.new ≡ added_sends tree.old.live stamp.time stamp.place entry.who entry.answer entry.call sends.old) }
-    ensures drawn { OnOk result (draws entry.call entry.answer ≡ true → DrawsScreen tree.old entry screen.old screen.new) }
-    ensures screen { OnOk result (draws entry.call entry.answer ≡ false → screen.new ≡ screen.old) }
+    ensures drawn { OnOk result (draws entry.call entry.answer ≡ true → DrawsDisplay tree.old classes.old entry display.old display.new) }
+    ensures display { OnOk result (draws entry.call entry.answer ≡ false → display.new ≡ display.old) }
     ensures classes_stay { OnErr result (classes.new ≡ classes.old) }
     ensures tree_stays { OnErr result (tree.new ≡ tree.old) }
     ensures order_stays { OnErr result (order.new ≡ order.old) }
     ensures threads_stay { OnErr result (threads.new.items ≡ threads.old.items) }
     ensures sends_stay { OnErr result (sends.new ≡ sends.old) }
-    ensures screen_stays { OnErr result (screen.new ≡ screen.old) }
+    ensures display_stays { OnErr result (display.new ≡ display.old) }
 {
     let alloc = *threads.allocator();
     match entry.answer {
@@ -67,7 +67,9 @@ pub fn add_item(
         Answer::Value(_) => register(alloc, classes, order, entry.call),
         Answer::Window(_) => make(alloc, tree, order, entry.who, entry.call),
         Answer::Inside(_, _) | Answer::Begun(_) => begin(sends, tree, stamp, entry),
-        Answer::Okay | Answer::Painting { .. } => screen.draw(alloc, tree, entry),
+        Answer::Okay | Answer::Painting { .. } | Answer::Snap(_) => {
+            display.draw(alloc, tree, classes, entry)
+        }
         _ => Ok(()),
     }
 }

@@ -1,13 +1,11 @@
 //! The history of the machine, and the parts that stand for it: the windows, the pixels that they own and that
-//! are dirty, the classes, what is kept of each thread, the count of posts and the clock.
+//! are dirty, the colours and the frames, the classes, what is kept of each thread, the count of posts and the clock.
 //!
 //! `CoreState` tells by its accessors what the definitions say of the past, without a walk through the
 //! history, and adds entries. No crate above names a part.
 #![tactic(auto)]
 
 mod change;
-mod delivery;
-mod queues;
 mod sendings;
 mod state;
 

@@ -6,12 +6,12 @@ ghost use Rattle.win_rows.specs.Windows.{is_live};
 ghost use Rattle.send_frames.specs.Book.{IsThread};
 ghost use Rattle.send_state.specs.Parts.{lost_count};
 ghost use Rattle.send_state.specs.Stories.{EachStory, noted_answer, noted_loss, with_begun};
-ghost use Rattle.core_state.specs.Deliveries.{goes_with};
+ghost use Rattle.thread_queues.specs.Deliveries.{goes_with};
 ghost use Rattle.core_state.specs.Sendings.{AreTold, FitsCallback, FitsDropped, FitsLeave, FitsLosing, FitsOption, FitsReply, FitsSending, FitsSendEffect, FitsWait, begun_with, called_back, dropped_count, dropped_losses, dropped_sends, ended_sends, is_of, left_by_call, losses_by, noted_losses, replied_by_call, row_to, sending, affected_sends, waited};
 
-use crate::delivery::Stamp;
 use send_state::{SendRow, SendState, add_story, note_answer};
 use std::alloc::AllocError;
+use thread_queues::Stamp;
 use user_model::{Answer, Call, Entry, SendStory};
 use win_num::{Cause, Fault, Hwnd, Kind, SendId, Thread};
 use win_tree::Tree;

@@ -21,6 +21,7 @@ ghost use Rattle.core_state.specs.Frames.{IsOnTop, wait_end};
 ghost use Rattle.user_model.specs.Windows.{live, window, is_live, parent_in, thread_of, up, next_top};
 ghost use Rattle.user_model.specs.Looks.{look, placed, is_shown};
 ghost use Rattle.user_model.specs.ZOrder.{titled};
+ghost use Rattle.user_model.specs.Colours.{frame_of, snapped};
 ghost use Rattle.user_model.specs.Dirty.{dirty_pixels, must_erase};
 ghost use Rattle.user_model.specs.Painting.{is_painting, to_paint};
 ghost use Rattle.user_model.specs.Pixels.{origin, owner, point, screen};
@@ -37,14 +38,14 @@ ghost use Rattle.thread_state.specs.Threads.{code_of, fresh_thread, told_post, w
 ghost use Rattle.window_state.specs.Steps.{destruction_answer};
 
 use crate::change::{add_item, take_effect};
-use crate::delivery::Stamp;
-use crate::queues::{count_after, note_entry, time_after};
 use crate::sendings::settle_sends;
 use band_region::Region;
-use screen_state::{ScreenState, UpdateBox};
+use display_state::Display;
+use screen_state::UpdateBox;
 use send_state::{SendRow, SendState, Tally, first_cause, named_send};
 use std::alloc::{AllocError, Global};
 use std::marker::Model;
+use thread_queues::{Stamp, count_after, note_entry, time_after};
 use thread_state::ThreadState;
 use user_model::{Answer, Call, Entry, HISTORY_LIMIT, SendCount, SendStory, Setup};
 use win_class::Classes;
@@ -64,8 +65,9 @@ pub struct CoreState {
     history: Vec<Entry>,
     tree: Tree,
     order: Order,
-    /// The pixels of the screen that windows own and that are dirty, and which windows are being painted.
-    screen: ScreenState,
+    /// The pixels of the screen that windows own and that are dirty, which windows are being painted, the colours
+    /// and the frames.
+    display: Display,
     classes: Classes,
     /// What is kept of each thread, from thread 1 on.
     threads: Vec<ThreadState>,
@@ -87,7 +89,7 @@ impl Model for CoreState {
 
     ghost view = { λ s. record { setup = s.setup; past = reverse s.history.items } };
 
-    ghost invariant = { λ s. Stands s.setup (reverse s.history.items) (parts s.tree s.order s.screen s.classes s.threads.items s.post_count s.time s.sends s.tally s.stories.items) };
+    ghost invariant = { λ s. Stands s.setup (reverse s.history.items) (parts s.tree s.order s.display s.classes s.threads.items s.post_count s.time s.sends s.tally s.stories.items) };
 }
 
 impl CoreState {
@@ -101,7 +103,7 @@ impl CoreState {
             history: Vec::new(alloc),
             tree: Tree::new(alloc),
             order: Order::new(alloc),
-            screen: ScreenState::new(alloc, setup)?,
+            display: Display::new(alloc, setup)?,
             classes: Classes::new(alloc),
             threads: fresh_threads(alloc, setup.threads)?,
             post_count: 0,
@@ -511,7 +513,7 @@ impl CoreState {
     pub fn owned_region(&self, w: Hwnd) -> Option<&Region>
         ensures { (p : Point) → told_has (option_copied result) p ≡ (has_pixel (screen self.now.setup) p && ((owner self.now.setup self.now.past p).0 == w.0)) }
     {
-        self.screen.owned_region(w)
+        self.display.screen().owned_region(w)
     }
 
     /// The kind of a live window's dirty pixels and the least rectangle around them, from its own left top corner.
@@ -520,7 +522,8 @@ impl CoreState {
         ensures kind { result.kind ≡ kind_of (dirty_pixels self.now.setup self.now.past w) }
         ensures edges { box result.l result.t result.r result.b ≡ bounds_from (origin self.now.past w) (dirty_pixels self.now.setup self.now.past w) }
     {
-        self.screen
+        self.display
+            .screen()
             .update_box(&self.tree, window_or_none(&self.tree, w))
     }
 
@@ -529,7 +532,7 @@ impl CoreState {
         ensures { result ≡ (is_live self.now.past w && must_erase self.now.setup self.now.past w) }
     {
         match self.tree.find(w) {
-            Some(window) => self.screen.erases(window),
+            Some(window) => self.display.screen().erases(window),
             None => false,
         }
     }
@@ -539,7 +542,7 @@ impl CoreState {
         ensures { result ≡ (is_live self.now.past w && is_painting self.now.past w) }
     {
         match self.tree.find(w) {
-            Some(window) => self.screen.is_painting(window),
+            Some(window) => self.display.screen().is_painting(window),
             None => false,
         }
     }
@@ -548,8 +551,24 @@ impl CoreState {
     pub fn to_paint(&self, thread: u8, filter: Filter) -> Option<Hwnd>
         ensures { result ≡ to_paint self.now.setup self.now.past thread filter }
     {
-        self.screen
+        self.display
+            .screen()
             .to_paint(&self.tree, &self.order, Thread(thread), filter)
+    }
+
+    /// The colours of the frame of a number, counted from 1, row after row, each from left to right, each 0 to 15. None comes
+    /// exactly where there is no frame of the number.
+    pub fn frame(&self, number: u32) -> Option<&[u8]>
+        ensures { option_copied result ≡ frame_of self.now.setup self.now.past number }
+    {
+        self.display.frame(number)
+    }
+
+    /// How many frames are kept.
+    pub fn frame_count(&self) -> usize
+        ensures { result ≡ length (snapped self.now.past) }
+    {
+        self.display.frame_count()
     }
 
     /// How many windows are live.
@@ -632,7 +651,7 @@ impl CoreState {
         let first = first_cause(&self.sends, named);
         let alloc = *self.history.allocator();
         let change = self
-            .screen
+            .display
             .after(alloc, self.setup, &self.tree, &self.order, entry)?;
         make_room(&mut self.history, &mut self.stories)?;
         add_item(
@@ -641,7 +660,7 @@ impl CoreState {
             &mut self.order,
             &mut self.threads,
             &mut self.sends,
-            &mut self.screen,
+            &mut self.display,
             stamp,
             entry,
         )?;
@@ -660,7 +679,7 @@ impl CoreState {
             &mut self.threads,
             entry,
         );
-        self.screen.take_over(change);
+        self.display.take_over(change);
         note_entry(&mut self.threads, entry);
         self.post_count = count_after(self.post_count, entry.answer);
         self.time = time_after(self.time, entry);

@@ -1,14 +1,20 @@
 -- The lines of entries that went on into a sink one after the other.
 use Rattle.std.proofs.Common.{◌≡◌, ℕ, ◌+◌, ◌<◌, List, [], ◌∷◌, ◌++◌, length, get_or, take, drop, reverse, ap, ◌∙◌, sym, subst, append_assoc, append-nil, take-append-drop}
 use Rattle.std.specs.Prelude.{Option}
-use Rattle.std.proofs.lemmas.List.{reverse-append, take_more}
+use Rattle.std.proofs.lemmas.List.{reverse-append, reverse-reverse, take_more}
 use Rattle.user_io.specs.Outside.{AppendsPart}
 use Rattle.user_io.proofs.Written.{part_longer}
 use Rattle.user_model.specs.declared.entry.Entry.{Entry}
+use Rattle.user_model.specs.declared.entry.Setup.{Setup}
+use Rattle.user_model.specs.Legal.{IsLawful}
 use Rattle.user_model.specs.Past.{Past}
 use Rattle.script_tree.specs.Tree.{Tree}
+use Rattle.log_text.specs.Ends.{setup_of}
+use Rattle.log_text.specs.Frames.{shown}
 use Rattle.log_json.specs.Logs.{entry_json, entries_json}
+use Rattle.log_json.specs.Objects.{line, entry_object, frame_line}
 use Rattle.log_text.specs.Passing.{Passes}
+use Rattle.log_text.proofs.EntryTexts.{around}
 use Rattle.log_text.proofs.Passed.{both, part_then}
 
 -- the past of the first entries of a history
@@ -33,6 +39,15 @@ front : (s : Tree) (h : List Entry) (i : ℕ) → (rest : List ℕ) × (entries_
 front s h i =
     let more = longer s (reverse (drop i h)) (past_at h i) in
     (more.0, more.1 ∙ ap (entries_json s) (sym (reverse-append (take i h) (drop i h)) ∙ ap reverse (take-append-drop i h)))
+
+-- the frame that a machine has of an entry is the one that stands behind it
+pub entry_shown : (s : Tree) (setup : Setup) (past : Past) (h : List Entry) (i : ℕ) (d : Entry) (frame : Option (List ℕ)) → setup ≡ setup_of s → IsLawful setup past → h ≡ reverse past → i < length h
+    → ((later before : Past) → IsLawful setup past → past ≡ later ++ get_or h i d ∷ before → frame ≡ shown setup before (get_or h i d).answer)
+    → line (entry_object s (get_or h i d)) ++ frame_line s frame ≡ entry_json s (past_at h i) (get_or h i d)
+entry_shown s setup past h i d frame same lawful is lt has =
+    ap (λ o. line (entry_object s (get_or h i d)) ++ frame_line s o)
+    (has (reverse (drop (i + 1) h)) (past_at h i) lawful (sym (ap reverse is ∙ reverse-reverse past) ∙ around h i d lt)
+    ∙ ap (λ x. shown x (past_at h i) (get_or h i d).answer) same)
 
 -- one more entry was passed on
 pub entry_passed : (a b c : Option (List ℕ)) (x y z : List ℕ) (s : Tree) (h : List Entry) (i : ℕ) (d : Entry) → i < length h → Passes a b x y (entries_json s (past_at h i)) → Passes b c y z (entry_json s (past_at h i) (get_or h i d)) → Passes a c x z (entries_json s (past_at h (i + 1)))

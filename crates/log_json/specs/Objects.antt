@@ -1,6 +1,7 @@
 -- What each line of a run is as JSON.
-use Rattle.std.specs.Prelude.{ℕ, List, [], ◌++◌, codes, decimal, Option, Some, None, if◌then◌else◌, length}
+use Rattle.std.specs.Prelude.{ℕ, List, [], ◌++◌, codes, decimal, map, Option, Some, None, if◌then◌else◌, length}
 use Rattle.serde_json.specs.Data.{Data, string, number, unsigned, array, object, Items, no_items, item, member, no_members}
+use Rattle.serde_json.specs.View.{items_of}
 use Rattle.serde_json.specs.Written.{compact_text}
 use Rattle.user_model.specs.declared.call.Call.{Call}
 use Rattle.user_model.specs.declared.entry.Entry.{Entry}
@@ -16,6 +17,7 @@ use Rattle.log_text.specs.declared.end.End.TheVariants.{Done, Stuck, Spent, Cut}
 use Rattle.log_text.specs.Ends.{setup_of}
 use Rattle.log_text.specs.Entries.{call_text, answer_text}
 use Rattle.log_text.specs.Endings.{end_word, last_call}
+use Rattle.log_text.specs.Frames.{digit, rows}
 
 -- a value on a line of its own, with no blank
 abbrev pub line : Data → List ℕ
@@ -28,6 +30,19 @@ one_member key d = object (member key d no_members)
 -- an entry: its answer and its call as in the log, and who called
 abbrev pub entry_object : Tree → Entry → Data
 entry_object s e = object (member (codes "answer") (string (answer_text s e.answer)) (member (codes "call") (string (call_text s e.call)) (member (codes "who") (number (unsigned e.who.0)) no_members)))
+
+-- a row of a frame: the digits of its colours
+abbrev pub row_string : List ℕ → Data
+row_string row = string (map digit row)
+
+-- a frame of this width and height: its rows, the top one first
+abbrev pub frame_object : ℕ → ℕ → List ℕ → Data
+frame_object width height colours = one_member (codes "frame") (array (items_of (map row_string (rows width height colours))))
+
+-- the line of a frame on a script's screen, where an entry kept one
+abbrev pub frame_line : Tree → Option (List ℕ) → List ℕ
+frame_line s None = []
+frame_line s (Some colours) = line (frame_object s.width s.height colours)
 
 -- how the run ended
 abbrev pub end_object : End → Data

@@ -4,6 +4,7 @@ ghost use Rattle.std.specs.Prelude.{IfOk};
 ghost use Rattle.log_json.specs.Texts.{AreTexts};
 
 use crate::entry::put_entry;
+use crate::frame::put_frame;
 use crate::line::put_line;
 use log_text::Words;
 use script_tree::{Body, Script};
@@ -15,6 +16,13 @@ use win_num::{Code, Thread};
 
 const ENTRIES: &[u8] =
     b"{\"answer\":\"posted 1\",\"call\":\"post_thread 3 WM_USER 1 0\",\"who\":1}\n{\"answer\":\"refused 1444\",\"call\":\"post_thread 9 1025 2 0\",\"who\":15}\n{\"answer\":\"stuck\",\"call\":\"advance\",\"who\":0}\n";
+
+const COLOURS: [u8; 32] = [
+    0, 1, 2, 3, 4, 5, 6, 7, 8, 9, 10, 11, 12, 13, 14, 15, 0, 0, 0, 0, 0, 0, 0, 0, 0, 0, 0, 0, 0, 0,
+    0, 15,
+];
+
+const FRAME: &[u8] = b"{\"frame\":[\"01234567\",\"89abcdef\",\"00000000\",\"0000000f\"]}\n";
 
 const ESCAPED: &[u8] = b"\"a \\\"b\\\" \\\\ \\n \\u0001\"\n";
 
@@ -59,6 +67,18 @@ fn entries(rt: HostRuntime) -> Result<(), Fail> {
     put_entry(alloc, &mut out, &words, lost)?;
     put_entry(alloc, &mut out, &words, stuck)?;
     assert_eq!(rt; out.as_slice(), ENTRIES);
+    Ok(())
+}
+
+#[test]
+fn frames(rt: HostRuntime) -> Result<(), Fail> {
+    let alloc = rt.alloc();
+    let script = nameless(alloc)?;
+    let words = Words::new(&script);
+    let mut out = Vec::new(alloc);
+    put_frame(alloc, &mut out, &words, None)?;
+    put_frame(alloc, &mut out, &words, Some(&COLOURS))?;
+    assert_eq!(rt; out.as_slice(), FRAME);
     Ok(())
 }
 

@@ -2,11 +2,14 @@
 use Rattle.std.proofs.Common.{◌≡◌, ℕ, zero, suc, ◌≤◌, Bool, true, false, List, [], ◌∷◌, ◌++◌, length, Option, Some, None, refl, ap, sym, ◌∙◌, append-nil, arith, reverse, inl, inr, subst}
 use Rattle.std.specs.Prelude.{codes, ◌==◌, if◌then◌else◌, IfSome}
 use Rattle.std.specs.List.{flat_map, AllByRecursion}
-use Rattle.std.proofs.lemmas.Bool.{cases_Bool}
+use Rattle.std.proofs.lemmas.Bool.{cases_Bool, false≢true}
 use Rattle.std.proofs.lemmas.Grind.{flat_map-append}
 use Rattle.std.proofs.lemmas.List.{reverse-append}
 use Rattle.user_model.specs.declared.call.Call.{Call}
+use Rattle.user_model.specs.declared.entry.Answer.{Answer}
+use Rattle.user_model.specs.declared.entry.Answer.TheVariants.{Snap}
 use Rattle.user_model.specs.declared.entry.Entry.{Entry}
+use Rattle.user_model.specs.declared.entry.Setup.{Setup}
 use Rattle.user_model.specs.Counts.{send_count}
 use Rattle.user_model.specs.Past.{Past}
 use Rattle.user_model.specs.Idle.{is_barred}
@@ -18,12 +21,13 @@ use Rattle.script_lines.specs.NameLimits.{AreKnown}
 use Rattle.log_text.specs.declared.end.End.{End}
 use Rattle.log_text.specs.declared.end.End.TheVariants as ends
 use Rattle.log_text.specs.Ends.{setup_of, end_of}
-use Rattle.log_text.specs.Entries.{entry_line, entries_text}
+use Rattle.log_text.specs.Entries.{entry_line, entry_text, entries_text}
+use Rattle.log_text.specs.Frames.{shown, frame_lines}
 use Rattle.log_text.specs.Endings.{end_line, last_call, waits_line, spent_line, extra, sends_line}
 use Rattle.log_text.specs.Logs.{log}
 use Rattle.log_read.specs.declared.log.Extra.{Extra}
 use Rattle.log_read.specs.declared.log.Extra.TheVariants as extras
-use Rattle.log_read.specs.Limits.{IsCall, IsEntry, IsExtra, AreCounts, IsLog}
+use Rattle.log_read.specs.Limits.{keeps_frame, IsFrameless, IsCall, IsEntry, IsExtra, AreCounts, IsLog}
 use Rattle.log_read.specs.Logs.{LogTree, extra_line, spelling, waits_of, extra_of, log_of}
 use Rattle.log_read.proofs.OneLog.{one_log}
 
@@ -32,10 +36,18 @@ use Rattle.log_read.proofs.OneLog.{one_log}
 newest_last : (e : Entry) (past : Past) → reverse (e ∷ past) ≡ reverse past ++ e ∷ []
 newest_last e past = reverse-append (e ∷ []) past
 
-entries_are : (s : Tree) (past : Past) → entries_text s past ≡ flat_map (entry_line s) (reverse past)
-entries_are s [] = refl
-entries_are s (e ∷ past) =
-    ap (λ (l : List ℕ). l ++ entry_line s e) (entries_are s past)
+no_frame : (setup : Setup) (past : Past) (a : Answer) → keeps_frame a ≡ false → shown setup past a ≡ None
+no_frame setup past (Snap k) h = absurd (false≢true (sym h))
+no_frame setup past _ h = refl
+
+entry_is : (s : Tree) (past : Past) (e : Entry) → IsFrameless e → entry_text s past e ≡ entry_line s e
+entry_is s past e h = ap (λ o. entry_line s e ++ frame_lines s o) (no_frame (setup_of s) past e.answer h) ∙ append-nil (entry_line s e)
+
+entries_are : (s : Tree) (past : Past) → AllByRecursion IsFrameless past → entries_text s past ≡ flat_map (entry_line s) (reverse past)
+entries_are s [] h = refl
+entries_are s (e ∷ past) h =
+    ap (λ (l : List ℕ). entries_text s past ++ l) (entry_is s past e h.0)
+    ∙ ap (λ (l : List ℕ). l ++ entry_line s e) (entries_are s past h.1)
     ∙ ap (λ (l : List ℕ). flat_map (entry_line s) (reverse past) ++ l) (sym (append-nil (entry_line s e)))
     ∙ sym (flat_map-append (entry_line s) (reverse past) (e ∷ []))
     ∙ ap (flat_map (entry_line s)) (sym (newest_last e past))
@@ -61,11 +73,11 @@ extras_are s past end (suc n) =
     ∙ ap (λ (l : List ℕ). flat_map (extra_line s) (from_each (extra_of s past end) n) ++ l) (extra_is s past end (suc n))
     ∙ sym (flat_map-append (extra_line s) (from_each (extra_of s past end) n) (extra_of s past end (suc n)))
 
-pub run_text : (s : Tree) (past : Past) → log s past ≡ spelling s (log_of s past)
+pub run_text : (s : Tree) (past : Past) → AllByRecursion IsFrameless past → log s past ≡ spelling s (log_of s past)
 unfolding log spelling
-run_text s past =
+run_text s past h =
     let end : End = end_of s past in
-    ap (λ (l : List ℕ). codes "log 1\n" ++ (l ++ (end_line end ++ (from_each (extra s past end) (length s.threads) ++ sends_line past)))) (entries_are s past)
+    ap (λ (l : List ℕ). codes "log 1\n" ++ (l ++ (end_line end ++ (from_each (extra s past end) (length s.threads) ++ sends_line past)))) (entries_are s past h)
     ∙ ap (λ (l : List ℕ). codes "log 1\n" ++ (flat_map (entry_line s) (reverse past) ++ (end_line end ++ (l ++ sends_line past)))) (extras_are s past end (length s.threads))
 
 -- ---- its limits
@@ -110,5 +122,9 @@ run_fits s past few entries counts = record {
   sends = counts;
 }
 
+frameless : (s : Tree) (past : Past) → AllByRecursion (IsEntry s) past → AllByRecursion IsFrameless past
+frameless s [] h = tt
+frameless s (e ∷ past) h = (h.0.frameless, frameless s past h.1)
+
 pub run_read : (s : Tree) (past : Past) (l : LogTree) → AreKnown (known_of s) → length s.threads ≤ 15 → AllByRecursion (IsEntry s) past → AreCounts (send_count past) → IsLog s l → log s past ≡ spelling s l → l ≡ log_of s past
-run_read s past l h few entries counts fits e = one_log s h l (log_of s past) fits (run_fits s past few entries counts) (sym e ∙ run_text s past)
+run_read s past l h few entries counts fits e = one_log s h l (log_of s past) fits (run_fits s past few entries counts) (sym e ∙ run_text s past (frameless s past entries))

@@ -1,11 +1,12 @@
 -- Which trees are logs of a script.
-use Rattle.std.specs.Prelude.{◌≡◌, ◌^◌, ◌≤◌, ◌<◌, length, FitsSigned, ⊤}
+use Rattle.std.specs.Prelude.{◌≡◌, ◌^◌, ◌≤◌, ◌<◌, length, FitsSigned, ⊤, Bool, true, false}
 use Rattle.std.specs.Int.{w32, w64}
 use Rattle.std.specs.List.{AllByRecursion}
 use Rattle.win_num.specs.declared.code.Code.{Code}
 use Rattle.win_num.specs.declared.code.Code.TheVariants as codes_of
 use Rattle.user_model.specs.declared.call.Call.{Call}
 use Rattle.user_model.specs.declared.entry.Answer.{Answer}
+use Rattle.user_model.specs.declared.entry.Answer.TheVariants.{Snap}
 use Rattle.user_model.specs.declared.entry.Entry.{Entry}
 use Rattle.user_model.specs.declared.entry.SendCount.{SendCount}
 use Rattle.call_fields.specs.declared.value.Value.{Value}
@@ -53,11 +54,21 @@ IsCall s c = AllByRecursion (IsValue s) (call_parts c)
 abbrev pub IsAnswer : Tree → Answer → Type 0
 IsAnswer s a = AllByRecursion (IsValue s) (answer_parts a)
 
--- an actor is the clock or one of 15 threads
+-- whether the entry of an answer kept a frame, whose lines stand behind its own
+abbrev pub keeps_frame : Answer → Bool
+keeps_frame (Snap k) = true
+keeps_frame _ = false
+
+-- the entry kept no frame
+abbrev pub IsFrameless : Entry → Type 0
+IsFrameless e = keeps_frame e.answer ≡ false
+
+-- an actor is the clock or one of 15 threads; entries that kept a frame aren't read
 pub record IsEntry (s : Tree) (e : Entry) : Type 0 where
   pub who : e.who.0 ≤ 15
   pub call : IsCall s e.call
   pub answer : IsAnswer s e.answer
+  pub frameless : IsFrameless e
 
 -- lines of waiting threads stand where a run is stuck, and lines of spent ones where it is spent
 abbrev pub IsExtra : Tree → End → Extra → Type 0

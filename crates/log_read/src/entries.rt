@@ -8,7 +8,7 @@ ghost use Rattle.user_model.specs.declared.entry.Entry.{Entry};
 ghost use Rattle.script_lines.specs.Known.{known_of};
 ghost use Rattle.script_lines.specs.LineTexts.{joined};
 ghost use Rattle.script_lines.specs.NameLimits.{AreKnown};
-ghost use Rattle.log_read.specs.Limits.{IsCall, IsAnswer, IsEntry};
+ghost use Rattle.log_read.specs.Limits.{IsCall, IsAnswer, IsEntry, keeps_frame};
 ghost use Rattle.log_read.specs.Reading.{actor_at};
 ghost use Rattle.log_read.specs.Words.{call_words, answer_words, entry_words};
 
@@ -62,7 +62,14 @@ fn answer_at(words: &Words, line: &[&[u8]], at: usize) -> Option<Answer>
     answer_of_parts(name, &values)
 }
 
-/// The entry with these words.
+/// Whether the entry of an answer kept a frame, whose lines stand behind its own.
+fn keeps_frame(answer: Answer) -> bool
+    ensures { result ≡ keeps_frame answer }
+{
+    matches!(answer, Answer::Snap(_))
+}
+
+/// The entry with these words. None comes also where it kept a frame.
 fn entry_at(words: &Words, line: &[&[u8]]) -> Option<Entry>
     requires named { AreKnown (known_of words.now.script.now) }
     ensures fits { IfSome result (IsEntry words.now.script.now) }
@@ -71,6 +78,9 @@ fn entry_at(words: &Words, line: &[&[u8]]) -> Option<Entry>
     let who = actor_at(word_at(line, 0))?;
     let call = call_at(words, line, 1)?;
     let answer = answer_at(words, line, 3 + call_form(call_name(call)).fields.len())?;
+    if keeps_frame(answer) {
+        return None;
+    }
     Some(Entry { who, call, answer })
 }
 

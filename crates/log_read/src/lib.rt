@@ -6,6 +6,7 @@
 //! `end spent` any number of lines `spent T`, and none after the other two words; whether they are those of
 //! the run isn't told here. WHO and T are numbers from 0 to 15. A class, a title, a message that has a name and
 //! a procedure are written by their names, and those of classes, titles and procedures must be the script's.
+//! An entry answered `snap K` has kept a frame, whose lines stand behind its own: such an entry isn't read, and the text is refused.
 #![tactic(auto)]
 
 mod ending;

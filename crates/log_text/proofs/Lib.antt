@@ -1,3 +1,4 @@
 pub mod EntryTexts
+pub mod FrameTexts
 pub mod NoName
 pub mod Passed

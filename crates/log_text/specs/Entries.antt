@@ -18,6 +18,8 @@ use Rattle.call_fields.specs.Values.{flag_number}
 use Rattle.call_fields.specs.Words.{source_word, cause_word, code_word}
 use Rattle.user_io.specs.Text.{operand}
 use Rattle.script_tree.specs.Tree.{Tree, ProcedureTree}
+use Rattle.log_text.specs.Ends.{setup_of}
+use Rattle.log_text.specs.Frames.{shown, frame_lines}
 
 -- a blank and a message, by its name where it has one
 abbrev pub message_text : ℕ → List ℕ
@@ -78,9 +80,9 @@ answer_text s a = (answer_row (answer_name a)).word ++ flat_map (value_text s) (
 abbrev pub entry_line : Tree → Entry → List ℕ
 entry_line s e = decimal e.who.0 ++ (codes " " ++ (call_text s e.call ++ (codes " = " ++ (answer_text s e.answer ++ codes "\n"))))
 
--- an entry after the past before it: its line
+-- an entry after the past before it: its line, and the frame that it kept
 abbrev pub entry_text : Tree → Past → Entry → List ℕ
-entry_text s past e = entry_line s e
+entry_text s past e = entry_line s e ++ frame_lines s (shown (setup_of s) past e.answer)
 
 -- the entries of a past, from the oldest on, each after the past before it
 abbrev pub entries_text : Tree → Past → List ℕ

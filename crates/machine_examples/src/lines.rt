@@ -18,6 +18,8 @@ pub enum Line {
     History,
     /// What became of its sends.
     Sends,
+    /// The colours of the frame of a number.
+    Frame(u32),
     /// A call of an actor.
     Call(Thread, Call),
 }
@@ -37,6 +39,7 @@ impl Line {
         let (first, rest) = line.split_once(' ')?;
         match first {
             "machine" => Some(Line::Machine(rest.parse().ok()?)),
+            "frame" => Some(Line::Frame(rest.parse().ok()?)),
             "barred" => Some(Line::Barred(Thread(rest.parse().ok()?))),
             _ => Some(Line::Call(Thread(first.parse().ok()?), call_of(rest)?)),
         }

@@ -80,6 +80,9 @@ undraws (calls.Invalidate w l t r b erase) answers.Okay h = absurd (false≢true
 undraws (calls.Validate w l t r b) answers.Okay h = absurd (false≢true h)
 undraws (calls.EndPaint w) answers.Okay h = absurd (false≢true h)
 undraws (calls.BeginPaint w) (answers.Painting erases l t r b) h = absurd (false≢true h)
+undraws (calls.Fill w l t r b colour) answers.Okay h = absurd (false≢true h)
+undraws (calls.Erase w) answers.Okay h = absurd (false≢true h)
+undraws calls.Snap (answers.Snap k) h = absurd (false≢true h)
 undraws _ _ h = refl
 
 may_change : (changes rest : Bool) → (not changes || rest) ≡ false → changes ≡ true

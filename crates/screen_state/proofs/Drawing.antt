@@ -24,9 +24,11 @@ use Rattle.user_model.specs.Idle.{reply}
 use Rattle.user_model.specs.Legal.{IsLawful}
 use Rattle.user_model.specs.Windows.{Window, find_window, is_live}
 use Rattle.user_model.specs.Pixels.{screen}
+use Rattle.user_model.specs.Colours.{is_in_clip, session, session_told}
 use Rattle.user_model.specs.Dirty.{cleans, exposes, flag_told, has_dirty, invalidates, is_dirty, is_in_client, must_erase, owns, set_where, touches}
 use Rattle.user_model.specs.Refusals.{is_no_rect}
 use Rattle.user_model.specs.Painting.{is_painting, painting_told}
+use Rattle.user_model.proofs.ColourLaws.{session-next}
 use Rattle.user_model.proofs.DirtyLaws.{dirty-next, flag-next, painting-next}
 use Rattle.user_model.proofs.WindowFacts.{live_within}
 use Rattle.window_state.specs.Trees.{IsTreeAt}
@@ -38,17 +40,18 @@ use Rattle.screen_owners.specs.Owners.{region_in}
 use Rattle.dirty_windows.specs.declared.entries.DirtyWindow.{DirtyWindow}
 use Rattle.dirty_windows.specs.LookUps.{area_in, erases_in}
 use Rattle.paint_sessions.specs.declared.sessions.Session.{Session}
-use Rattle.paint_sessions.specs.LookUps.{is_begun}
+use Rattle.paint_sessions.specs.LookUps.{clip_in, is_begun}
 use Rattle.screen_state.specs.Owned.{AreOwnersAt}
 use Rattle.screen_state.specs.Parts.{IsClientPart, IsLiveAt}
 use Rattle.screen_state.specs.Shown.{changes_owners, shows}
-use Rattle.screen_state.specs.Screens.{DrawsScreen, IsDrawn, IsEnded, IsInvalidated, IsScreenAt, IsTaken, IsValidated, Kept, draws}
+use Rattle.screen_state.specs.Screens.{DrawsScreen, IsDrawn, IsEnded, IsInvalidated, IsScreenAt, IsTaken, IsValidated, Kept, draws, lets_through}
 use Rattle.screen_state.specs.Walks.{IsSeen}
+use Rattle.screen_state.proofs.Clips.{begun_clip, clip_by, ended_clip, in_session}
 use Rattle.screen_state.proofs.Followed.{kept_follow, no_order}
 use Rattle.screen_state.proofs.Owning.{owner_stands_there, region_owns}
-use Rattle.screen_state.proofs.Screens.{IsStill, none_exposed, still}
+use Rattle.screen_state.proofs.Screens.{IsStill, none_exposed, stays, still}
 use Rattle.screen_state.proofs.Somewhere.{some_listed, some_passes}
-use Rattle.screen_state.proofs.Undrawn.{IsPart, begin_told, end_told, invalidate_told, validate_told}
+use Rattle.screen_state.proofs.Undrawn.{IsPart, begin_told, end_told, invalidate_told, is_drawing, validate_told}
 
 -- ---- what is seen of a screen
 
@@ -81,8 +84,11 @@ module _ (setup : Setup) (past : Past) (t : Windows) (e : Entry) (lawful : IsLaw
   pub drawn_painting : (w : ℕ) → is_painting (e ∷ past) w ≡ unwrap_or (painting_told e.call w) (is_painting past w)
   drawn_painting w = painting-next e past w fine
 
+  pub drawn_clip : (w : ℕ) (p : Point) → is_in_clip setup (e ∷ past) w p ≡ in_session setup w p (unwrap_or (session_told w e.call past) (session past w))
+  drawn_clip w p = clip_by setup (e ∷ past) w p (unwrap_or (session_told w e.call past) (session past w)) (session-next e past w fine)
+
 -- a live window's region has the pixels that it owns
-live_region : (setup : Setup) (past : Past) (os : List Owned) → IsLawful setup past → AreOwnersAt setup past os → (w : ℕ) (p : Point) → is_live past w ≡ true → region_has (region_in os w) p ≡ owns setup past w p
+pub live_region : (setup : Setup) (past : Past) (os : List Owned) → IsLawful setup past → AreOwnersAt setup past os → (w : ℕ) (p : Point) → is_live past w ≡ true → region_has (region_in os w) p ≡ owns setup past w p
 live_region setup past os lawful own w p lives =
     let some : eqb w 0 ≡ false = ne_eqb w 0 (λ (none : w ≡ 0). absurd (omega (arith, none, (live_within setup past w lawful lives).0))) in
     ap (λ b. not b && region_has (region_in os w) p) (sym some) ∙ region_owns setup past lawful os own w p
@@ -121,7 +127,7 @@ pub invalidate_draws : (t : Windows) (e : Entry) (w : ℕ) (l top r b : ℤ) (er
     → ((v : ℕ) → erases_in ds v ≡ (erases_in old.dirty v || (eqb w v && eqb erase 1)))
     → DrawsScreen t e old (record { owners = old.owners; dirty = ds; sessions = old.sessions })
 invalidate_draws t e w l top r b erase part old ds is_call is_okay client area flags setup past lawful tree right was =
-    record { owners = same_owners setup past t e lawful tree right fine leaves old.owners was.owners; dirty = dirty; erases = erases; gone = gone; painting = painting }
+    record { owners = same_owners setup past t e lawful tree right fine leaves old.owners was.owners; dirty = dirty; erases = erases; gone = gone; painting = painting; clips = clips }
   where
     fine : is_refused e ≡ false
     fine = okay_fine e.answer is_okay
@@ -164,6 +170,9 @@ invalidate_draws t e w l top r b erase part old ds is_call is_okay client area f
     painting : (v : ℕ) → is_begun old.sessions v ≡ is_painting (e ∷ past) v
     painting v = was.painting v ∙ sym (drawn_painting setup past t e lawful tree right fine leaves v ∙ ap (λ (c : Call). unwrap_or (painting_told c v) (is_painting past v)) is_call)
 
+    clips : (v : ℕ) (p : Point) → lets_through old.sessions v p ≡ is_in_clip setup (e ∷ past) v p
+    clips v p = was.clips v p ∙ sym (drawn_clip setup past t e lawful tree right fine leaves v p ∙ ap (λ (c : Call). in_session setup v p (unwrap_or (session_told v c past) (session past v))) is_call)
+
 -- ---- validate
 
 valid_pick : (own was k : Bool) → ((own && was) && not k) ≡ (own && (false || (not k && (own && was))))
@@ -181,7 +190,7 @@ pub validate_draws : (t : Windows) (e : Entry) (w : ℕ) (l top r b : ℤ) (part
     → ((v : ℕ) → v ≢ w → erases_in ds v ≡ erases_in old.dirty v)
     → DrawsScreen t e old (record { owners = old.owners; dirty = ds; sessions = old.sessions })
 validate_draws t e w l top r b part old ds is_call is_okay client area cleared kept others setup past lawful tree right was =
-    record { owners = same_owners setup past t e lawful tree right fine leaves old.owners was.owners; dirty = dirty; erases = erases; gone = gone; painting = painting }
+    record { owners = same_owners setup past t e lawful tree right fine leaves old.owners was.owners; dirty = dirty; erases = erases; gone = gone; painting = painting; clips = clips }
   where
     fine : is_refused e ≡ false
     fine = okay_fine e.answer is_okay
@@ -232,6 +241,9 @@ validate_draws t e w l top r b part old ds is_call is_okay client area cleared k
     painting : (v : ℕ) → is_begun old.sessions v ≡ is_painting (e ∷ past) v
     painting v = was.painting v ∙ sym (drawn_painting setup past t e lawful tree right fine leaves v ∙ ap (λ (c : Call). unwrap_or (painting_told c v) (is_painting past v)) is_call)
 
+    clips : (v : ℕ) (p : Point) → lets_through old.sessions v p ≡ is_in_clip setup (e ∷ past) v p
+    clips v p = was.clips v p ∙ sym (drawn_clip setup past t e lawful tree right fine leaves v p ∙ ap (λ (c : Call). in_session setup v p (unwrap_or (session_told v c past) (session past v))) is_call)
+
 -- ---- painting begins
 
 begin_pick : (own was : Bool) → (own && was) ≡ (own && (false || (true && (own && was))))
@@ -250,7 +262,7 @@ none_and false = refl
 
 pub begin_draws : (t : Windows) (e : Entry) (w : ℕ) (erases : Bool) (l top r b : ℤ) (old new : Kept) → e.call ≡ calls.BeginPaint w → e.answer ≡ answers.Painting erases l top r b → IsTaken w old new → DrawsScreen t e old new
 begin_draws t e w to_erase l top r b old new is_call is_begun_so taken setup past lawful tree right was =
-    record { owners = subst (AreOwnersAt setup (e ∷ past)) (sym taken.owners) (same_owners setup past t e lawful tree right fine leaves old.owners was.owners); dirty = dirty; erases = erases; gone = gone; painting = painting }
+    record { owners = subst (AreOwnersAt setup (e ∷ past)) (sym taken.owners) (same_owners setup past t e lawful tree right fine leaves old.owners was.owners); dirty = dirty; erases = erases; gone = gone; painting = painting; clips = clips }
   where
     fine : is_refused e ≡ false
     fine = ap is_refusal is_begun_so
@@ -293,6 +305,11 @@ begin_draws t e w to_erase l top r b old new is_call is_begun_so taken setup pas
         ∙ (begun_pick (is_painting past v) (eqb w v)
         ∙ sym (drawn_painting setup past t e lawful tree right fine leaves v ∙ ap (λ (c : Call). unwrap_or (painting_told c v) (is_painting past v)) is_call)))
 
+    clips : (v : ℕ) (p : Point) → lets_through new.sessions v p ≡ is_in_clip setup (e ∷ past) v p
+    clips v p =
+        begun_clip setup past w old new taken was.dirty was.clips v p
+        ∙ sym (drawn_clip setup past t e lawful tree right fine leaves v p ∙ ap (λ (c : Call). in_session setup v p (unwrap_or (session_told v c past) (session past v))) is_call)
+
 -- ---- painting ends
 
 ended_pick : (was k : Bool) → (was && not k) ≡ unwrap_or (set_where k false) was
@@ -303,9 +320,10 @@ ended_pick false false = refl
 
 pub end_draws : (t : Windows) (e : Entry) (w : ℕ) (old : Kept) (ss : List Session) → e.call ≡ calls.EndPaint w → e.answer ≡ answers.Okay
     → ((v : ℕ) → is_begun ss v ≡ (is_begun old.sessions v && not (eqb w v)))
+    → ((v : ℕ) → v ≢ w → clip_in ss v ≡ clip_in old.sessions v)
     → DrawsScreen t e old (record { owners = old.owners; dirty = old.dirty; sessions = ss })
-end_draws t e w old ss is_call is_okay left setup past lawful tree right was =
-    record { owners = same_owners setup past t e lawful tree right fine leaves old.owners was.owners; dirty = dirty; erases = erases; gone = gone; painting = painting }
+end_draws t e w old ss is_call is_okay left others setup past lawful tree right was =
+    record { owners = same_owners setup past t e lawful tree right fine leaves old.owners was.owners; dirty = dirty; erases = erases; gone = gone; painting = painting; clips = clips }
   where
     fine : is_refused e ≡ false
     fine = okay_fine e.answer is_okay
@@ -333,6 +351,25 @@ end_draws t e w old ss is_call is_okay left setup past lawful tree right was =
         ∙ (ap (λ c. c && not (eqb w v)) (was.painting v)
         ∙ (ended_pick (is_painting past v) (eqb w v)
         ∙ sym (drawn_painting setup past t e lawful tree right fine leaves v ∙ ap (λ (c : Call). unwrap_or (painting_told c v) (is_painting past v)) is_call)))
+
+    clips : (v : ℕ) (p : Point) → lets_through ss v p ≡ is_in_clip setup (e ∷ past) v p
+    clips v p =
+        ended_clip setup past w old.sessions ss left others was.clips v p
+        ∙ sym (drawn_clip setup past t e lawful tree right fine leaves v p ∙ ap (λ (c : Call). in_session setup v p (unwrap_or (session_told v c past) (session past v))) is_call)
+
+-- ---- an entry that leaves what is kept
+
+plain_draws : (t : Windows) (e : Entry) (s : Kept) → is_drawing e.call ≡ false → is_refused e ≡ false → changes_owners e.call e.answer ≡ false → DrawsScreen t e s s
+plain_draws t e s idle fine leaves setup past lawful tree right was =
+    let order = order_of setup past lawful in
+    let same = same_live setup past t e lawful tree right fine leaves in
+    stays setup past e (lawful, right) (still setup past e order.0 order.1 right leaves) (λ (h : is_refused e ≡ false). idle) s was
+    (same_owners setup past t e lawful tree right fine leaves s.owners was.owners)
+    (λ w lives. was.erases w (sym (same w) ∙ lives))
+    (λ w dead. was.gone w (sym (same w) ∙ dead))
+
+pub plain_at : (t : Windows) (e : Entry) (s : Kept) (call : Call) (a : Answer) → e.call ≡ call → e.answer ≡ a → is_drawing call ≡ false → is_refusal a ≡ false → changes_owners call a ≡ false → DrawsScreen t e s s
+plain_at t e s call a is_call is idle fine leaves = plain_draws t e s (ap is_drawing is_call ∙ idle) (ap is_refusal is ∙ fine) (ap (λ c. changes_owners c e.answer) is_call ∙ (ap (changes_owners call) is ∙ leaves))
 
 -- ---- what the calls of an entry need
 
@@ -425,4 +462,4 @@ pub finished : (t : Windows) (e : Entry) (w u : ℕ) (old new : Kept) → e.call
 finished t e w u old new is_call is_okay same done =
     let x = subst (λ n. IsEnded n old new) same done in
     subst (DrawsScreen t e old) (remade new old.owners old.dirty new.sessions (sym x.owners) (sym x.dirty) refl)
-    (end_draws t e w old new.sessions is_call is_okay x.begun)
+    (end_draws t e w old new.sessions is_call is_okay x.begun x.clips)

@@ -1,4 +1,5 @@
 pub mod Changed
+pub mod Clips
 pub mod DirtyAt
 pub mod Drawing
 pub mod Entered
@@ -7,9 +8,11 @@ pub mod OwnersKept
 pub mod Parts
 pub mod Owning
 pub mod QuietEntries
+pub mod Reaching
 pub mod Screens
 pub mod Somewhere
 pub mod Undrawn
+pub mod Unmoved
 pub mod Unset
 pub mod UpdateBoxes
 pub mod Walking

@@ -19,8 +19,10 @@ use Rattle.user_model.specs.Idle.{reply}
 use Rattle.user_model.specs.Legal.{IsLawful}
 use Rattle.user_model.specs.Windows.{Window, find_window, is_live, live}
 use Rattle.user_model.specs.Pixels.{box_of}
+use Rattle.user_model.specs.Colours.{is_in_clip, session}
 use Rattle.user_model.specs.Dirty.{cleans, exposes, exposes_some, is_dirty, moves, must_erase, owns, touches}
 use Rattle.user_model.specs.Painting.{is_painting}
+use Rattle.user_model.proofs.ColourLaws.{session-next, session-refused}
 use Rattle.user_model.proofs.DirtyLaws.{dirty-next, dirty-refused, flag-next, flag-refused, painting-next, painting-refused}
 use Rattle.user_model.proofs.WindowFacts.{live_within}
 use Rattle.user_model.proofs.WindowLooks.{look-same}
@@ -35,12 +37,13 @@ use Rattle.paint_sessions.specs.declared.sessions.Session.{Session}
 use Rattle.paint_sessions.specs.LookUps.{is_begun}
 use Rattle.screen_state.specs.Owned.{AreOwnersAt}
 use Rattle.screen_state.specs.Shown.{changes_owners, shows}
-use Rattle.screen_state.specs.Screens.{Kept, FollowsScreen, IsScreenAt, draws, is_none_dirty, keeps_screen}
+use Rattle.screen_state.specs.Screens.{Kept, FollowsScreen, IsScreenAt, draws, is_none_dirty, keeps_screen, lets_through}
+use Rattle.screen_state.proofs.Clips.{clip_by}
 use Rattle.screen_state.proofs.Followed.{kept_follow, no_look, no_order, region_none}
 use Rattle.screen_state.proofs.Owning.{dead_owns, owner_stands_there, region_owns}
 use Rattle.screen_state.proofs.OwnersKept.{box_same, owner_same}
 use Rattle.screen_state.proofs.Somewhere.{none_passes, some_listed, some_passes}
-use Rattle.screen_state.proofs.Undrawn.{is_drawing, no_clean, no_dirt, no_flag, no_paint, undrawn}
+use Rattle.screen_state.proofs.Undrawn.{is_drawing, no_clean, no_dirt, no_flag, no_paint, no_session, undrawn}
 use Rattle.screen_state.proofs.Unset.{unset_fresh}
 
 and_none : (b : Bool) → false ≡ (b && false)
@@ -49,12 +52,13 @@ and_none false = refl
 
 -- before any entry
 pub none_yet : (setup : Setup) (os : List Owned) (ds : List DirtyWindow) (ss : List Session) → AreOwnersAt setup [] os → ds ≡ [] → ss ≡ [] → IsScreenAt setup [] (record { owners = os; dirty = ds; sessions = ss })
-none_yet setup os ds ss own no_dirt no_session = record {
+none_yet setup os ds ss own none_dirty none_begun = record {
   owners = own;
-  dirty = λ w p. ap (λ (x : List DirtyWindow). region_has (area_in x w) p) no_dirt ∙ and_none (owns setup [] w p);
+  dirty = λ w p. ap (λ (x : List DirtyWindow). region_has (area_in x w) p) none_dirty ∙ and_none (owns setup [] w p);
   erases = λ w lives. absurd (false≢true lives);
-  gone = λ w dead. ap (λ (x : List DirtyWindow). erases_in x w) no_dirt;
-  painting = λ w. ap (λ (x : List Session). is_begun x w) no_session;
+  gone = λ w dead. ap (λ (x : List DirtyWindow). erases_in x w) none_dirty;
+  painting = λ w. ap (λ (x : List Session). is_begun x w) none_begun;
+  clips = λ w p. ap (λ (x : List Session). lets_through x w p) none_begun;
 }
 
 or_true : (b : Bool) → (b || true) ≡ true
@@ -102,6 +106,9 @@ module _ (setup : Setup) (past : Past) (e : Entry) (lawful : IsLawful setup (e �
 
   undrawn_painting : is_refused e ≡ false → is_drawing e.call ≡ false → (w : ℕ) → is_painting (e ∷ past) w ≡ is_painting past w
   undrawn_painting fine quiet w = painting-next e past w fine ∙ ap (λ o. unwrap_or o (is_painting past w)) (no_paint e.call quiet w)
+
+  undrawn_clip : is_refused e ≡ false → is_drawing e.call ≡ false → (w : ℕ) (p : Point) → is_in_clip setup (e ∷ past) w p ≡ is_in_clip setup past w p
+  undrawn_clip fine quiet w p = clip_by setup (e ∷ past) w p (session past w) (session-next e past w fine ∙ ap (λ o. unwrap_or o (session past w)) (no_session e.call quiet w past))
 
   -- ---- owners and dirty pixels that were computed again
 
@@ -166,6 +173,7 @@ module _ (setup : Setup) (past : Past) (e : Entry) (lawful : IsLawful setup (e �
         erases = new_erases;
         gone = λ w dead. kept_erases w ∙ ap (λ b. b && erases_in ds w) (among w ∙ dead);
         painting = λ w. was.painting w ∙ sym (undrawn_painting fine quiet w);
+        clips = λ w p. was.clips w p ∙ sym (undrawn_clip fine quiet w p);
       }
 
 -- ---- an entry that exposes nothing
@@ -179,7 +187,7 @@ same_int-self : (a : ℤ) → same_int a a ≡ true
 same_int-self (pos m) = eq-eqb m m refl
 same_int-self (negsuc m) = eq-eqb m m refl
 
-same_box-self : (b : Box) → same_box b b ≡ true
+pub same_box-self : (b : Box) → same_box b b ≡ true
 same_box-self b =
     ap (λ c. c && same_int b.top b.top && same_int b.right b.right && same_int b.bottom b.bottom) (same_int-self b.left)
     ∙ (ap (λ c. c && same_int b.right b.right && same_int b.bottom b.bottom) (same_int-self b.top)
@@ -232,10 +240,7 @@ module _ (setup : Setup) (past : Past) (e : Entry) (lawful : IsLawful setup (e �
   pub none_exposed : (w : ℕ) → exposes_some setup e past w ≡ false
   none_exposed w = none_passes (exposes setup e past w) (screen_points setup.width setup.height) (rests.hidden w)
 
-  module _ (quiet : draws e.call e.answer ≡ false) where
-    idle : is_refused e ≡ false → is_drawing e.call ≡ false
-    idle fine = undrawn setup past e.who.0 e.call e.answer (sym lawful.1) fine quiet
-
+  module _ (idle : is_refused e ≡ false → is_drawing e.call ≡ false) where
     same_dirty : (w : ℕ) (p : Point) → is_dirty setup (e ∷ past) w p ≡ is_dirty setup past w p
     same_dirty w p = by (is_refused e) refl
       where
@@ -261,6 +266,13 @@ module _ (setup : Setup) (past : Past) (e : Entry) (lawful : IsLawful setup (e �
         by true h = painting-refused e past w h
         by false h = undrawn_painting setup past e lawful h (idle h) w
 
+    same_clip : (w : ℕ) (p : Point) → is_in_clip setup (e ∷ past) w p ≡ is_in_clip setup past w p
+    same_clip w p = by (is_refused e) refl
+      where
+        by : (b : Bool) → is_refused e ≡ b → is_in_clip setup (e ∷ past) w p ≡ is_in_clip setup past w p
+        by true h = clip_by setup (e ∷ past) w p (session past w) (session-refused e past w h)
+        by false h = undrawn_clip setup past e lawful h (idle h) w p
+
     -- so the screen stays, where the flags of the windows that are live do
     pub stays : (s : Kept) → IsScreenAt setup past s → AreOwnersAt setup (e ∷ past) s.owners
         → ((w : ℕ) → is_live (e ∷ past) w ≡ true → erases_in s.dirty w ≡ must_erase setup past w)
@@ -272,6 +284,7 @@ module _ (setup : Setup) (past : Past) (e : Entry) (lawful : IsLawful setup (e �
       erases = λ w lives. flags w lives ∙ sym (same_flag w);
       gone = gone;
       painting = λ w. was.painting w ∙ sym (same_painting w);
+      clips = λ w p. was.clips w p ∙ sym (same_clip w p);
     }
 
 -- ---- an entry that surely leaves the screen
@@ -299,18 +312,21 @@ stays_follow setup t z e s keeps quiet past lawful tree order right was = by (ch
     all_own : Bool
     all_own = list_all (λ (o : Owned). eqb o.window.0 0) s.owners
 
+    idle : is_refused e ≡ false → is_drawing e.call ≡ false
+    idle fine = undrawn setup past e.who.0 e.call e.answer (sym right) fine quiet
+
     own : AreOwnersAt setup (e ∷ past) s.owners
     own = kept_follow setup t z e s.owners (fewer_tests (changes_owners e.call e.answer) (shows e.call e.answer) all_own (is_none_dirty s.dirty) keeps) past lawful tree order right was.owners
 
     by : (b : Bool) → changes_owners e.call e.answer ≡ b → IsScreenAt setup (e ∷ past) s
     by false h =
         let same : (w : ℕ) → is_live (e ∷ past) w ≡ is_live past w = λ w. ap (λ (ws : List Window). is_some (find_window ws w)) (live_rest setup past e right (no_order e.call e.answer h)) in
-        stays setup past e (lawful, right) (still setup past e z order right h) quiet s was own
+        stays setup past e (lawful, right) (still setup past e z order right h) idle s was own
         (λ w lives. was.erases w (sym (same w) ∙ lives))
         (λ w dead. was.gone w (sym (same w) ∙ dead))
     by true h =
         let none = none_of (changes_owners e.call e.answer) (shows e.call e.answer) all_own (is_none_dirty s.dirty) h keeps in
-        stays setup past e (lawful, right) (still_none setup past e s.owners (lawful, right) was.owners own none.0) quiet s was own
+        stays setup past e (lawful, right) (still_none setup past e s.owners (lawful, right) was.owners own none.0) idle s was own
         (λ w lives. flags w none.1 lives (is_live past w) refl)
         (λ w dead. none_set s.dirty w none.1)
       where

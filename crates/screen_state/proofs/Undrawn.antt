@@ -1,4 +1,4 @@
--- Which entries draw: they change dirty pixels or begun painting, and no window.
+-- Which entries change dirty pixels or begun painting, and no window.
 use Rattle.std.proofs.Common.{◌≡◌, ◌∙◌, ℕ, Bool, true, false, eqb, None, refl, sym, ap}
 use Rattle.std.specs.Prelude.{ℤ, ◌||◌, nat_lt, not, ◌&&◌}
 use Rattle.std.proofs.lemmas.Bool.{false≢true, or_parts, true≢false}
@@ -11,6 +11,7 @@ use Rattle.user_model.specs.declared.entry.Setup.{Setup}
 use Rattle.user_model.specs.Past.{Past, is_refusal}
 use Rattle.user_model.specs.Idle.{reply}
 use Rattle.user_model.specs.Windows.{is_live}
+use Rattle.user_model.specs.Colours.{session_told}
 use Rattle.user_model.specs.Dirty.{cleans, flag_told, invalidates}
 use Rattle.user_model.specs.Painting.{is_painting, painting_told}
 use Rattle.user_model.specs.Refusals.{if_live, invalid_parameter, invalid_window_handle, access_denied, is_no_rect}
@@ -18,7 +19,7 @@ use Rattle.user_model.specs.Windows.{thread_of}
 use Rattle.user_model.proofs.ReplyLaws.{by_call, not_false, not_refused}
 use Rattle.screen_state.specs.Screens.{draws}
 
--- whether a call may draw
+-- whether a call may change dirty pixels or begun painting, and no window
 abbrev pub is_drawing : Call → Bool
 is_drawing (calls.Invalidate w l t r b erase) = true
 is_drawing (calls.Validate w l t r b) = true
@@ -46,6 +47,11 @@ pub no_paint : (call : Call) → is_drawing call ≡ false → (w : ℕ) → pai
 no_paint (calls.BeginPaint v) h w = absurd (true≢false h)
 no_paint (calls.EndPaint v) h w = absurd (true≢false h)
 no_paint _ h w = refl
+
+pub no_session : (call : Call) → is_drawing call ≡ false → (w : ℕ) (before : Past) → session_told w call before ≡ None
+no_session (calls.BeginPaint v) h w before = absurd (true≢false h)
+no_session (calls.EndPaint v) h w before = absurd (true≢false h)
+no_session _ h w before = refl
 
 -- ---- what an answer to such a call tells
 

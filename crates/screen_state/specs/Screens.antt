@@ -7,16 +7,17 @@ use Rattle.win_order.specs.Layers.{Layers}
 use Rattle.win_num.specs.declared.shapes.Rect.{Rect}
 use Rattle.band_region.specs.Regions.{IsEmpty, region_has}
 use Rattle.user_model.specs.declared.call.Call.{Call}
-use Rattle.user_model.specs.declared.call.Call.TheVariants.{Invalidate, Validate, BeginPaint, EndPaint}
+use Rattle.user_model.specs.declared.call.Call.TheVariants.{Invalidate, Validate, BeginPaint, EndPaint, Fill, Erase, Snap}
 use Rattle.user_model.specs.declared.entry.Answer.{Answer}
-use Rattle.user_model.specs.declared.entry.Answer.TheVariants.{Okay, Painting}
+use Rattle.user_model.specs.declared.entry.Answer.TheVariants.{Okay, Painting, Snap as SnapOf}
 use Rattle.user_model.specs.declared.entry.Entry.{Entry}
 use Rattle.user_model.specs.declared.entry.Setup.{Setup}
 use Rattle.user_model.specs.Past.{Past, is_refused}
 use Rattle.user_model.specs.Idle.{reply}
 use Rattle.user_model.specs.Legal.{IsLawful}
 use Rattle.user_model.specs.Windows.{is_live}
-use Rattle.user_model.specs.Dirty.{is_dirty, must_erase}
+use Rattle.user_model.specs.Colours.{is_in_clip, reaches}
+use Rattle.user_model.specs.Dirty.{is_dirty, is_in_client, must_erase}
 use Rattle.user_model.specs.Painting.{is_painting}
 use Rattle.window_state.specs.Orders.{IsOrderAt}
 use Rattle.window_state.specs.Trees.{IsTreeAt}
@@ -41,21 +42,41 @@ pub record Change : Type 0 where
   pub owners : List Owned
   pub dirty : List DirtyWindow
 
--- the owners of pixels, the dirty pixels, the erase flags of the live windows, of which alone one is set, and the begun painting are
--- those of the past
+-- whether a clip, if there is one, has the pixel
+abbrev pub clip_has : Option (List Rect) → Point → Bool
+clip_has o p = elim o [ None ↦ true | Some c ↦ region_has c p ]
+
+-- whether painting in w may change the pixel, by the clip of its session: any pixel where it has none
+abbrev pub lets_through : List Session → ℕ → Point → Bool
+lets_through ss w p = clip_has (clip_in ss w) p
+
+-- the owners of pixels, the dirty pixels, the erase flags of the live windows, of which alone one is set, the begun painting and the clips
+-- are those of the past
 pub record IsScreenAt (setup : Setup) (past : Past) (s : Kept) : Type 0 where
   pub owners : AreOwnersAt setup past s.owners
   pub dirty : (w : ℕ) (p : Point) → region_has (area_in s.dirty w) p ≡ is_dirty setup past w p
   pub erases : (w : ℕ) → is_live past w ≡ true → erases_in s.dirty w ≡ must_erase setup past w
   pub gone : (w : ℕ) → is_live past w ≡ false → erases_in s.dirty w ≡ false
   pub painting : (w : ℕ) → is_begun s.sessions w ≡ is_painting past w
+  pub clips : (w : ℕ) (p : Point) → lets_through s.sessions w p ≡ is_in_clip setup past w p
 
--- whether an answered call draws: it changes dirty pixels or begun painting, and no window
+-- where the screen is that of a past, the region has the pixels that painting in w reaches
+abbrev pub IsReached : Kept → ℕ → List Rect → Type 0
+IsReached s w rs = (setup : Setup) (past : Past) → IsLawful setup past → IsScreenAt setup past s → is_live past w ≡ true → (p : Point) → region_has rs p ≡ reaches setup past w p
+
+-- and where the past has made the table, those of them that are pixels of the rectangle that is given from w's left top corner
+abbrev pub IsReachedPart : Windows → Kept → ℕ → ℤ → ℤ → ℤ → ℤ → List Rect → Type 0
+IsReachedPart t s w l top r b rs = (setup : Setup) (past : Past) → IsLawful setup past → IsTreeAt past t → IsScreenAt setup past s → is_live past w ≡ true → (p : Point) → region_has rs p ≡ (is_in_client past w l top r b p && reaches setup past w p)
+
+-- whether an answered call draws: it changes dirty pixels, begun painting, colours or frames, and no window
 abbrev pub draws : Call → Answer → Bool
 draws (Invalidate w l t r b erase) Okay = true
 draws (Validate w l t r b) Okay = true
 draws (EndPaint w) Okay = true
 draws (BeginPaint w) (Painting erases l t r b) = true
+draws (Fill w l t r b colour) Okay = true
+draws (Erase w) Okay = true
+draws Snap (SnapOf k) = true
 draws _ _ = false
 
 -- owners and dirty pixels exchanged, where others have come; the painting stays
@@ -109,6 +130,7 @@ pub record IsEnded (w : ℕ) (old new : Kept) : Type 0 where
   pub owners : new.owners ≡ old.owners
   pub dirty : new.dirty ≡ old.dirty
   pub begun : (v : ℕ) → is_begun new.sessions v ≡ (is_begun old.sessions v && not (w == v))
+  pub clips : (v : ℕ) → v ≢ w → clip_in new.sessions v ≡ clip_in old.sessions v
 
 -- all dirty pixels of w are taken, with its flag, and it is being painted with them as its clip; other windows are as before
 pub record IsTaken (w : ℕ) (old new : Kept) : Type 0 where
@@ -118,6 +140,7 @@ pub record IsTaken (w : ℕ) (old new : Kept) : Type 0 where
   pub others : (v : ℕ) → v ≢ w → update_in new.dirty v ≡ update_in old.dirty v
   pub begun : (v : ℕ) → is_begun new.sessions v ≡ (is_begun old.sessions v || (w == v))
   pub clip : clip_in new.sessions w ≡ Some (area_in old.dirty w)
+  pub clips : (v : ℕ) → v ≢ w → clip_in new.sessions v ≡ clip_in old.sessions v
 
 -- whether there is no entry
 abbrev pub is_none_dirty : List DirtyWindow → Bool

@@ -1,16 +1,21 @@
 //! The windows and how they lie above one another, as an entry makes them.
 
 ghost use Rattle.std.specs.Prelude.{◌≡◌, IfOk, OnOk};
+ghost use Rattle.std.specs.List.Sorted.{IsNonDecreasingBy};
+ghost use Rattle.window_state.specs.Boxes.{AreMoved};
 ghost use Rattle.window_state.specs.Effects.{carried_tree, IsLookedAt};
 ghost use Rattle.window_state.specs.Needs.{FitsLooking};
 ghost use Rattle.window_state.specs.Orders.{carried_order, reordered_by, FitsLeaving, FitsReordering};
-ghost use Rattle.screen_state.specs.Entries.{FitsCarryingOut, FitsEntry, IsEntered};
+ghost use Rattle.screen_state.specs.Entries.{FitsCarryingOut, FitsEntry, IsEntered, IsMade};
 
 use std::alloc::{AllocError, Global};
 use user_model::{Answer, Call, Entry};
+use win_num::Hwnd;
 use win_order::Order;
 use win_tree::Tree;
-use window_state::{doom, drop_window, leave, make, relook, reorder, unmake, window_or_none};
+use window_state::{
+    doom, drop_window, leave, make, moved_windows, relook, reorder, unmake, window_or_none,
+};
 
 /// A table of windows with the z-order of its windows.
 #[derive(Drop)]
@@ -57,6 +62,24 @@ fn enter(alloc: Global, tree: &mut Tree, order: &mut Order, entry: Entry) -> Res
             Ok(())
         }
         _ => Ok(()),
+    }
+}
+
+/// The windows that an entry has moved on the screen, by rising number. Only the call that puts a window at a
+/// place moves one that stays, so no table is looked at for any other.
+pub fn moved_by(
+    alloc: Global,
+    tree: &Tree,
+    layout: &Layout,
+    entry: Entry,
+) -> Result<Vec<Hwnd>, AllocError>
+    requires { IsMade tree.now layout.now.tree entry }
+    ensures sorted { IfOk result (λ v. IsNonDecreasingBy (λ h. h.0) v.items) }
+    ensures moved { IfOk result (λ v. AreMoved tree.now layout.now.tree v.items) }
+{
+    match entry.call {
+        Call::Place(..) => moved_windows(alloc, tree, &layout.tree),
+        _ => Ok(Vec::new(alloc)),
     }
 }
 

@@ -7,6 +7,7 @@
 mod layout;
 mod owned;
 mod part;
+mod reach;
 mod screen;
 mod update;
 mod walk;

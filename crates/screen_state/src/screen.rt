@@ -16,13 +16,15 @@ ghost use Rattle.window_state.specs.Trees.{IsTreeAt};
 ghost use Rattle.screen_owners.specs.Owners.{entry_of, owned_region, AreChildren};
 ghost use Rattle.dirty_windows.specs.LookUps.{entry_area, entry_of as dirty_of, erases_in};
 ghost use Rattle.paint_sessions.specs.LookUps.{is_begun};
+ghost use Rattle.screen_state.specs.Entries.{IsMade};
 ghost use Rattle.screen_state.specs.Owned.{IsNext};
 ghost use Rattle.screen_state.specs.Parts.{IsLiveAt};
-ghost use Rattle.screen_state.specs.Screens.{draws, keeps_screen, replaced, DrawsScreen, FollowsScreen, IsDrawn, IsEnded, IsInvalidated, IsScreenAt, IsTaken, IsValidated, LeavesScreen};
+ghost use Rattle.screen_state.specs.Screens.{draws, keeps_screen, replaced, DrawsScreen, FollowsScreen, IsDrawn, IsEnded, IsInvalidated, IsReached, IsReachedPart, IsScreenAt, IsTaken, IsValidated, LeavesScreen};
 
-use crate::layout::{Layout, layout_after};
+use crate::layout::{Layout, layout_after, moved_by};
 use crate::owned::{changes_owners, first_owners, owns_nothing, screen_of, shows};
 use crate::part::client_part;
+use crate::reach::let_through;
 use crate::update::{UpdateBox, update_box};
 use crate::walk::first_to_paint;
 use band_region::Region;
@@ -35,7 +37,7 @@ use user_model::{Answer, Call, Entry, Setup};
 use win_num::{Filter, Hwnd, Thread};
 use win_order::Order;
 use win_tree::Tree;
-use window_state::{Edges, moved_windows, window_or_none};
+use window_state::{Edges, window_or_none};
 
 /// What is kept of the screen: the pixels that each window owns, the dirty pixels and the erase flags of the
 /// windows, and which windows are being painted.
@@ -101,7 +103,7 @@ impl ScreenState {
             return Ok(None);
         }
         let layout = layout_after(alloc, tree, order, entry)?;
-        self.changed(alloc, setup, tree, &layout)
+        self.changed(alloc, setup, tree, &layout, entry)
     }
 
     /// The owners and the dirty pixels where an entry has made other windows of a table, as `layout` has them.
@@ -111,12 +113,14 @@ impl ScreenState {
         setup: Setup,
         tree: &Tree,
         layout: &Layout,
+        entry: Entry,
     ) -> Result<Option<ScreenChange>, AllocError>
-        requires { AreChildren layout.now.tree.live layout.now.order }
+        requires children { AreChildren layout.now.tree.live layout.now.order }
+        requires made { IsMade tree.now layout.now.tree entry }
         ensures { IfOk result (λ o. LeavesScreen setup tree.now layout.now.tree layout.now.order self.now (replaced o self.now)) }
     {
         let owners = owned_regions(alloc, screen_of(setup), &layout.tree, &layout.order)?;
-        let moved = moved_windows(alloc, tree, &layout.tree)?;
+        let moved = moved_by(alloc, tree, layout, entry)?;
         let mut dirty = self
             .dirty
             .after_change(alloc, &self.owners, &owners, &moved)?;
@@ -144,8 +148,8 @@ impl ScreenState {
     }
 
     /// Does what an entry does that draws: makes pixels dirty or clean, begins to paint a window, or ends it
-    /// (Microsoft, InvalidateRect, ValidateRect, BeginPaint and EndPaint functions). Any other entry changes
-    /// nothing here. Want of memory is the only error.
+    /// (Microsoft, InvalidateRect, ValidateRect, BeginPaint and EndPaint functions). One that gives pixels a
+    /// colour or keeps a frame changes nothing here, nor does any other entry. Want of memory is the only error.
     pub fn draw(&mut self, alloc: Global, tree: &Tree, entry: Entry) -> Result<(), AllocError>
         requires { IsDrawn tree.now entry }
         ensures drawn { OnOk result (draws entry.call entry.answer ≡ true → DrawsScreen tree.now entry self.old self.new) }
@@ -168,6 +172,9 @@ impl ScreenState {
                 self.end(window_or_none(tree, w));
                 Ok(())
             }
+            (Call::Fill(..), Answer::Okay) => Ok(()),
+            (Call::Erase(_), Answer::Okay) => Ok(()),
+            (Call::Snap, Answer::Snap(_)) => Ok(()),
             _ => Ok(()),
         }
     }
@@ -253,6 +260,35 @@ impl ScreenState {
     {
         self.sessions.is_begun(w)
     }
+
+    /// The pixels of a window that painting in it reaches: those that it owns, and while it is being painted
+    /// those of its clip (Microsoft, BeginPaint function). Want of memory is the only error.
+    pub fn reached(&self, alloc: Global, w: Hwnd) -> Result<Region, AllocError>
+        ensures { IfOk result (IsReached self.now w.0) }
+    {
+        let owned = self.owners.region_of(w);
+        let clip = self.sessions.clip_of(w);
+        let_through(alloc, owned, clip)
+    }
+
+    /// Those of them that lie in a rectangle, given from the window's left top corner (Microsoft, FillRect
+    /// function). Want of memory is the only error.
+    pub fn reached_part(
+        &self,
+        alloc: Global,
+        tree: &Tree,
+        w: Hwnd,
+        place: Edges,
+    ) -> Result<Region, AllocError>
+        requires live { IsLiveAt tree.now w.0 }
+        requires place { is_no_rect place.l place.t place.r place.b ≡ false }
+        ensures { IfOk result (IsReachedPart tree.now self.now w.0 place.l place.t place.r place.b) }
+    {
+        let part = client_part(alloc, tree, w, place)?;
+        let reached = self.reached(alloc, w)?;
+        part.and(alloc, &reached)
+    }
+
     /// The kind of the window's dirty pixels and the least rectangle around them, in pixels from its own left
     /// top corner (Microsoft, GetUpdateRgn and GetUpdateRect functions).
     pub fn update_box(&self, tree: &Tree, w: Hwnd) -> UpdateBox

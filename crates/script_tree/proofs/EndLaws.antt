@@ -58,7 +58,7 @@ either left true x y f g = f
 either left false x y f g = g
 
 default_fits : (left : List Piece) (p : Parameters) (ps : List Piece) (v : Variables) → Fit (ps ++ left) Gives → FitStep left (Becomes (default_pieces p ps) (Going v))
-default_fits left p ps v h = default_either (λ qs. FitStep left (Becomes qs (Going v))) p ps (λ e. ((λ f. absurd cc), h)) (λ e. ((λ f. absurd cc), h)) (λ e d. h)
+default_fits left p ps v h = default_either (λ qs. FitStep left (Becomes qs (Going v))) p ps (λ e. ((λ f. absurd cc), h)) (λ e. ((λ f. absurd cc), h)) (λ e. ((λ f. absurd cc), h)) (λ e d f. h)
 
 statement_fits : (left : List Piece) (line : Statement) (v : Variables) (n : ℕ) → Fit left Goes × Fit left Returns → FitStep left (statement line v n)
 statement_fits left (Let x e) v n h = h.0

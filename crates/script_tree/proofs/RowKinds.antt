@@ -8,7 +8,7 @@ use Rattle.script_tree.specs.declared.variables.Parameters.{Parameters}
 use Rattle.script_tree.specs.Tree.{Tree}
 use Rattle.script_tree.specs.Values.{value_of, call_of, creation_call, time_after}
 use Rattle.script_tree.specs.Pieces.{State, Going, Returning, Given, Trace}
-use Rattle.script_tree.specs.Rows.{Point, At, CutBefore, on, settling, giving, returning, restoring, defaulting, undone, Part, Body, Line, Asleep, Frame, Exit, Rows, call_cut, after_cut, body_over, body, body_left, lets, computes, if_holds, if_fails, if_first, if_second, while_ends, while_left, while_cut, while_again, while_yields, returns, makes, sleeps, asleep_refused, asleep, defaults, destroys, creates, call_waits, call_enters, call_back, leave_back, call_inside, call_calls, call_begins, call_ends, frame, exit_returned, exit_callback, exit_default, default_close, default_paint, default_greeting, default_other, destruction, doom_refused, doomed, unmaking, unmade_tell, unmade_last, unmade_refused, unmade_gone, create_refused, create_none, created, greeted_no, greeted, told_refused, told_no, told, thread}
+use Rattle.script_tree.specs.Rows.{Point, At, CutBefore, on, settling, giving, returning, restoring, defaulting, undone, Part, Body, Line, Asleep, Frame, Exit, Rows, call_cut, after_cut, body_over, body, body_left, lets, computes, if_holds, if_fails, if_first, if_second, while_ends, while_left, while_cut, while_again, while_yields, returns, makes, sleeps, asleep_refused, asleep, defaults, destroys, creates, call_waits, call_enters, call_back, leave_back, call_inside, call_calls, call_begins, call_ends, frame, exit_returned, exit_callback, exit_default, default_close, default_paint, default_erase, default_greeting, default_other, destruction, doom_refused, doomed, unmaking, unmade_tell, unmade_last, unmade_refused, unmade_gone, create_refused, create_none, created, greeted_no, greeted, told_refused, told_no, told, thread}
 
 -- an answer, or a cut
 abbrev pub IsGiven : Point → Type 0
@@ -137,8 +137,9 @@ module _ (s : Tree) where
   kind (exit_default h d e f) = kind e
   kind (default_close {got = got} h d f) = subst IsGiven (sym f) (defaulting_given 0 got (kind d))
   kind (default_paint {got = got} h d f) = subst IsGiven (sym f) (defaulting_given 0 got (kind d))
+  kind (default_erase {got = got} h d f) = subst IsGiven (sym f) (defaulting_given 1 got (kind d))
   kind (default_greeting h) = tt
-  kind (default_other h g k) = tt
+  kind (default_other h g k i) = tt
   kind (destruction d e f) = kind e
   kind (doom_refused h) = tt
   kind (doomed h d) = kind d

@@ -1,12 +1,12 @@
 -- Where the places of compounds and the answers to calls lead, as the rows say it.
-use Rattle.std.proofs.Common.{◌≡◌, ◌≢◌, ℕ, ◌+◌, Bool, true, false, List, [], ◌∷◌, length, refl, ap, arith}
+use Rattle.std.proofs.Common.{◌≡◌, ◌≢◌, ℕ, ◌+◌, Bool, true, false, List, [], ◌∷◌, length, refl, ap, ◌∙◌, arith}
 use Rattle.std.proofs.lemmas.Bool.Decides.{nat_tests}
 use Rattle.std.specs.Prelude.{if◌then◌else◌, ◌==◌, not}
 use Rattle.user_model.specs.declared.call.Call.{Call}
 use Rattle.user_model.specs.declared.entry.Answer.{Answer}
 use Rattle.user_model.specs.declared.entry.Answer.TheVariants.{Wait, Value, Window as WindowMade, Called, Inside, Begun, Enter, Callback, Tell, Last, Refused}
 use Rattle.user_model.specs.Stacks.{waits}
-use Rattle.script_tree.specs.declared.messages.TheConstants.{WM_PAINT, WM_CLOSE, WM_NCCREATE, WM_CREATE}
+use Rattle.script_tree.specs.declared.messages.TheConstants.{WM_PAINT, WM_ERASEBKGND, WM_CLOSE, WM_NCCREATE, WM_CREATE}
 use Rattle.script_tree.specs.declared.variables.Parameters.{Parameters}
 use Rattle.script_tree.specs.declared.variables.Variables.{Variables}
 use Rattle.script_tree.specs.declared.frame.Place.TheVariants.{Telling}
@@ -87,17 +87,28 @@ kept_yes w x h = ap (λ z. if z then undoes w else Ends (Value w)) (other_number
 
 -- the default procedure
 
+-- its result by the two messages that have another than 0
+result_by : (p : Parameters) (b c : Bool) → (p.number == WM_NCCREATE) ≡ b → (p.number == WM_ERASEBKGND) ≡ c → default_result p ≡ (if b then 1 else if c then 1 else 0)
+result_by p b c h k = ap (λ z. if z then 1 else if p.number == WM_ERASEBKGND then 1 else 0) h ∙ ap (λ z. if b then 1 else if z then 1 else 0) k
+
 pub close_result : (p : Parameters) → p.number ≡ WM_CLOSE → default_result p ≡ 0
-close_result p h = ap (λ z. if z then 1 else 0) (other_number p.number WM_NCCREATE (λ e. absurd (omega arith)))
+close_result p h = result_by p false false (other_number p.number WM_NCCREATE (λ e. absurd (omega arith))) (other_number p.number WM_ERASEBKGND (λ e. absurd (omega arith)))
 
 pub paint_result : (p : Parameters) → p.number ≡ WM_PAINT → default_result p ≡ 0
-paint_result p h = ap (λ z. if z then 1 else 0) (other_number p.number WM_NCCREATE (λ e. absurd (omega arith)))
+paint_result p h = result_by p false false (other_number p.number WM_NCCREATE (λ e. absurd (omega arith))) (other_number p.number WM_ERASEBKGND (λ e. absurd (omega arith)))
 
-pub other_result : (p : Parameters) → p.number ≢ WM_NCCREATE → default_result p ≡ 0
-other_result p h = ap (λ z. if z then 1 else 0) (other_number p.number WM_NCCREATE h)
+pub erase_result : (p : Parameters) → p.number ≡ WM_ERASEBKGND → default_result p ≡ 1
+erase_result p h = result_by p false true (other_number p.number WM_NCCREATE (λ e. absurd (omega arith))) (same_number p.number WM_ERASEBKGND h)
+
+pub other_result : (p : Parameters) → p.number ≢ WM_ERASEBKGND → p.number ≢ WM_NCCREATE → default_result p ≡ 0
+other_result p k h = result_by p false false (other_number p.number WM_NCCREATE h) (other_number p.number WM_ERASEBKGND k)
 
 pub greeting_result : (p : Parameters) → p.number ≡ WM_NCCREATE → default_result p ≡ 1
-greeting_result p h = ap (λ z. if z then 1 else 0) (same_number p.number WM_NCCREATE h)
+greeting_result p h = result_by p true (p.number == WM_ERASEBKGND) (same_number p.number WM_NCCREATE h) refl
+
+-- the result of a message that is told by nothing but WM_NCCREATE
+pub alone_result : (p : Parameters) → (p.number == WM_ERASEBKGND) ≡ false → default_result p ≡ (if p.number == WM_NCCREATE then 1 else 0)
+alone_result p k = result_by p (p.number == WM_NCCREATE) false refl k
 
 -- an answer that is the last of its call
 begun_follows : (b : Bool) (ps : List Piece) → not b ≡ true → (if b then ps else []) ≡ []

@@ -5,11 +5,11 @@ use Rattle.std.specs.Prelude.{if◌then◌else◌, ◌==◌, not}
 use Rattle.win_num.specs.declared.message.Hwnd.{Hwnd}
 use Rattle.win_num.specs.declared.send.SendId.{SendId}
 use Rattle.user_model.specs.declared.call.Call.{Call}
-use Rattle.user_model.specs.declared.call.Call.TheVariants.{Await, Leave, Doom, Unmake, Drop, Clock, SleepUntil, Yield, EndThread}
+use Rattle.user_model.specs.declared.call.Call.TheVariants.{Await, Leave, Doom, Unmake, Drop, Erase, Clock, SleepUntil, Yield, EndThread}
 use Rattle.user_model.specs.declared.entry.Answer.{Answer}
 use Rattle.user_model.specs.declared.entry.Answer.TheVariants.{Wait, Value, Window as WindowMade, Called, Inside, Begun, Enter, Callback, Tell, Last, Refused}
 use Rattle.user_model.specs.Stacks.{leaves, waits}
-use Rattle.script_tree.specs.declared.messages.TheConstants.{WM_PAINT, WM_CLOSE, WM_NCCREATE, WM_CREATE, WM_DESTROY, WM_NCDESTROY}
+use Rattle.script_tree.specs.declared.messages.TheConstants.{WM_PAINT, WM_ERASEBKGND, WM_CLOSE, WM_NCCREATE, WM_CREATE, WM_DESTROY, WM_NCDESTROY}
 use Rattle.win_num.specs.declared.send.Frame.TheVariants.{Inside as InsideFrame, Called as CalledFrame}
 use Rattle.script_tree.specs.declared.operand.Test.{Test}
 use Rattle.script_tree.specs.declared.operand.Operand.{Operand}
@@ -29,9 +29,9 @@ use Rattle.script_tree.specs.Compounds.{sent, undoes, validation, default_result
 use Rattle.script_tree.specs.Pieces.{Piece, Lines, One, PassEnd, Making, Again, Giving, Settle, Quiet, Sleeping, Running, Leaving, Leaves, Left, Restore, Feed, State, Going, Returning, Given, Step, Becomes, Asks, Trace, End}
 use Rattle.script_tree.specs.Steps.{step, statement, begins, returns_to, takes, leaving, default_pieces, is_callback, goes_on, sleeps as slept, passes, follows, following, given, answered, after_answer, is_last, parameters_of, run_of, variables_of}
 use Rattle.script_tree.specs.Traces.{Makes, over, silent, entry, cut, program, IsTrace}
-use Rattle.script_tree.specs.Rows.{Point, At, CutBefore, on, going, settling, giving, returning, restoring, defaulting, undone, ends_call, is_final, is_refusal, entered, called_back, end_of, ByRows, Part, Body, Line, Asleep, Calls, Frame, Exit, DefaultFor, Destruction, Doomed, Unmaking, Unmade, Created, Greeted, Told, Thread, Rows, call_cut, after_cut, body_over, body, body_left, lets, computes, if_holds, if_fails, if_first, if_second, while_ends, while_left, while_cut, while_again, while_yields, returns, makes, sleeps, asleep_refused, asleep, defaults, destroys, creates, call_waits, call_enters, call_back, leave_back, call_inside, call_calls, call_begins, call_ends, frame, exit_returned, exit_callback, exit_default, default_close, default_paint, default_greeting, default_other, destruction, doom_refused, doomed, unmaking, unmade_tell, unmade_last, unmade_refused, unmade_gone, create_refused, create_none, created, greeted_no, greeted, told_refused, told_no, told, thread}
+use Rattle.script_tree.specs.Rows.{Point, At, CutBefore, on, going, settling, giving, returning, restoring, defaulting, undone, ends_call, is_final, is_refusal, entered, called_back, end_of, ByRows, Part, Body, Line, Asleep, Calls, Frame, Exit, DefaultFor, Destruction, Doomed, Unmaking, Unmade, Created, Greeted, Told, Thread, Rows, call_cut, after_cut, body_over, body, body_left, lets, computes, if_holds, if_fails, if_first, if_second, while_ends, while_left, while_cut, while_again, while_yields, returns, makes, sleeps, asleep_refused, asleep, defaults, destroys, creates, call_waits, call_enters, call_back, leave_back, call_inside, call_calls, call_begins, call_ends, frame, exit_returned, exit_callback, exit_default, default_close, default_paint, default_erase, default_greeting, default_other, destruction, doom_refused, doomed, unmaking, unmade_tell, unmade_last, unmade_refused, unmade_gone, create_refused, create_none, created, greeted_no, greeted, told_refused, told_no, told, thread}
 use Rattle.script_tree.proofs.RowKinds.{IsGiven, IsReturned, IsRun, HasKind, kind, answering, answering_given, default_answered}
-use Rattle.script_tree.proofs.RowSteps.{counted, uncounted, number_is, number_isnt, close_result, paint_result}
+use Rattle.script_tree.proofs.RowSteps.{counted, uncounted, number_is, number_isnt, close_result, paint_result, erase_result, alone_result}
 use Rattle.script_tree.proofs.Defaults.{default_either, default_append}
 
 -- the `yield` of a `while` sets nothing
@@ -339,24 +339,30 @@ module _ (s : Tree) where
   single_given : (call : Call) (v : Variables) (tr : Trace) (out : Point) → Mapped (λ tr out. Rows s (Calls call) (At (Going v)) tr out) answering tr out → IsGiven out
   single_given call v tr out r = subst IsGiven (sym r.result) (answering_given r.got (kind s r.row))
 
-  paint_rows : (p : Parameters) (v : Variables) (n : ℕ) (tr : Trace) (out : Point) → p.number ≡ WM_PAINT → Parts s (Making (validation p.hwnd) ∷ Feed Single ∷ Feed (Defaulting (default_result p)) ∷ []) (Going v) n tr out → Rows s (DefaultFor p) (At (Going v)) tr out
-  paint_rows p v n tr out h d =
-      let call : Call = validation p.hwnd in
+  one_call_rows : (call : Call) (y : ℕ) (p : Parameters) (v : Variables) (n : ℕ) (tr : Trace) (out : Point) → default_result p ≡ y → Parts s (Making call ∷ Feed Single ∷ Feed (Defaulting (default_result p)) ∷ []) (Going v) n tr out → Mapped (λ tr out. Rows s (Calls call) (At (Going v)) tr out) (defaulting y) tr out
+  one_call_rows call y p v n tr out h d =
       let P : Trace → Point → Type 0 = λ tr out. Mapped (λ tr out. Rows s (Calls call) (At (Going v)) tr out) answering tr out in
-      let e = subst (λ x. Parts s (Making call ∷ Feed Single ∷ Feed (Defaulting x) ∷ []) (Going v) n tr out) (paint_result p h) d in
-      let r = mapped_of (Making call ∷ Feed Single ∷ []) (Feed (Defaulting 0)) P (defaulting 0) (Going v) n tr out (single_rows call v n) (λ first mid m tr out r k. defaulting_at 0 mid m tr out (single_given call v first (At mid) r) k) (divide (Making call ∷ Feed Single ∷ []) (Feed (Defaulting 0) ∷ []) e) in
-      default_paint h r.row.row (r.result ∙ ap (on (defaulting 0)) r.row.result ∙ sym (default_answered 0 r.row.got))
+      let e = subst (λ x. Parts s (Making call ∷ Feed Single ∷ Feed (Defaulting x) ∷ []) (Going v) n tr out) h d in
+      let r = mapped_of (Making call ∷ Feed Single ∷ []) (Feed (Defaulting y)) P (defaulting y) (Going v) n tr out (single_rows call v n) (λ first mid m tr out r k. defaulting_at y mid m tr out (single_given call v first (At mid) r) k) (divide (Making call ∷ Feed Single ∷ []) (Feed (Defaulting y) ∷ []) e) in
+      record { got = r.row.got; row = r.row.row; result = r.result ∙ ap (on (defaulting y)) r.row.result ∙ sym (default_answered y r.row.got) }
 
-  other_rows : (b : Bool) (p : Parameters) (v : Variables) (tr : Trace) (out : Point) → p.number ≢ WM_CLOSE → p.number ≢ WM_PAINT → (p.number == WM_NCCREATE) ≡ b → (tr ≡ []) × (out ≡ At (Given v (Value (if b then 1 else 0)) 0)) → Rows s (DefaultFor p) (At (Going v)) tr out
-  other_rows true p v tr out g f h k = at_empty (λ tr out. Rows s (DefaultFor p) (At (Going v)) tr out) (Given v (Value 1) 0) tr out (default_greeting (number_is p.number WM_NCCREATE h)) k
-  other_rows false p v tr out g f h k = at_empty (λ tr out. Rows s (DefaultFor p) (At (Going v)) tr out) (Given v (Value 0) 0) tr out (default_other g f (number_isnt p.number WM_NCCREATE h)) k
+  paint_rows : (p : Parameters) (v : Variables) (n : ℕ) (tr : Trace) (out : Point) → p.number ≡ WM_PAINT → Parts s (Making (validation p.hwnd) ∷ Feed Single ∷ Feed (Defaulting (default_result p)) ∷ []) (Going v) n tr out → Rows s (DefaultFor p) (At (Going v)) tr out
+  paint_rows p v n tr out h d = let r = one_call_rows (validation p.hwnd) 0 p v n tr out (paint_result p h) d in default_paint h r.row r.result
+
+  erase_rows : (p : Parameters) (v : Variables) (n : ℕ) (tr : Trace) (out : Point) → p.number ≡ WM_ERASEBKGND → Parts s (Making (Erase p.hwnd) ∷ Feed Single ∷ Feed (Defaulting (default_result p)) ∷ []) (Going v) n tr out → Rows s (DefaultFor p) (At (Going v)) tr out
+  erase_rows p v n tr out h d = let r = one_call_rows (Erase p.hwnd) 1 p v n tr out (erase_result p h) d in default_erase h r.row r.result
+
+  other_rows : (b : Bool) (p : Parameters) (v : Variables) (tr : Trace) (out : Point) → p.number ≢ WM_CLOSE → p.number ≢ WM_PAINT → p.number ≢ WM_ERASEBKGND → (p.number == WM_NCCREATE) ≡ b → (tr ≡ []) × (out ≡ At (Given v (Value (if b then 1 else 0)) 0)) → Rows s (DefaultFor p) (At (Going v)) tr out
+  other_rows true p v tr out f g e h k = at_empty (λ tr out. Rows s (DefaultFor p) (At (Going v)) tr out) (Given v (Value 1) 0) tr out (default_greeting (number_is p.number WM_NCCREATE h)) k
+  other_rows false p v tr out f g e h k = at_empty (λ tr out. Rows s (DefaultFor p) (At (Going v)) tr out) (Given v (Value 0) 0) tr out (default_other f g e (number_isnt p.number WM_NCCREATE h)) k
 
   default_rows : (p : Parameters) (v : Variables) (n : ℕ) (tr : Trace) (out : Point) → Parts s (default_pieces p []) (Going v) n tr out → Rows s (DefaultFor p) (At (Going v)) tr out
   default_rows p v n tr out =
       default_either (λ qs. Parts s qs (Going v) n tr out → Rows s (DefaultFor p) (At (Going v)) tr out) p []
       (λ h d. close_rows p v n tr out (number_is p.number WM_CLOSE h) d)
       (λ h d. paint_rows p v n tr out (number_is p.number WM_PAINT h) d)
-      (λ h g d. other_rows (p.number == WM_NCCREATE) p v tr out (number_isnt p.number WM_CLOSE h) (number_isnt p.number WM_PAINT g) refl (single d))
+      (λ h d. erase_rows p v n tr out (number_is p.number WM_ERASEBKGND h) d)
+      (λ f g e d. other_rows (p.number == WM_NCCREATE) p v tr out (number_isnt p.number WM_CLOSE f) (number_isnt p.number WM_PAINT g) (number_isnt p.number WM_ERASEBKGND e) refl (subst (λ x. (tr ≡ []) × (out ≡ At (Given v (Value x) 0))) (alone_result p e) (single d)))
 
   -- and the pieces behind it
   default_divided : (p : Parameters) (ps : List Piece) (v : Variables) (n : ℕ) (tr : Trace) (out : Point) → Parts s (default_pieces p ps) (Going v) n tr out → Divided s (default_pieces p []) ps (Going v) n tr out

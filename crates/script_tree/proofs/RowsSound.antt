@@ -1,12 +1,12 @@
 -- Each trace by the rows is one of the table of steps.
 use Rattle.std.proofs.Common.{◌≡◌, ℕ, ◌+◌, suc, Bool, true, false, List, [], ◌∷◌, ◌++◌, length, refl, sym, ap, ◌∙◌, subst, append_assoc, append-nil, arith}
-use Rattle.std.specs.Prelude.{if◌then◌else◌, ◌==◌, Some, None}
+use Rattle.std.specs.Prelude.{if◌then◌else◌, ◌==◌}
 use Rattle.user_model.specs.declared.call.Call.{Call}
-use Rattle.user_model.specs.declared.call.Call.TheVariants.{Await, Leave, Doom, Unmake, Drop, Clock, SleepUntil, Yield, EndThread}
+use Rattle.user_model.specs.declared.call.Call.TheVariants.{Await, Leave, Doom, Unmake, Drop, Erase, Clock, SleepUntil, Yield, EndThread}
 use Rattle.user_model.specs.declared.entry.Answer.{Answer}
 use Rattle.user_model.specs.declared.entry.Answer.TheVariants.{Wait, Value, Window as WindowMade, Called, Inside, Begun, Enter, Callback, Tell, Last, Refused}
 use Rattle.user_model.specs.Stacks.{waits}
-use Rattle.script_tree.specs.declared.messages.TheConstants.{WM_PAINT, WM_CLOSE, WM_NCCREATE, WM_CREATE, WM_DESTROY, WM_NCDESTROY}
+use Rattle.script_tree.specs.declared.messages.TheConstants.{WM_PAINT, WM_ERASEBKGND, WM_CLOSE, WM_NCCREATE, WM_CREATE, WM_DESTROY, WM_NCDESTROY}
 use Rattle.win_num.specs.declared.send.Frame.TheVariants.{Inside as InsideFrame, Called as CalledFrame}
 use Rattle.script_tree.specs.declared.operand.Test.{Test}
 use Rattle.script_tree.specs.declared.statement.Statement.{Statement, items-the_row-Statement}
@@ -20,14 +20,14 @@ use Rattle.script_tree.specs.declared.frame.Place.TheVariants.{Making as MakingW
 use Rattle.script_tree.specs.declared.frame.Lead.TheVariants.{Calls as CallsLead, Runs as RunsLead, Ends}
 use Rattle.script_tree.specs.Tree.{Tree, body_of, procedure_of}
 use Rattle.script_tree.specs.Values.{value_of, computed, holds, assigned, call_of, creation_call, time_after, start, inside_of, settled}
-use Rattle.script_tree.specs.Compounds.{sent, unmakes, validation, cleaning, destruction as destruction_begin, default_result, compound_after}
+use Rattle.script_tree.specs.Compounds.{sent, unmakes, validation, destruction as destruction_begin, default_result, compound_after}
 use Rattle.script_tree.specs.Pieces.{Piece, Lines, One, PassEnd, Making, Again, Giving, Settle, Quiet, Sleeping, Running, Leaving, Leaves, Left, Restore, Feed, State, Going, Returning, Given, Becomes, Asks, Trace, End}
-use Rattle.script_tree.specs.Steps.{step, default_over, default_pieces, goes_on, sleeps as slept, passes, makes as calls_for, follows, following, given, answered, after_answer, is_last, parameters_of, run_of, variables_of}
+use Rattle.script_tree.specs.Steps.{step, default_pieces, goes_on, sleeps as slept, passes, makes as calls_for, follows, following, given, answered, after_answer, is_last, parameters_of, run_of, variables_of}
 use Rattle.script_tree.specs.Traces.{Makes, over, silent, entry, cut, program, IsTrace}
-use Rattle.script_tree.specs.Rows.{Point, At, CutBefore, on, going, settling, giving, returning, restoring, defaulting, undone, ended, is_refusal, entered, called_back, end_of, ByRows, Part, Body, Line, Asleep, Calls, Frame, Exit, DefaultFor, Destruction, Doomed, Unmaking, Unmade, Created, Greeted, Told, Thread, Rows, call_cut, after_cut, body_over, body, body_left, lets, computes, if_holds, if_fails, if_first, if_second, while_ends, while_left, while_cut, while_again, while_yields, returns, makes, sleeps, asleep_refused, asleep, defaults, destroys, creates, call_waits, call_enters, call_back, leave_back, call_inside, call_calls, call_begins, call_ends, frame, exit_returned, exit_callback, exit_default, default_close, default_paint, default_greeting, default_other, destruction, doom_refused, doomed, unmaking, unmade_tell, unmade_last, unmade_refused, unmade_gone, create_refused, create_none, created, greeted_no, greeted, told_refused, told_no, told, thread}
-use Rattle.script_tree.proofs.Defaults.{default_append}
+use Rattle.script_tree.specs.Rows.{Point, At, CutBefore, on, going, settling, giving, returning, restoring, defaulting, undone, ended, is_refusal, entered, called_back, end_of, ByRows, Part, Body, Line, Asleep, Calls, Frame, Exit, DefaultFor, Destruction, Doomed, Unmaking, Unmade, Created, Greeted, Told, Thread, Rows, call_cut, after_cut, body_over, body, body_left, lets, computes, if_holds, if_fails, if_first, if_second, while_ends, while_left, while_cut, while_again, while_yields, returns, makes, sleeps, asleep_refused, asleep, defaults, destroys, creates, call_waits, call_enters, call_back, leave_back, call_inside, call_calls, call_begins, call_ends, frame, exit_returned, exit_callback, exit_default, default_close, default_paint, default_erase, default_greeting, default_other, destruction, doom_refused, doomed, unmaking, unmade_tell, unmade_last, unmade_refused, unmade_gone, create_refused, create_none, created, greeted_no, greeted, told_refused, told_no, told, thread}
+use Rattle.script_tree.proofs.Defaults.{default_append, default_by}
 use Rattle.script_tree.proofs.RowKinds.{IsGiven, IsReturned, IsRun, kind, answering, answering_given, default_answered}
-use Rattle.script_tree.proofs.RowSteps.{counted, uncounted, same_number, other_number, doom_goes, doom_ends, unmade_ends, unmade_done, made_ends, made_none, greeted_zero, greeted_more, telling_refused, telling_kept, kept_no, kept_yes, close_result, paint_result, other_result, greeting_result, final_follows, final_answered}
+use Rattle.script_tree.proofs.RowSteps.{counted, uncounted, same_number, other_number, doom_goes, doom_ends, unmade_ends, unmade_done, made_ends, made_none, greeted_zero, greeted_more, telling_refused, telling_kept, kept_no, kept_yes, close_result, paint_result, erase_result, other_result, greeting_result, final_follows, final_answered}
 
 -- The pieces make the trace, up to that place: the table's relation with the state at its end.
 pub data Runs (s : Tree) : List Piece → State → ℕ → Trace → Point → Type 0 where
@@ -241,10 +241,17 @@ module _ (s : Tree) where
   ahead_left x run n first (CutBefore c) second out k = k
 
   -- the default procedure without a compound
-  default_alone : (p : Parameters) (v : Variables) (n x : ℕ) → (p.number == WM_CLOSE) ≡ false → (p.number == WM_PAINT) ≡ false → default_result p ≡ x → Runs s (default_pieces p []) (Going v) n [] (ended v (Value x))
-  default_alone p v n x h k g =
-      subst (λ xs. Runs s xs (Going v) n [] (ended v (Value x))) (sym (ap (λ z. default_over (if z then Some (destruction_begin p.hwnd) else if p.number == WM_PAINT then Some (cleaning p.hwnd) else None) (default_result p) []) h ∙ ap (λ z. default_over (if z then Some (cleaning p.hwnd) else None) (default_result p) []) k ∙ ap (λ y. Giving (Value y) ∷ []) g))
+  default_alone : (p : Parameters) (v : Variables) (n x : ℕ) → (p.number == WM_CLOSE) ≡ false → (p.number == WM_PAINT) ≡ false → (p.number == WM_ERASEBKGND) ≡ false → default_result p ≡ x → Runs s (default_pieces p []) (Going v) n [] (ended v (Value x))
+  default_alone p v n x f g e h =
+      subst (λ xs. Runs s xs (Going v) n [] (ended v (Value x))) (sym (default_by p [] false false false x f g e h))
       (passed (Giving (Value x)) (Going v) (Given v (Value x) 0) n refl)
+
+  -- and with one call
+  default_one : (call : Call) (y : ℕ) (v : Variables) (n : ℕ) (tr : Trace) (got out : Point) → IsGiven got → ((n : ℕ) → Runs s (Making call ∷ []) (Going v) n tr got) → out ≡ on (defaulting y) got → Runs s (Making call ∷ Feed Single ∷ Feed (Defaulting y) ∷ []) (Going v) n tr out
+  default_one call y v n tr got out k d f =
+      then_maps (Making call ∷ Feed Single ∷ []) (Feed (Defaulting y)) (defaulting y) (Going v) n tr (on answering got) out
+      (then_maps (Making call ∷ []) (Feed Single) answering (Going v) n tr got (on answering got) (d n) (single_maps got n tr k) refl)
+      (defaulting_maps y (on answering got) n tr (answering_given got k)) (f ∙ default_answered y got)
 
   pub sound : {part : Part} {before : Point} {tr : Trace} {out : Point} → Rows s part before tr out → Meaning part before tr out
   sound (call_cut {call}) = λ n. runs_cut call refl
@@ -342,22 +349,18 @@ module _ (s : Tree) where
       (subst (λ xs. Runs s xs (Going v) n tr out) (default_append run.parameters (Left (default_result run.parameters) ∷ Leaving run ∷ []))
       (both (default_pieces run.parameters []) (Left (default_result run.parameters) ∷ Leaving run ∷ []) (Going v) n tr first second mid out (sound d n) (ahead_left (default_result run.parameters) run n first mid second out (sound e)) f))
   sound (default_close {p} {v} {tr} {got} {out} h d f) = λ n.
-      let close : (p.number == WM_CLOSE) ≡ true = same_number p.number WM_CLOSE h in
-      subst (λ xs. Runs s xs (Going v) n tr out) (sym (ap (λ z. default_over (if z then Some (destruction_begin p.hwnd) else if p.number == WM_PAINT then Some (cleaning p.hwnd) else None) (default_result p) []) close ∙ ap (λ x. Making (Doom p.hwnd) ∷ Feed (Dooming p.hwnd) ∷ Feed (Defaulting x) ∷ []) (close_result p h)))
+      subst (λ xs. Runs s xs (Going v) n tr out) (sym (default_by p [] true (p.number == WM_PAINT) (p.number == WM_ERASEBKGND) 0 (same_number p.number WM_CLOSE h) refl refl (close_result p h)))
       (then_maps (Making (Doom p.hwnd) ∷ Feed (Dooming p.hwnd) ∷ []) (Feed (Defaulting 0)) (defaulting 0) (Going v) n tr got out (sound d n) (defaulting_maps 0 got n tr (kind s d)) f)
   sound (default_paint {p} {v} {tr} {got} {out} h d f) = λ n.
-      let call : Call = validation p.hwnd in
-      let other : (p.number == WM_CLOSE) ≡ false = other_number p.number WM_CLOSE (λ e. absurd (omega arith)) in
-      let paint : (p.number == WM_PAINT) ≡ true = same_number p.number WM_PAINT h in
-      let k : IsGiven got = kind s d in
-      subst (λ xs. Runs s xs (Going v) n tr out) (sym (ap (λ z. default_over (if z then Some (destruction_begin p.hwnd) else if p.number == WM_PAINT then Some (cleaning p.hwnd) else None) (default_result p) []) other ∙ ap (λ z. default_over (if z then Some (cleaning p.hwnd) else None) (default_result p) []) paint ∙ ap (λ x. Making call ∷ Feed Single ∷ Feed (Defaulting x) ∷ []) (paint_result p h)))
-      (then_maps (Making call ∷ Feed Single ∷ []) (Feed (Defaulting 0)) (defaulting 0) (Going v) n tr (on answering got) out
-      (then_maps (Making call ∷ []) (Feed Single) answering (Going v) n tr got (on answering got) (sound d n) (single_maps got n tr k) refl)
-      (defaulting_maps 0 (on answering got) n tr (answering_given got k)) (f ∙ default_answered 0 got))
+      subst (λ xs. Runs s xs (Going v) n tr out) (sym (default_by p [] false true (p.number == WM_ERASEBKGND) 0 (other_number p.number WM_CLOSE (λ e. absurd (omega arith))) (same_number p.number WM_PAINT h) refl (paint_result p h)))
+      (default_one (validation p.hwnd) 0 v n tr got out (kind s d) (sound d) f)
+  sound (default_erase {p} {v} {tr} {got} {out} h d f) = λ n.
+      subst (λ xs. Runs s xs (Going v) n tr out) (sym (default_by p [] false false true 1 (other_number p.number WM_CLOSE (λ e. absurd (omega arith))) (other_number p.number WM_PAINT (λ e. absurd (omega arith))) (same_number p.number WM_ERASEBKGND h) (erase_result p h)))
+      (default_one (Erase p.hwnd) 1 v n tr got out (kind s d) (sound d) f)
   sound (default_greeting {p} {v} h) = λ n.
-      default_alone p v n 1 (other_number p.number WM_CLOSE (λ e. absurd (omega arith))) (other_number p.number WM_PAINT (λ e. absurd (omega arith))) (greeting_result p h)
-  sound (default_other {p} {v} h k g) = λ n.
-      default_alone p v n 0 (other_number p.number WM_CLOSE h) (other_number p.number WM_PAINT k) (other_result p g)
+      default_alone p v n 1 (other_number p.number WM_CLOSE (λ e. absurd (omega arith))) (other_number p.number WM_PAINT (λ e. absurd (omega arith))) (other_number p.number WM_ERASEBKGND (λ e. absurd (omega arith))) (greeting_result p h)
+  sound (default_other {p} {v} f g e h) = λ n.
+      default_alone p v n 0 (other_number p.number WM_CLOSE f) (other_number p.number WM_PAINT g) (other_number p.number WM_ERASEBKGND e) (other_result p e h)
   sound (destruction {w} {v} {tr} {first} {second} {got} {out} d e f) = λ n.
       both (Making (Doom w) ∷ []) (Feed (Dooming w) ∷ []) (Going v) n tr first second got out (sound d n) (ahead (Feed (Dooming w) ∷ []) n first got second out (sound e)) f
   sound (doom_refused {w} {x} {v} {a} h) = λ n. feed_ends (Dooming w) v a a x n (doom_ends w a h)

@@ -53,7 +53,7 @@ module _ (s : Tree) (n : ℕ) (left : List Piece) where
   statement_kept (Sleep e) v h = ((h.0, (h.0, h.1)), refl)
   statement_kept (Create c) v h = ((h.0, (h.0, h.1)), refl)
   statement_kept (Destroy e) v h = ((h.0, (h.0, h.1)), refl)
-  statement_kept DefaultOf v h = default_either (λ qs. Kept left (frames_in left) (Becomes qs (Going v))) v.parameters (Settle (Doom v.parameters.hwnd) ∷ []) (λ e. ((h.0, (h.0, (h.0, h.1))), refl)) (λ e. ((h.0, (h.0, (h.0, h.1))), refl)) (λ e d. (h.1, refl))
+  statement_kept DefaultOf v h = default_either (λ qs. Kept left (frames_in left) (Becomes qs (Going v))) v.parameters (Settle (Doom v.parameters.hwnd) ∷ []) (λ e. ((h.0, (h.0, (h.0, h.1))), refl)) (λ e. ((h.0, (h.0, (h.0, h.1))), refl)) (λ e. ((h.0, (h.0, (h.0, h.1))), refl)) (λ e d f. (h.1, refl))
 
   compound_kept : (v : Variables) (next : Lead) → LeadIsPlain next → AwaitsNone (frames_in left) × Suits left Gives → Kept left (frames_in left) (goes_on v next)
   compound_kept v (Calls call q) p h = (plain_suits call _ _ p (h.0, h), plain_frames call _ p)
@@ -71,7 +71,7 @@ module _ (s : Tree) (n : ℕ) (left : List Piece) where
   begins_kept (PassEnd loop began) v h = either _ (n == began) _ _ ((h.0, h), refl) (h, refl)
   begins_kept (Making call) v h = tt
   begins_kept (Running run) v h = ((h.0, h, h), refl)
-  begins_kept (Leaving run) v h = either _ (is_callback run.frame) _ _ (h, refl) (default_either (λ qs. Kept left (run.frame ∷ frames_in left) (Becomes qs (Going v))) run.parameters (Left (default_result run.parameters) ∷ Leaving run ∷ []) (λ e. ((h.0, (h.0, (h.0, h))), refl)) (λ e. ((h.0, (h.0, (h.0, h))), refl)) (λ e d. (h, refl)))
+  begins_kept (Leaving run) v h = either _ (is_callback run.frame) _ _ (h, refl) (default_either (λ qs. Kept left (run.frame ∷ frames_in left) (Becomes qs (Going v))) run.parameters (Left (default_result run.parameters) ∷ Leaving run ∷ []) (λ e. ((h.0, (h.0, (h.0, h))), refl)) (λ e. ((h.0, (h.0, (h.0, h))), refl)) (λ e. ((h.0, (h.0, (h.0, h))), refl)) (λ e d f. (h, refl)))
   begins_kept (Leaves frame x) v h = tt
   begins_kept (Giving a) v h = (h, refl)
   begins_kept p v h = absurd h

@@ -1,8 +1,8 @@
 -- The compounds: how each begins, and where the answer to each of their calls leads. A compound may begin inside of another.
 use Rattle.std.specs.Prelude.{ℕ, pos, ◌==◌, if◌then◌else◌, Option, Some, None}
-use Rattle.script_tree.specs.declared.messages.TheConstants.{WM_PAINT, WM_CLOSE, WM_NCCREATE, WM_CREATE, WM_DESTROY, WM_NCDESTROY}
+use Rattle.script_tree.specs.declared.messages.TheConstants.{WM_PAINT, WM_ERASEBKGND, WM_CLOSE, WM_NCCREATE, WM_CREATE, WM_DESTROY, WM_NCDESTROY}
 use Rattle.user_model.specs.declared.call.Call.{Call}
-use Rattle.user_model.specs.declared.call.Call.TheVariants.{Send, Doom, Unmake, Drop, Validate}
+use Rattle.user_model.specs.declared.call.Call.TheVariants.{Send, Doom, Unmake, Drop, Validate, Erase}
 use Rattle.user_model.specs.declared.entry.Answer.{Answer}
 use Rattle.user_model.specs.declared.entry.Answer.TheVariants.{Value, Window as WindowMade, Tell, Last, Refused}
 use Rattle.script_tree.specs.declared.variables.Parameters.{Parameters}
@@ -32,13 +32,17 @@ validation w = Validate w (pos 0) (pos 0) (pos 4096) (pos 4096)
 abbrev pub cleaning : ℕ → Begin
 cleaning w = record { call = validation w; place = Single }
 
--- the default procedure destroys a window that is to close, and makes one clean that is to paint
+-- the call that paints a window with the colour of its class, likewise
+abbrev pub erasing : ℕ → Begin
+erasing w = record { call = Erase w; place = Single }
+
+-- the default procedure destroys a window that is to close, makes one clean that is to paint, and paints one whose background is to be painted
 abbrev pub default_begin : Parameters → Option Begin
-default_begin p = if p.number == WM_CLOSE then Some (destruction p.hwnd) else if p.number == WM_PAINT then Some (cleaning p.hwnd) else None
+default_begin p = if p.number == WM_CLOSE then Some (destruction p.hwnd) else if p.number == WM_PAINT then Some (cleaning p.hwnd) else if p.number == WM_ERASEBKGND then Some (erasing p.hwnd) else None
 
 -- the result of the default procedure
 abbrev pub default_result : Parameters → ℕ
-default_result p = if p.number == WM_NCCREATE then 1 else 0
+default_result p = if p.number == WM_NCCREATE then 1 else if p.number == WM_ERASEBKGND then 1 else 0
 
 -- `create`: its window is destroyed, by a compound inside of it
 abbrev pub undoes : ℕ → Lead

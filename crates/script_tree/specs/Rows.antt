@@ -1,11 +1,11 @@
 -- The traces of a thread as a reader of the script tells them: one row for each form of statement, call and procedure.
 use Rattle.std.specs.Prelude.{◌≡◌, ◌≢◌, ℕ, not, Bool, true, false, if◌then◌else◌, List, [], ◌∷◌, ◌++◌}
-use Rattle.script_tree.specs.declared.messages.TheConstants.{WM_PAINT, WM_CLOSE, WM_NCCREATE, WM_CREATE, WM_DESTROY, WM_NCDESTROY}
+use Rattle.script_tree.specs.declared.messages.TheConstants.{WM_PAINT, WM_ERASEBKGND, WM_CLOSE, WM_NCCREATE, WM_CREATE, WM_DESTROY, WM_NCDESTROY}
 use Rattle.win_num.specs.declared.message.Hwnd.{Hwnd}
 use Rattle.win_num.specs.declared.send.SendId.{SendId}
 use Rattle.win_num.specs.declared.send.Frame.TheVariants.{Entered, Inside as InsideFrame, Called as CalledFrame, CallbackRun}
 use Rattle.user_model.specs.declared.call.Call.{Call}
-use Rattle.user_model.specs.declared.call.Call.TheVariants.{Await, Leave, Doom, Unmake, Drop, Clock, SleepUntil, Yield, EndThread}
+use Rattle.user_model.specs.declared.call.Call.TheVariants.{Await, Leave, Doom, Unmake, Drop, Erase, Clock, SleepUntil, Yield, EndThread}
 use Rattle.user_model.specs.declared.entry.Answer.{Answer}
 use Rattle.user_model.specs.declared.entry.Answer.TheVariants.{Wait, Value, Window as WindowMade, Called, Inside, Begun, Enter, Callback, Tell, Last, Refused}
 use Rattle.user_model.specs.Stacks.{leaves, waits}
@@ -229,10 +229,12 @@ pub data Rows (s : Tree) : Part → Point → Trace → Point → Type 0 where
   default_close : {p : Parameters} {v : Variables} {tr : Trace} {got out : Point} → p.number ≡ WM_CLOSE → Rows s (Destruction p.hwnd) (At (Going v)) tr got → out ≡ on (defaulting 0) got → Rows s (DefaultFor p) (At (Going v)) tr out
   -- of WM_PAINT: the call that makes all of the window clean, and the result 0 or the refusal
   default_paint : {p : Parameters} {v : Variables} {tr : Trace} {got out : Point} → p.number ≡ WM_PAINT → Rows s (Calls (validation p.hwnd)) (At (Going v)) tr got → out ≡ on (defaulting 0) got → Rows s (DefaultFor p) (At (Going v)) tr out
+  -- of WM_ERASEBKGND: the call that paints the window with the colour of its class, and the result 1 or the refusal
+  default_erase : {p : Parameters} {v : Variables} {tr : Trace} {got out : Point} → p.number ≡ WM_ERASEBKGND → Rows s (Calls (Erase p.hwnd)) (At (Going v)) tr got → out ≡ on (defaulting 1) got → Rows s (DefaultFor p) (At (Going v)) tr out
   -- of WM_NCCREATE: nothing, and the result 1
   default_greeting : {p : Parameters} {v : Variables} → p.number ≡ WM_NCCREATE → Rows s (DefaultFor p) (At (Going v)) [] (ended v (Value 1))
   -- of all other messages: nothing, and the result 0
-  default_other : {p : Parameters} {v : Variables} → p.number ≢ WM_CLOSE → p.number ≢ WM_PAINT → p.number ≢ WM_NCCREATE → Rows s (DefaultFor p) (At (Going v)) [] (ended v (Value 0))
+  default_other : {p : Parameters} {v : Variables} → p.number ≢ WM_CLOSE → p.number ≢ WM_PAINT → p.number ≢ WM_ERASEBKGND → p.number ≢ WM_NCCREATE → Rows s (DefaultFor p) (At (Going v)) [] (ended v (Value 0))
   -- a destruction: `doom`, and then the rest
   destruction : {w : ℕ} {v : Variables} {tr first second : Trace} {got out : Point} → Rows s (Calls (Doom w)) (At (Going v)) first got → Rows s (Doomed w) got second out → tr ≡ first ++ second → Rows s (Destruction w) (At (Going v)) tr out
   -- a refused `doom` ends it

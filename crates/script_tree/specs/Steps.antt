@@ -5,7 +5,7 @@ use Rattle.win_num.specs.declared.send.Frame.TheVariants.{Entered, Inside as Ins
 use Rattle.user_model.specs.declared.call.Call.{Call}
 use Rattle.user_model.specs.declared.call.Call.TheVariants.{Dispatch, Send, SendTimeout, SendNotify, SendCallback, Await, Leave, Doom, Clock, SleepUntil, Yield, EndThread}
 use Rattle.user_model.specs.declared.entry.Answer.{Answer}
-use Rattle.user_model.specs.declared.entry.Answer.TheVariants.{Okay, Ended, Nothing, Wait, Stuck, Gone, Value, Window as WindowMade, Posted, Called, Inside, Begun, Left as LeftOf, Tell, Last, Advanced, Busy, Update, Painting, Enter, Callback, Done, Got, Refused}
+use Rattle.user_model.specs.declared.entry.Answer.TheVariants.{Okay, Ended, Nothing, Wait, Stuck, Gone, Value, Window as WindowMade, Posted, Called, Inside, Begun, Left as LeftOf, Tell, Last, Advanced, Busy, Update, Painting, Snap, Enter, Callback, Done, Got, Refused}
 use Rattle.user_model.specs.Stacks.{leaves, waits}
 use Rattle.script_tree.specs.declared.statement.Statement.{Statement, items-the_row-Statement}
 use Rattle.script_tree.specs.declared.statement.Statement.TheVariants.{Let, Compute, If', IfElse', While', Return, Call as CallOf, Sleep, Create, Destroy, Default as DefaultOf}
@@ -153,6 +153,7 @@ result_of (Advanced time) = 0
 result_of (Busy thread) = 0
 result_of (Update kind l t r b) = 0
 result_of (Painting erases l t r b) = 0
+result_of (Snap k) = 0
 result_of (Enter s proc_no w number wparam lparam) = 0
 result_of (Callback s proc_no w number extra result) = 0
 result_of (Got origin number msg) = 0

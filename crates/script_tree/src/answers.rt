@@ -16,7 +16,7 @@ pub fn result_of(answer: &Answer) -> u64
         Answer::Stuck | Answer::Gone | Answer::Window(_) | Answer::Posted(_) => 0,
         Answer::Called(_) | Answer::Inside(_, _) | Answer::Begun(_) | Answer::Left(_) => 0,
         Answer::Tell(_) | Answer::Last(_) | Answer::Advanced(_) | Answer::Busy(_) => 0,
-        Answer::Update { .. } | Answer::Painting { .. } => 0,
+        Answer::Update { .. } | Answer::Painting { .. } | Answer::Snap(_) => 0,
         Answer::Enter { .. } | Answer::Callback { .. } => 0,
         Answer::Got { .. } | Answer::Refused(_) => 0,
     }

@@ -1,10 +1,12 @@
 //! How compound statements begin, and where they go on.
 
 ghost use Rattle.std.specs.Prelude.{◌≡◌};
-ghost use Rattle.script_tree.specs.Compounds.{sent as sent_of, creation as creation_of, destruction as destruction_of, cleaning as cleaning_of, default_begin, default_result as default_of, undoes as undoes_of, unmakes as unmakes_of, compound_after, after_making as making_leads, after_greeting as greeting_leads, after_telling as telling_leads, after_dooming as dooming_leads, after_unmaking as unmaking_leads, after_default as default_leads};
+ghost use Rattle.script_tree.specs.Compounds.{sent as sent_of, creation as creation_of, destruction as destruction_of, cleaning as cleaning_of, erasing as erasing_of, default_begin, default_result as default_of, undoes as undoes_of, unmakes as unmakes_of, compound_after, after_making as making_leads, after_greeting as greeting_leads, after_telling as telling_leads, after_dooming as dooming_leads, after_unmaking as unmaking_leads, after_default as default_leads};
 
 use crate::frame::{Begin, Lead, Place};
-use crate::messages::{WM_CLOSE, WM_CREATE, WM_DESTROY, WM_NCCREATE, WM_NCDESTROY, WM_PAINT};
+use crate::messages::{
+    WM_CLOSE, WM_CREATE, WM_DESTROY, WM_ERASEBKGND, WM_NCCREATE, WM_NCDESTROY, WM_PAINT,
+};
 use crate::variables::Parameters;
 use user_model::{Answer, Call};
 use win_num::Hwnd;
@@ -40,11 +42,22 @@ impl Begin {
             place: Place::Single,
         }
     }
+
+    /// The call that paints the window of this number with the colour of its class.
+    fn erasing(window: u64) -> Begin
+        ensures { result ≡ erasing_of window }
+    {
+        Begin {
+            call: Call::Erase(window),
+            place: Place::Single,
+        }
+    }
 }
 
 impl Parameters {
     /// The compound inside of the default procedure for this message, if there is one: it destroys a window
-    /// that is to close, and makes one clean that is to paint (Microsoft, WM_CLOSE and WM_PAINT messages).
+    /// that is to close, makes one clean that is to paint, and paints one whose background is to be painted
+    /// (Microsoft, WM_CLOSE, WM_PAINT and WM_ERASEBKGND messages).
     pub fn default_begin(&self) -> Option<Begin>
         ensures { result ≡ default_begin self.now }
     {
@@ -52,16 +65,18 @@ impl Parameters {
             Some(Begin::destruction(self.hwnd))
         } else if self.number == u64::from(WM_PAINT) {
             Some(Begin::cleaning(self.hwnd))
+        } else if self.number == u64::from(WM_ERASEBKGND) {
+            Some(Begin::erasing(self.hwnd))
         } else {
             None
         }
     }
 
-    /// The result of the default procedure for this message (Microsoft, WM_NCCREATE message).
+    /// The result of the default procedure for this message (Microsoft, WM_NCCREATE and WM_ERASEBKGND messages).
     pub fn default_result(&self) -> u64
         ensures { result ≡ default_of self.now }
     {
-        if self.number == u64::from(WM_NCCREATE) {
+        if self.number == u64::from(WM_NCCREATE) || self.number == u64::from(WM_ERASEBKGND) {
             1
         } else {
             0

@@ -12,6 +12,9 @@ pub const WM_PAINT: u32 = 15;
 /// A window is to be closed (Microsoft, WM_CLOSE message).
 pub const WM_CLOSE: u32 = 16;
 
+/// The background of a window is to be painted (Microsoft, WM_ERASEBKGND message).
+pub const WM_ERASEBKGND: u32 = 20;
+
 /// A window is being made (Microsoft, WM_NCCREATE message).
 pub const WM_NCCREATE: u32 = 129;
 

@@ -58,6 +58,10 @@ pub enum CallStatement {
     UpdateRect(Operand),
     /// `end_paint W` (Microsoft, EndPaint function).
     EndPaint(Operand),
+    /// `fill W L T R B COLOUR`; an edge from 2^63 on is a number below 0, by two's complement (Microsoft, FillRect function).
+    Fill(Operand, Operand, Operand, Operand, Operand, Operand),
+    /// `snap`
+    Snap,
     /// `clock` (Microsoft, GetTickCount64 function).
     Clock,
     /// `yield`

@@ -127,6 +127,7 @@ impl CallStatement {
             CallStatement::SendCallback(_, _, _, _, _, _) => self.send(variables),
             CallStatement::Invalidate(_, _, _, _, _, _) => self.rectangle(variables),
             CallStatement::Validate(_, _, _, _, _) => self.rectangle(variables),
+            CallStatement::Fill(_, _, _, _, _, _) => self.rectangle(variables),
             _ => self.short_call(variables),
         }
     }
@@ -192,6 +193,14 @@ impl CallStatement {
                 right.edge(variables),
                 bottom.edge(variables),
             ),
+            CallStatement::Fill(window, left, top, right, bottom, colour) => Call::Fill(
+                window.value(variables),
+                left.edge(variables),
+                top.edge(variables),
+                right.edge(variables),
+                bottom.edge(variables),
+                colour.value(variables),
+            ),
             _ => unreachable!(),
         }
     }
@@ -218,6 +227,7 @@ impl CallStatement {
             }
             CallStatement::UpdateRect(window) => Call::UpdateRect(window.value(variables)),
             CallStatement::EndPaint(window) => Call::EndPaint(window.value(variables)),
+            CallStatement::Snap => Call::Snap,
             CallStatement::Clock => Call::Clock,
             CallStatement::Yield => Call::Yield,
             _ => unreachable!(),

@@ -169,7 +169,8 @@ impl Variables {
             Answer::Ended | Answer::Wait | Answer::Stuck | Answer::Gone => (1, 0),
             Answer::Posted(_) | Answer::Begun(_) | Answer::Left(_) => (1, 0),
             Answer::Tell(_) | Answer::Last(_) => (1, 0),
-            Answer::Advanced(_) | Answer::Busy(_) | Answer::Painting { .. } => (1, 0),
+            Answer::Advanced(_) | Answer::Busy(_) => (1, 0),
+            Answer::Painting { .. } | Answer::Snap(_) => (1, 0),
             Answer::Enter { .. } | Answer::Callback { .. } => (1, 0),
         };
         self.last_result = last_result;

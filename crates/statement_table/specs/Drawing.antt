@@ -1,4 +1,4 @@
--- Statements about the pixels of windows that are to be painted, one row each.
+-- Statements about the pixels of windows: those that are to be painted, and their colours, one row each.
 use Rattle.std.specs.Prelude.{List, [], ◌∷◌, Option, Some, None}
 use Rattle.call_table.specs.declared.calls.CallName.TheVariants as groups
 use Rattle.call_table.specs.declared.drawing.DrawingCall.{DrawingCall}
@@ -16,12 +16,17 @@ split_drawing (calls.Invalidate window left top right bottom erase) = split (gro
 split_drawing (calls.Validate window left top right bottom) = split (groups.Drawing names.Validate) (parts.Operand window ∷ parts.Operand left ∷ parts.Operand top ∷ parts.Operand right ∷ parts.Operand bottom ∷ [])
 split_drawing (calls.UpdateRect window) = split (groups.Drawing names.UpdateRect) (parts.Operand window ∷ [])
 split_drawing (calls.EndPaint window) = split (groups.Drawing names.EndPaint) (parts.Operand window ∷ [])
+split_drawing (calls.Fill window left top right bottom colour) = split (groups.Drawing names.Fill) (parts.Operand window ∷ parts.Operand left ∷ parts.Operand top ∷ parts.Operand right ∷ parts.Operand bottom ∷ parts.Operand colour ∷ [])
+split_drawing calls.Snap = split (groups.Drawing names.Snap) []
 split_drawing c = None
 
--- the statement that makes this call, of the parts in their places; none makes `begin_paint` by itself
+-- the statement that makes this call, of the parts in their places; none makes `begin_paint` or `erase` by itself
 abbrev pub made_drawing : DrawingCall → List Part → Option CallStatement
 made_drawing names.Invalidate ps = Some (calls.Invalidate (operand_in ps 0) (operand_in ps 1) (operand_in ps 2) (operand_in ps 3) (operand_in ps 4) (operand_in ps 5))
 made_drawing names.Validate ps = Some (calls.Validate (operand_in ps 0) (operand_in ps 1) (operand_in ps 2) (operand_in ps 3) (operand_in ps 4))
 made_drawing names.UpdateRect ps = Some (calls.UpdateRect (operand_in ps 0))
 made_drawing names.BeginPaint ps = None
 made_drawing names.EndPaint ps = Some (calls.EndPaint (operand_in ps 0))
+made_drawing names.Fill ps = Some (calls.Fill (operand_in ps 0) (operand_in ps 1) (operand_in ps 2) (operand_in ps 3) (operand_in ps 4) (operand_in ps 5))
+made_drawing names.Erase ps = None
+made_drawing names.Snap ps = Some calls.Snap

@@ -1,4 +1,4 @@
-//! Statements about the pixels of windows that are to be painted, one row each.
+//! Statements about the pixels of windows: those that are to be painted, and their colours, one row each.
 
 ghost use Rattle.std.specs.Prelude.{◌≡◌, option_map};
 ghost use Rattle.statement_table.specs.Drawing.{split_drawing, made_drawing};
@@ -32,6 +32,11 @@ pub fn split_drawing(call: CallStatement) -> Option<SplitStatement>
             Drawing(DrawingCall::EndPaint),
             &[window],
         ),
+        CallStatement::Fill(window, left, top, right, bottom, colour) => split_operands(
+            Drawing(DrawingCall::Fill),
+            &[window, left, top, right, bottom, colour],
+        ),
+        CallStatement::Snap => split_operands(Drawing(DrawingCall::Snap), &[]),
         _ => None,
     }
 }
@@ -61,5 +66,15 @@ pub fn made_drawing(name: DrawingCall, parts: &[Part]) -> Option<CallStatement>
         DrawingCall::UpdateRect => Some(CallStatement::UpdateRect(operands[0])),
         DrawingCall::BeginPaint => None,
         DrawingCall::EndPaint => Some(CallStatement::EndPaint(operands[0])),
+        DrawingCall::Fill => Some(CallStatement::Fill(
+            operands[0],
+            operands[1],
+            operands[2],
+            operands[3],
+            operands[4],
+            operands[5],
+        )),
+        DrawingCall::Erase => None,
+        DrawingCall::Snap => Some(CallStatement::Snap),
     }
 }

@@ -19,6 +19,8 @@ fn statements_again(rt: HostRuntime) -> Result<(), Fail> {
         (CallStatement::Validate(one, h, one, h, one), 5),
         (CallStatement::UpdateRect(h), 1),
         (CallStatement::EndPaint(h), 1),
+        (CallStatement::Fill(one, h, one, h, one, h), 6),
+        (CallStatement::Snap, 0),
         (CallStatement::Dispatch, 0),
         (CallStatement::Yield, 0),
     ] {
@@ -39,10 +41,12 @@ fn calls_of_no_statement(rt: HostRuntime) -> Result<(), Fail> {
     let doom = CallName::Window(WindowCall::Doom);
     let tick = CallName::Clock(ClockCall::Tick);
     let begin = CallName::Drawing(DrawingCall::BeginPaint);
+    let erase = CallName::Drawing(DrawingCall::Erase);
     let parent = CallName::Lookup(LookupCall::Parent);
     assert_eq!(rt; statement_of_parts(doom, &one).is_none(), true);
     assert_eq!(rt; statement_of_parts(tick, &one).is_none(), true);
     assert_eq!(rt; statement_of_parts(begin, &one).is_none(), true);
+    assert_eq!(rt; statement_of_parts(erase, &one).is_none(), true);
     assert_eq!(rt; statement_of_parts(parent, &one).is_none(), false);
     assert_eq!(rt; field_places(doom).len(), 1);
     Ok(())

@@ -16,8 +16,9 @@ use Rattle.log_text.specs.declared.end.End.TheVariants.{Done, Stuck, Spent, Cut}
 use Rattle.log_text.specs.Ends.{setup_of, end_of}
 use Rattle.log_text.specs.Entries.{call_text, answer_text}
 use Rattle.log_text.specs.Endings.{last_call}
+use Rattle.log_text.specs.Frames.{shown}
 use Rattle.log_json.specs.Logs.{entry_json, entries_json, json}
-use Rattle.log_json.specs.Objects.{line, one_member, end_object, waits_line, spent_object, counts_object, extra, ending}
+use Rattle.log_json.specs.Objects.{line, one_member, entry_object, frame_object, frame_line, end_object, waits_line, spent_object, counts_object, extra, ending}
 use Rattle.user_app.proofs.SameRuns.{SameRules}
 use Rattle.user_app.proofs.SameLogs.{same_call_text, same_answer_text, same_end}
 
@@ -26,10 +27,19 @@ abbrev entry_by : List ℕ → List ℕ → ℕ → List ℕ
 entry_by answer call who = line (object (member (codes "answer") (string answer) (member (codes "call") (string call) (member (codes "who") (number (unsigned who)) no_members))))
 
 module _ (s t : Tree) (h : SameRules s t) where
-  same_entry : (past : Past) (e : Entry) → entry_json s past e ≡ entry_json t past e
-  same_entry past e =
+  same_line : (e : Entry) → line (entry_object s e) ≡ line (entry_object t e)
+  same_line e =
       ap (λ (x : List ℕ). entry_by x (call_text s e.call) e.who.0) (same_answer_text s t h e.answer)
       ∙ ap (λ (x : List ℕ). entry_by (answer_text t e.answer) x e.who.0) (same_call_text s t h e.call)
+
+  same_frame : (o : Option (List ℕ)) → frame_line s o ≡ frame_line t o
+  same_frame None = refl
+  same_frame (Some colours) = ap (λ (x : Setup). line (frame_object x.width x.height colours)) h.setup
+
+  same_entry : (past : Past) (e : Entry) → entry_json s past e ≡ entry_json t past e
+  same_entry past e =
+      ap (λ (x : List ℕ). x ++ frame_line s (shown (setup_of s) past e.answer)) (same_line e)
+      ∙ ap (λ (x : List ℕ). line (entry_object t e) ++ x) (same_frame (shown (setup_of s) past e.answer) ∙ ap (λ (x : Setup). frame_line t (shown x past e.answer)) h.setup)
 
   same_entries : (past : Past) → entries_json s past ≡ entries_json t past
   same_entries [] = refl

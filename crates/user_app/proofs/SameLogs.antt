@@ -20,7 +20,8 @@ use Rattle.script_text.specs.Lines.{names_of}
 use Rattle.log_text.specs.declared.end.End.{End}
 use Rattle.log_text.specs.declared.end.End.TheVariants.{Done, Stuck, Spent, Cut}
 use Rattle.log_text.specs.Ends.{setup_of, used, end_of}
-use Rattle.log_text.specs.Entries.{procedure_name, procedure_text, value_text, call_text, answer_text, entry_text, entries_text}
+use Rattle.log_text.specs.Entries.{procedure_name, procedure_text, value_text, call_text, answer_text, entry_line, entry_text, entries_text}
+use Rattle.log_text.specs.Frames.{frame_text, shown, frame_lines}
 use Rattle.log_text.specs.Endings.{end_line, last_call, waits_line, spent_line, extra, sends_line, ending}
 use Rattle.log_text.specs.Logs.{log}
 use Rattle.user_app.proofs.SameRuns.{SameRules}
@@ -73,10 +74,20 @@ module _ (s t : Tree) (h : SameRules s t) where
   pub same_answer_text : (a : Answer) → answer_text s a ≡ answer_text t a
   same_answer_text a = ap (λ (x : List ℕ). (answer_row (answer_name a)).word ++ x) (same_values (answer_parts a))
 
-  same_entry : (past : Past) (e : Entry) → entry_text s past e ≡ entry_text t past e
-  same_entry past e =
+  same_line : (e : Entry) → entry_line s e ≡ entry_line t e
+  same_line e =
       ap (λ (x : List ℕ). decimal e.who.0 ++ (codes " " ++ (x ++ (codes " = " ++ (answer_text s e.answer ++ codes "\n"))))) (same_call_text e.call)
       ∙ ap (λ (x : List ℕ). decimal e.who.0 ++ (codes " " ++ (call_text t e.call ++ (codes " = " ++ (x ++ codes "\n"))))) (same_answer_text e.answer)
+
+  -- the lines of a frame take only the screen
+  same_frame : (o : Option (List ℕ)) → frame_lines s o ≡ frame_lines t o
+  same_frame None = refl
+  same_frame (Some colours) = ap (λ (x : Setup). frame_text x.width x.height colours) h.setup
+
+  same_entry : (past : Past) (e : Entry) → entry_text s past e ≡ entry_text t past e
+  same_entry past e =
+      ap (λ (x : List ℕ). x ++ frame_lines s (shown (setup_of s) past e.answer)) (same_line e)
+      ∙ ap (λ (x : List ℕ). entry_line t e ++ x) (same_frame (shown (setup_of s) past e.answer) ∙ ap (λ (x : Setup). frame_lines t (shown x past e.answer)) h.setup)
 
   same_entries : (past : Past) → entries_text s past ≡ entries_text t past
   same_entries [] = refl

@@ -3,6 +3,7 @@
 ghost use Rattle.std.specs.Prelude.{◌≡◌, OnOk, OnErr, IsErrOf};
 ghost use Rattle.std.specs.Io.KnownBytes.{Appends};
 ghost use Rattle.user_io.specs.Outside.{Rose, AppendsPart};
+ghost use Rattle.user_model.specs.Legal.{IsLawful};
 ghost use Rattle.script_text.specs.Limits.{IsScript};
 ghost use Rattle.log_text.specs.Ends.{setup_of, end_of};
 ghost use Rattle.user_app.specs.Histories.{history_text};
@@ -28,6 +29,7 @@ pub fn write_history<M: Machine, K: Sink>(
 ) -> Result<(), WriteFault>
     requires script { IsScript script.now }
     requires setup { M.setup machine.now ≡ setup_of script.now }
+    requires lawful { IsLawful (M.setup machine.now) (M.past machine.now) }
     requires end { end ≡ end_of script.now (M.past machine.now) }
     ensures ok { OnOk result (Appends (K.holds sink.old) (K.holds sink.new) (history_text form script.now (M.past machine.now))) }
     ensures err { OnErr result (AppendsPart (K.holds sink.old) (K.holds sink.new) (history_text form script.now (M.past machine.now))) }

@@ -1,7 +1,7 @@
 //! The machine: it decides from the state what a call answers, and adds the entry to it.
 //!
 //! `core_deliver` answers the calls of delivery, `core_window` those on classes and windows, `core_draw` those on
-//! dirty pixels and painting. `clock` decides the calls of time, `answer` who has no call to make. `User` joins
+//! dirty pixels, painting, colours and frames. `clock` decides the calls of time, `answer` who has no call to make. `User` joins
 //! them with the state.
 #![tactic(auto)]
 

@@ -102,6 +102,10 @@ impl Machine for User {
         self.state.history()
     }
 
+    fn frame(&self, number: u32) -> Option<&[u8]> {
+        self.state.frame(number)
+    }
+
     fn send_count(&self) -> SendCount {
         self.state.send_count()
     }

@@ -1,5 +1,5 @@
 -- A refused entry changes nothing, and posts leave in posted order.
-use Rattle.std.proofs.Common.{◌≡◌, ◌≢◌, ◌≤◌, ◌<◌, ℕ, zero, suc, not, reverse, Bool, true, false, cond, eqb, List, [], ◌∷◌, length, Option, Some, None, refl, sym, ap, ◌∙◌, subst, arith}
+use Rattle.std.proofs.Common.{◌≡◌, ◌≢◌, ◌≤◌, ◌<◌, ℕ, suc, not, Bool, true, false, cond, eqb, List, [], ◌∷◌, length, Option, Some, None, refl, sym, ap, ◌∙◌, subst, arith}
 use Rattle.std.specs.Prelude.{◌+◌, ◌&&◌, nat_le, nat_lt, find, unwrap_or}
 use Rattle.std.specs.List.{AllByRecursion}
 use Rattle.std.proofs.lemmas.Bool.{false≢true, eqb-true}
@@ -50,6 +50,9 @@ changes_none past who call (Refused code) is = record {
   same_dirty = λ setup w p. dirty_kept past who call code setup w p;
   same_flags = λ setup w. refl;
   same_painting = λ w. refl;
+  same_clips = λ setup w p. refl;
+  same_colours = λ setup p. refl;
+  same_frames = λ setup number. refl;
   same_marks = λ w. refl;
   same_steps = λ step. refl;
   same_classes = refl;

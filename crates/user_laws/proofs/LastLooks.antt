@@ -12,8 +12,7 @@ use Rattle.user_model.specs.Past.{Past, is_refused, last_of}
 use Rattle.user_model.specs.Deeds.{Deed, making, placing, showing, deed}
 use Rattle.user_model.specs.Windows.{Window, live, made_by}
 use Rattle.user_model.specs.Looks.{Look, look, look_of, no_look, placed, relooked, shown_look}
-use Rattle.user_laws.specs.Words.{Moment, IsIn, SaysNothing, IsLastSaid, IsAddedForGood}
-use Rattle.user_laws.specs.Stands.{makes_window, drops_it}
+use Rattle.user_laws.specs.Words.{Moment, IsIn, SaysNothing, IsLastSaid}
 use Rattle.user_laws.specs.Looks.{touches, gives_look}
 use Rattle.user_laws.proofs.WordLaws.{last_said, last_none}
 use Rattle.user_laws.proofs.Standing.{windows_exactly}

@@ -1,5 +1,5 @@
 -- A refused entry leaves who owns each pixel, which pixels are dirty, and which window is painted next.
-use Rattle.std.proofs.Common.{◌≡◌, ◌∙◌, ℕ, zero, suc, Bool, true, false, eqb, List, [], ◌∷◌, ◌++◌, cond, length, Option, Some, None, refl, ap}
+use Rattle.std.proofs.Common.{◌≡◌, ◌∙◌, ℕ, zero, suc, Bool, true, false, eqb, List, [], ◌∷◌, ◌++◌, cond, length, Option, Some, refl, ap}
 use Rattle.std.specs.Prelude.{◌&&◌, not, find, pos, reverse, option_map, unwrap_or}
 use Rattle.std.specs.List.{flat_map}
 use Rattle.win_num.specs.declared.message.Thread.{Thread}
@@ -11,7 +11,6 @@ use Rattle.win_num.specs.declared.names.TheConstants.{WM_PAINT}
 use Rattle.win_num.specs.Numbers.{passes_range}
 use Rattle.region_box.specs.Screens.{screen_points}
 use Rattle.user_model.specs.declared.call.Call.{Call}
-use Rattle.user_model.specs.declared.entry.Answer.{Answer}
 use Rattle.user_model.specs.declared.entry.Answer.TheVariants.{Refused}
 use Rattle.user_model.specs.declared.entry.Setup.{Setup}
 use Rattle.user_model.specs.Past.{Past, last_of, or_else}
@@ -21,11 +20,11 @@ use Rattle.user_model.specs.Next.{got_paint, next, next_posted, next_quit, next_
 use Rattle.user_model.specs.Pixels.{corner_from, origin, origin_within, owner, point}
 use Rattle.user_model.specs.Windows.{live, parent_in, thread_of}
 use Rattle.user_model.specs.ZOrder.{siblings}
-use Rattle.user_model.specs.Dirty.{dirty_pixels, has_dirty, has_some, is_dirty, owns, touches}
+use Rattle.user_model.specs.Dirty.{dirty_pixels, has_some, is_dirty, touches}
 use Rattle.user_model.specs.Painting.{painted_below, painting_order, to_paint, wants_paint}
 use Rattle.user_model.specs.Machines.{entry_of}
 use Rattle.user_model.proofs.ListLaws.{filter_same}
-use Rattle.screen_state.proofs.OwnersKept.{owner_same}
+use Rattle.user_model.proofs.OwnersKept.{owner_same}
 
 -- tests that agree find the same
 found_same : {X : Type 0} (f g : X → Bool) → ((x : X) → f x ≡ g x) → (xs : List X) → find f xs ≡ find g xs

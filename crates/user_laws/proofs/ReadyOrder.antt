@@ -1,5 +1,5 @@
 -- What a thread has ready stands in order of place, and of number at one place.
-use Rattle.std.proofs.Common.{◌≡◌, ◌<◌, ◌+◌, ℕ, suc, Bool, true, false, not, cond, eqb, List, [], ◌∷◌, ◌++◌, length, Option, Some, None, refl, sym, ap, ◌∙◌, subst, arith, inl, inr}
+use Rattle.std.proofs.Common.{◌≡◌, ◌<◌, ℕ, suc, Bool, true, false, not, cond, eqb, List, [], ◌∷◌, ◌++◌, length, Option, Some, None, refl, sym, ap, ◌∙◌, subst, arith, inl, inr}
 use Rattle.std.specs.Prelude.{◌⊎◌, ◌&&◌, filter, is_some, option_map, unwrap_or}
 use Rattle.std.specs.List.{AllByRecursion, flat_map}
 use Rattle.std.proofs.lemmas.Bool.{and_right}
@@ -18,7 +18,7 @@ use Rattle.user_model.specs.Places.{has_ended}
 use Rattle.user_model.specs.Deeds.{SendParts, parts_of}
 use Rattle.user_model.specs.Windows.{Window, live, window, drops, drops_window}
 use Rattle.user_model.specs.Sends.{SentMsg, Outcome, sends, send, sends_by, sends_with, sent_as, is_answered, is_entered, outcome, answers_in}
-use Rattle.user_model.specs.Ready.{ReadyMsg, to_enter, to_call_back, place_of, begun, result, result_in, is_answered_by, arrives, departs, ready}
+use Rattle.user_model.specs.Ready.{ReadyMsg, to_enter, place_of, begun, result, result_in, is_answered_by, arrives, departs, ready}
 use Rattle.user_model.specs.Machines.{entry_of}
 use Rattle.user_model.specs.Legal.{IsLawful}
 use Rattle.user_model.proofs.ListLaws.{all_weaker, all_append, all_filter, filter_none}

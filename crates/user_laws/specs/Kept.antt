@@ -11,6 +11,7 @@ use Rattle.user_model.specs.ZOrder.{siblings}
 use Rattle.user_model.specs.Pixels.{owner}
 use Rattle.user_model.specs.Dirty.{is_dirty, must_erase}
 use Rattle.user_model.specs.Painting.{is_painting}
+use Rattle.user_model.specs.Colours.{colour, frame_of, is_in_clip}
 use Rattle.user_model.specs.Destruction.{Step, is_marked, was_given}
 use Rattle.user_model.specs.Classes.{classes, registered_count, message_names}
 use Rattle.user_model.specs.Posts.{posts, posted, quit}
@@ -31,6 +32,9 @@ pub record ChangesNothing (past : Past) (e : Entry) : Type 0 where
   pub same_dirty : (setup : Setup) (w : ℕ) (p : Point) → is_dirty setup (e ∷ past) w p ≡ is_dirty setup past w p
   pub same_flags : (setup : Setup) (w : ℕ) → must_erase setup (e ∷ past) w ≡ must_erase setup past w
   pub same_painting : (w : ℕ) → is_painting (e ∷ past) w ≡ is_painting past w
+  pub same_clips : (setup : Setup) (w : ℕ) (p : Point) → is_in_clip setup (e ∷ past) w p ≡ is_in_clip setup past w p
+  pub same_colours : (setup : Setup) (p : Point) → colour setup (e ∷ past) p ≡ colour setup past p
+  pub same_frames : (setup : Setup) (number : ℕ) → frame_of setup (e ∷ past) number ≡ frame_of setup past number
   pub same_marks : (w : ℕ) → is_marked (e ∷ past) w ≡ is_marked past w
   pub same_steps : (step : Step) → was_given (e ∷ past) step ≡ was_given past step
   pub same_classes : classes (e ∷ past) ≡ classes past

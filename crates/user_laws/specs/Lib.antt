@@ -1,3 +1,4 @@
+pub mod Colours
 pub mod Destructions
 pub mod Kept
 pub mod Looks

@@ -2,6 +2,7 @@
 //! `send_law` and `sum_law` tell of a given machine what two of them speak of.
 #![tactic(auto)]
 
+mod colours;
 mod machines;
 mod orders;
 mod painting;
@@ -12,6 +13,7 @@ mod stands;
 mod times;
 mod words;
 
+pub use colours::{clips_follow, colours_follow, frames_stay};
 pub use machines::{send_law, sum_law};
 pub use orders::{destruction_is_in_order, kin_are_destroyed_once, kin_go_before_what_is_above};
 pub use painting::{dirty_pixels_follow, painted_windows_are_live};

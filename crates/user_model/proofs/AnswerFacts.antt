@@ -1,5 +1,5 @@
 -- What an answered call can be: for each answer what it says of its call, and of the past before it.
-use Rattle.std.proofs.Common.{◌≡◌, ℕ, Bool, true, false, not, eqb, List, [], length, Option, Some, None}
+use Rattle.std.proofs.Common.{◌≡◌, ℕ, suc, Bool, true, false, not, eqb, List, [], length, Option, Some, None}
 use Rattle.std.specs.Prelude.{◌⊎◌, ◌||◌, nat_le}
 use Rattle.win_num.specs.declared.message.Filter.{Filter}
 use Rattle.win_num.specs.declared.message.Hwnd.{Hwnd}
@@ -14,7 +14,7 @@ use Rattle.win_num.specs.declared.code.Code.{Code}
 use Rattle.win_num.specs.declared.code.Code.TheVariants.{NotNow}
 use Rattle.win_num.specs.declared.names.TheConstants.{WM_PAINT, WM_QUIT}
 use Rattle.user_model.specs.declared.call.Call.{Call}
-use Rattle.user_model.specs.declared.call.Call.TheVariants.{Post, PostThread, Dispatch, Await, Leave, Unmake, EndThread}
+use Rattle.user_model.specs.declared.call.Call.TheVariants.{Post, PostThread, Dispatch, Await, Leave, Unmake, Snap, EndThread}
 use Rattle.user_model.specs.declared.entry.Answer.{Answer}
 use Rattle.user_model.specs.declared.entry.Answer.TheVariants as answers
 use Rattle.user_model.specs.declared.entry.Origin.TheVariants as origins
@@ -31,6 +31,7 @@ use Rattle.user_model.specs.Sends.{SentMsg, Outcome, send, answer, unfinished}
 use Rattle.user_model.specs.Ready.{ReadyMsg, to_enter, to_call_back, ready_head}
 use Rattle.user_model.specs.Next.{next, next_ready, next_quit, result_of}
 use Rattle.user_model.specs.Painting.{to_paint}
+use Rattle.user_model.specs.Colours.{snapped}
 use Rattle.user_model.specs.Refusals.{is_no_message}
 use Rattle.user_model.specs.ReplyDelivery.{next_post_number, is_no_post_window}
 use Rattle.user_model.specs.ReplySends.{next_send_number, deadline, has_come}
@@ -172,6 +173,11 @@ pub record IsCalled (past : Past) (who : ℕ) (call : Call) (proc_no : ℕ) : Ty
   pub room : has_room past who ≡ true
   pub is_proc : proc_no ≡ proc_of past w
 
+-- a frame was kept, of the next number
+pub record IsSnap (past : Past) (call : Call) (k : ℕ) : Type 0 where
+  pub is_call : call ≡ Snap
+  pub is_next : k ≡ suc (length (snapped past))
+
 -- ---- all answers
 
 -- a window's destruction was asked for its next step
@@ -208,6 +214,7 @@ Says setup past who call (answers.Advanced time) = ⊥
 Says setup past who call (answers.Busy t) = ⊥
 Says setup past who call (answers.Update kind l t r b) = Unit {0}
 Says setup past who call (answers.Painting erases l t r b) = Unit {0}
+Says setup past who call (answers.Snap k) = IsSnap past call k
 Says setup past who call (answers.Enter s proc_no w message wparam lparam) = IsEntry past who call s.0 proc_no w.0 message wparam lparam
 Says setup past who call (answers.Callback s proc_no w message extra result) = IsResult past who call s.0 proc_no w.0 message extra result ⊎ IsInsideResult past who call s.0 proc_no w.0 message extra result
 Says setup past who call (answers.Done result cause) = IsDone past who call result cause

@@ -9,14 +9,16 @@ use Rattle.user_model.specs.Past.{Past, is_refused, or_else, last_of}
 use Rattle.user_model.specs.Dirty.{owns, moves, exposes, exposes_some, invalidates, cleans, touches, is_dirty, flags_erase, flag_told, must_erase}
 use Rattle.user_model.specs.Painting.{painting_told, is_painting}
 
-last_says : {A : Type 0} (says : Entry → Past → Option A) (e : Entry) (past : Past) (d : A) → is_refused e ≡ false → unwrap_or (last_of says (e ∷ past)) d ≡ unwrap_or (says e past) (unwrap_or (last_of says past) d)
+-- what the last entry says, where the newest wasn't refused
+pub last_says : {A : Type 0} (says : Entry → Past → Option A) (e : Entry) (past : Past) (d : A) → is_refused e ≡ false → unwrap_or (last_of says (e ∷ past)) d ≡ unwrap_or (says e past) (unwrap_or (last_of says past) d)
 last_says {A = A} says e past d h = ap (λ b. unwrap_or (elim b as (λ c. Option A) [ true ↦ last_of says past | false ↦ elim (says e past) as (λ c. Option A) [ Some a ↦ Some a | None ↦ last_of says past ] ]) d) h ∙ pick (says e past)
   where
     pick : (o : Option A) → unwrap_or (elim o as (λ c. Option A) [ Some a ↦ Some a | None ↦ last_of says past ]) d ≡ unwrap_or o (unwrap_or (last_of says past) d)
     pick (Some a) = refl
     pick None = refl
 
-last_refused : {A : Type 0} (says : Entry → Past → Option A) (e : Entry) (past : Past) → is_refused e ≡ true → last_of says (e ∷ past) ≡ last_of says past
+-- and where it was
+pub last_refused : {A : Type 0} (says : Entry → Past → Option A) (e : Entry) (past : Past) → is_refused e ≡ true → last_of says (e ∷ past) ≡ last_of says past
 last_refused {A = A} says e past h = ap (λ b. elim b as (λ c. Option A) [ true ↦ last_of says past | false ↦ elim (says e past) as (λ c. Option A) [ Some a ↦ Some a | None ↦ last_of says past ] ]) h
 
 -- whether a pixel is dirty after an entry: owned and kept are that w owns it then, and that it isn't exposed

@@ -1,13 +1,16 @@
 pub mod AnswerFacts
 pub mod ClockLaws
+pub mod ColourLaws
 pub mod DeliveryReplies
 pub mod DirtyLaws
 pub mod Forests
+pub mod FrameLaws
 pub mod KeptWindows
 pub mod LegalLaws
 pub mod ListLaws
 pub mod LiveWindows
 pub mod Lowest
+pub mod OwnersKept
 pub mod PastLaws
 pub mod PostCounts
 pub mod PostLaws

@@ -1,5 +1,5 @@
 -- The one walk over all calls: what the answer of a row says of its call.
-use Rattle.std.proofs.Common.{◌≡◌, ℕ, Bool, true, false, not, cond, eqb, List, [], ◌∷◌, length, Option, Some, None, refl, ap, ◌∙◌, sym, subst, inl, inr}
+use Rattle.std.proofs.Common.{◌≡◌, ℕ, suc, Bool, true, false, not, cond, eqb, List, [], ◌∷◌, length, Option, Some, None, refl, ap, ◌∙◌, sym, subst, inl, inr}
 use Rattle.std.specs.Prelude.{◌&&◌, ◌||◌, unwrap_or, option_map, nat_lt, nat_le}
 use Rattle.std.proofs.lemmas.Bool.{false≢true}
 use Rattle.win_num.specs.declared.message.Filter.{Filter}
@@ -13,7 +13,7 @@ use Rattle.win_num.specs.declared.send.Frame.TheVariants.{Entered, Inside as Ins
 use Rattle.win_num.specs.declared.code.Code.{Code}
 use Rattle.win_num.specs.declared.code.Code.TheVariants.{Full}
 use Rattle.user_model.specs.declared.call.Call.{Call}
-use Rattle.user_model.specs.declared.call.Call.TheVariants.{Peek, Get, Post, PostThread, PostQuit, Dispatch, Send, SendTimeout, SendNotify, SendCallback, Await, Leave, Reply, InSend, Message, Register, Unregister, NewWindow, Doom, Unmake, Drop, Place, Show, Find, AwaitTitle, NextTop, WindowAt, IsWindow, Parent, Invalidate, Validate, UpdateRect, BeginPaint, EndPaint, EndThread, Clock, SleepUntil, Yield, Tick, Advance}
+use Rattle.user_model.specs.declared.call.Call.TheVariants.{Peek, Get, Post, PostThread, PostQuit, Dispatch, Send, SendTimeout, SendNotify, SendCallback, Await, Leave, Reply, InSend, Message, Register, Unregister, NewWindow, Doom, Unmake, Drop, Place, Show, Find, AwaitTitle, NextTop, WindowAt, IsWindow, Parent, Invalidate, Validate, UpdateRect, BeginPaint, EndPaint, Fill, Erase, Snap, EndThread, Clock, SleepUntil, Yield, Tick, Advance}
 use Rattle.user_model.specs.declared.entry.Answer.{Answer}
 use Rattle.user_model.specs.declared.entry.Answer.TheVariants as answers
 use Rattle.user_model.specs.declared.entry.Setup.{Setup}
@@ -32,6 +32,7 @@ use Rattle.user_model.specs.Sends.{SentMsg, Outcome, send, answer, unfinished}
 use Rattle.user_model.specs.Ready.{ReadyMsg, to_enter, to_call_back, ready_head}
 use Rattle.user_model.specs.Next.{next, next_ready, next_posted, next_quit, next_paint, run_for, got_posted, got_quit, got_paint, is_empty}
 use Rattle.user_model.specs.Painting.{to_paint}
+use Rattle.user_model.specs.Colours.{snapped}
 use Rattle.user_model.specs.Refusals.{refuse, is_no_message, invalid_parameter, invalid_window_handle, access_denied, stack_overflow, not_enough_quota, invalid_thread_id}
 use Rattle.user_model.specs.ReplyDelivery.{next_post_number, is_no_post_window}
 use Rattle.user_model.specs.ReplyWindows.{step_answer, unmake_step}
@@ -305,6 +306,9 @@ row_said setup past who (Validate w l t r b) = plainly setup past who (Validate 
 row_said setup past who (UpdateRect w) = plainly setup past who (UpdateRect w) (row setup past who (UpdateRect w)) (search (plain_behind, plain))
 row_said setup past who (BeginPaint w) = plainly setup past who (BeginPaint w) (row setup past who (BeginPaint w)) (search (plain_behind, plain))
 row_said setup past who (EndPaint w) = plainly setup past who (EndPaint w) (row setup past who (EndPaint w)) (search (plain_behind, plain))
+row_said setup past who (Fill w l t r b colour) = plainly setup past who (Fill w l t r b colour) (row setup past who (Fill w l t r b colour)) (search (plain_behind, plain))
+row_said setup past who (Erase w) = plainly setup past who (Erase w) (row setup past who (Erase w)) (search (plain_behind, plain))
+row_said setup past who Snap = behind setup past who Snap (nat_le 256 (length (snapped past))) Full (answers.Snap (suc (length (snapped past)))) refl (λ room. record { says = record { is_call = refl; is_next = refl } })
 row_said setup past who EndThread = record { says = refl }
 row_said setup past who Clock = record { says = tt }
 row_said setup past who (SleepUntil time) = let call = SleepUntil time in behind setup past who call _ invalid_parameter _ refl (λ n. woken_said setup past who call refl (nat_le time (clock past)))

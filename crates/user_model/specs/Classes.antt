@@ -48,6 +48,10 @@ class_of past w = elim (window past w) [ Some x ↦ class past x.class | None �
 abbrev pub proc_of : Past → ℕ → ℕ
 proc_of past w = unwrap_or (option_map (λ c. c.proc_no) (class_of past w)) 0
 
+-- the colour of a window's class
+abbrev pub colour_of : Past → ℕ → ℕ
+colour_of past w = unwrap_or (option_map (λ c. c.colour) (class_of past w)) 0
+
 -- whether a live window has the class
 abbrev pub is_used : Past → ℕ → Bool
 is_used past name = list_any (λ x. x.class == name) (live past)

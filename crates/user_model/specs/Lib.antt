@@ -1,4 +1,5 @@
 pub mod Classes
+pub mod Colours
 pub mod Counts
 pub mod Deeds
 pub mod Destruction

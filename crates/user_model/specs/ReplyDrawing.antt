@@ -1,15 +1,17 @@
 -- The answers of the calls that draw.
-use Rattle.std.specs.Prelude.{ℕ, nat_lt, Bool, not, ◌&&◌, ◌||◌, ℤ, ◌-ℤ◌, List, [], ◌∷◌}
+use Rattle.std.specs.Prelude.{ℕ, suc, nat_lt, nat_le, length, Bool, not, ◌&&◌, ◌||◌, ℤ, ◌-ℤ◌, List, [], ◌∷◌}
 use Rattle.win_num.specs.declared.shapes.Point.{Point}
 use Rattle.win_num.specs.PixelSets.{Box, bounds, box, kind_of}
 use Rattle.user_model.specs.declared.entry.Setup.{Setup}
 use Rattle.user_model.specs.declared.entry.Answer.{Answer}
-use Rattle.user_model.specs.declared.entry.Answer.TheVariants.{Okay, Update, Painting}
+use Rattle.user_model.specs.declared.entry.Answer.TheVariants.{Okay, Update, Painting, Snap}
+use Rattle.win_num.specs.declared.code.Code.TheVariants.{Full}
 use Rattle.user_model.specs.Past.{Past}
 use Rattle.user_model.specs.Windows.{is_live}
 use Rattle.user_model.specs.Pixels.{origin}
 use Rattle.user_model.specs.Dirty.{dirty_pixels, must_erase}
 use Rattle.user_model.specs.Painting.{is_painting}
+use Rattle.user_model.specs.Colours.{snapped}
 use Rattle.user_model.specs.Refusals.{refuse, if_live, if_own, is_no_rect, invalid_parameter}
 
 -- a rectangle is made dirty
@@ -44,3 +46,15 @@ begin_paint_reply setup past who w = refuse (is_live past w && is_painting past 
 -- painting of an own window ends
 abbrev pub end_paint_reply : Past → ℕ → ℕ → Answer
 end_paint_reply past who w = refuse (is_live past w && not (is_painting past w)) invalid_parameter (if_own past who w Okay)
+
+-- a rectangle of an own window is painted
+abbrev pub fill_reply : Past → ℕ → ℕ → ℤ → ℤ → ℤ → ℤ → ℕ → Answer
+fill_reply past who w l t r b colour = refuse (is_no_rect l t r b || nat_lt 15 colour) invalid_parameter (if_own past who w Okay)
+
+-- an own window is painted with the colour of its class
+abbrev pub erase_reply : Past → ℕ → ℕ → Answer
+erase_reply past who w = if_own past who w Okay
+
+-- the colours of the screen are kept, where fewer than 256 frames are
+abbrev pub snap_reply : Past → Answer
+snap_reply past = refuse (nat_le 256 (length (snapped past))) Full (Snap (suc (length (snapped past))))

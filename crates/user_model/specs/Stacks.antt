@@ -6,7 +6,7 @@ use Rattle.win_num.specs.declared.send.Frame.{Frame}
 use Rattle.win_num.specs.declared.send.Frame.TheVariants.{Entered, Inside, Called, CallbackRun, Await}
 use Rattle.user_model.specs.declared.call.Call.{Call}
 use Rattle.user_model.specs.declared.entry.Answer.{Answer}
-use Rattle.user_model.specs.declared.entry.Answer.TheVariants.{Update, Painting, Enter, Inside as InsideOf, Called as CalledProc, Callback, Begun, Left, Done, Okay, Ended, Nothing, Wait as StillWaits, Stuck, Gone, Value, Window, Posted, Tell, Last, Advanced, Busy, Got, Refused}
+use Rattle.user_model.specs.declared.entry.Answer.TheVariants.{Update, Painting, Snap, Enter, Inside as InsideOf, Called as CalledProc, Callback, Begun, Left, Done, Okay, Ended, Nothing, Wait as StillWaits, Stuck, Gone, Value, Window, Posted, Tell, Last, Advanced, Busy, Got, Refused}
 use Rattle.user_model.specs.Past.{Past, is_refused, first}
 use Rattle.user_model.specs.Deeds.{SendParts, parts_of, Deed, leaving, deed}
 
@@ -59,6 +59,7 @@ stacked call (Advanced time) frames = frames
 stacked call (Busy t) frames = frames
 stacked call (Update kind l t r b) frames = frames
 stacked call (Painting erases l t r b) frames = frames
+stacked call (Snap k) frames = frames
 stacked call (Got origin number msg) frames = frames
 stacked call (Refused code) frames = frames
 

@@ -95,6 +95,14 @@ pub enum Call {
     BeginPaint(u64),
     /// Ends what BeginPaint has begun (Microsoft, EndPaint function).
     EndPaint(u64),
+    /// Paints the pixels of a rectangle that the window owns, and while it is being painted of those alone that were dirty then:
+    /// the window, the left, top, right and bottom edge in pixels from its own left top corner, and the colour, 0 to 15
+    /// (Microsoft, FillRect function).
+    Fill(u64, i64, i64, i64, i64, u64),
+    /// Paints all of a window in the same way with the colour of its class (Microsoft, WM_ERASEBKGND message).
+    Erase(u64),
+    /// Keeps the colours of the screen as a frame.
+    Snap,
     /// Ends the thread that makes it, and drops its windows.
     EndThread,
     /// The virtual clock (Microsoft, GetTickCount64 function).

@@ -94,6 +94,8 @@ pub enum Answer {
         r: i32,
         b: i32,
     },
+    /// The colours of the screen were kept as the frame of this number; frames are counted from 1.
+    Snap(u32),
     /// A message was retrieved. `number` is that of the post, or 0 for another message.
     Got {
         origin: Origin,

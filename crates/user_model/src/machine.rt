@@ -1,8 +1,9 @@
 //! The machine, as the layers above it know it.
 
-ghost use Rattle.std.specs.Prelude.{◌≡◌, List, reverse, OnOk, OnErr, IfOk};
+ghost use Rattle.std.specs.Prelude.{◌≡◌, List, reverse, OnOk, OnErr, IfOk, option_copied};
 ghost use Rattle.user_model.specs.declared.entry.Entry.{Entry};
 ghost use Rattle.user_model.specs.declared.entry.Setup.{Setup};
+ghost use Rattle.user_model.specs.Colours.{frame_of};
 ghost use Rattle.user_model.specs.Counts.{send_count};
 ghost use Rattle.user_model.specs.Idle.{reply, is_barred};
 ghost use Rattle.user_model.specs.Machines.{after};
@@ -37,6 +38,11 @@ pub trait Machine {
     /// All entries so far, the oldest first.
     fn history(&self) -> &[Entry]
         ensures { result.now ≡ reverse (past self.now) };
+
+    /// The colours of the frame of a number, counted from 1, row after row, each from left to right, each 0 to 15. None comes
+    /// exactly where there is no frame of the number.
+    fn frame(&self, number: u32) -> Option<&[u8]>
+        ensures { option_copied result ≡ frame_of (setup self.now) (past self.now) number };
 
     /// How many sends came to what.
     fn send_count(&self) -> SendCount

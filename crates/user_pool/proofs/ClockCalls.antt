@@ -102,7 +102,7 @@ module _ (s : Tree) (n : ℕ) (left : List Piece) (h : Free left) where
   free_statement (If' t k a) v = either (holds t v) _ _ h h
   free_statement (While' t k a) v = either (holds t v) _ _ h h
   free_statement (CallOf ask) v = (free_call ask v, h)
-  free_statement DefaultOf v = default_either (λ qs. FreeStep left (Becomes qs (Going v))) v.parameters (Settle (Doom v.parameters.hwnd) ∷ []) (λ e. (refl, h)) (λ e. (refl, h)) (λ e d. h)
+  free_statement DefaultOf v = default_either (λ qs. FreeStep left (Becomes qs (Going v))) v.parameters (Settle (Doom v.parameters.hwnd) ∷ []) (λ e. (refl, h)) (λ e. (refl, h)) (λ e. (refl, h)) (λ e d f. h)
   free_statement (Let x e) v = h
   free_statement (Compute x e op f) v = h
   free_statement (IfElse' t k a j b) v = h
@@ -127,7 +127,7 @@ module _ (s : Tree) (n : ℕ) (left : List Piece) (h : Free left) where
   free_begins (PassEnd loop began) v k = either (n == began) _ _ (refl, h) h
   free_begins (Making call) v k = k
   free_begins (Running run) v k = h
-  free_begins (Leaving run) v k = either (is_callback run.frame) _ _ h (default_either (λ qs. FreeStep left (Becomes qs (Going v))) run.parameters (Left (default_result run.parameters) ∷ Leaving run ∷ []) (λ e. (refl, h)) (λ e. (refl, h)) (λ e d. h))
+  free_begins (Leaving run) v k = either (is_callback run.frame) _ _ h (default_either (λ qs. FreeStep left (Becomes qs (Going v))) run.parameters (Left (default_result run.parameters) ∷ Leaving run ∷ []) (λ e. (refl, h)) (λ e. (refl, h)) (λ e. (refl, h)) (λ e d f. h))
   free_begins (Leaves frame x) v k = (refl, h)
   free_begins p v k = h
 

@@ -17,14 +17,14 @@ use Rattle.script_tree.specs.declared.frame.Lead.{Lead}
 use Rattle.script_tree.specs.declared.frame.Lead.TheVariants.{Calls, Runs, Ends}
 use Rattle.script_tree.specs.declared.variables.Parameters.{Parameters}
 use Rattle.script_tree.specs.declared.variables.Variables.{Variables}
-use Rattle.script_tree.specs.Compounds.{destruction, cleaning, default_begin, default_result, compound_after}
+use Rattle.script_tree.specs.Compounds.{destruction, cleaning, erasing, default_begin, default_result, compound_after}
 use Rattle.script_tree.specs.Values.{settled, received, inside_of}
 use Rattle.script_tree.specs.Tree.{Tree}
 use Rattle.script_tree.specs.Pieces.{Piece, Making, Again, Giving, Settle, Running, Leaving, Leaves, Left, Restore, Feed, State, Going, Returning, Given, Becomes}
 use Rattle.script_tree.specs.Steps.{step, follows, following, answered, after_answer, given, result_of, is_last, goes_on, begun_over, default_over, default_pieces, run_of, parameters_from, parameters_of}
 use Rattle.win_calls.specs.declared.compound.Compound.{Compound}
 use Rattle.win_calls.specs.declared.compound.Compound.TheVariants.{Create, Destroy, Default as DefaultOf}
-use Rattle.script_tree.specs.declared.messages.TheConstants.{WM_PAINT, WM_CLOSE}
+use Rattle.script_tree.specs.declared.messages.TheConstants.{WM_PAINT, WM_ERASEBKGND, WM_CLOSE}
 use Rattle.win_calls.specs.declared.compound.Got.{Got}
 use Rattle.win_calls.specs.declared.compound.Got.TheVariants.{Start, Answered, Returned}
 use Rattle.win_calls.specs.declared.compound.Next.{Next}
@@ -38,7 +38,7 @@ use Rattle.win_calls.specs.declared.stage.Stage.{Stage}
 use Rattle.win_calls.specs.declared.stage.Stage.TheVariants.{Asked, Running as RunningStage, Leaving as LeavingStage, Over}
 use Rattle.win_calls.specs.declared.stage.Step.{Step}
 use Rattle.win_calls.specs.Table.{silent, calls, runs, over, IsNoRun, runs_first, asked_of, begun, first_call}
-use Rattle.win_calls.specs.States.{Suits, IsTurn, IsSentTo, IsPlaceOf, IsOuter, IsInside, within, first_turn, EntersNot, Awaits, Accepts, IsRun, told, around_pieces, behind, then_piece, then_of, Hands, first, more, Below, is_first, is_later, is_asked, is_running, is_leaving, is_over, Leads}
+use Rattle.win_calls.specs.States.{Suits, IsTurn, IsSentTo, IsPlaceOf, IsOuter, IsInside, within, outer_in, first_turn, EntersNot, Awaits, Accepts, IsRun, told, around_pieces, behind, then_piece, then_of, Hands, first, more, Below, is_first, is_later, is_asked, is_running, is_leaving, is_over, Leads}
 
 -- one compound more may be around
 abbrev pub HasRoom : Around → Type 0
@@ -200,21 +200,28 @@ inside_pieces q (One a) ps h = refl
 inside_pieces q (Two a b) ps h = absurd h
 
 -- the compound around goes on
-pub hands_to_one : (turn : Turn) (q : Place) → IsTurn turn → turn.around ≡ One q → IsTurn (record turn { place = q; around = Nobody })
+hands_to_one : (turn : Turn) (q : Place) → IsTurn turn → turn.around ≡ One q → IsTurn (record turn { place = q; around = Nobody })
 hands_to_one turn q h e =
     let i : IsInside turn.place (One q) = subst (λ x. IsInside turn.place x) e h.inside in
     plain h.sent (outer_place q turn.window i.1) h.stays h.goes_on (outer_alone q i.1)
 
-pub hands_to_two : (turn : Turn) (q a : Place) → IsTurn turn → turn.around ≡ Two q a → IsTurn (record turn { place = q; around = One a })
+hands_to_two : (turn : Turn) (q a : Place) → IsTurn turn → turn.around ≡ Two q a → IsTurn (record turn { place = q; around = One a })
 hands_to_two turn q a h e =
     let i : IsInside turn.place (Two q a) = subst (λ x. IsInside turn.place x) e h.inside in
     plain h.sent (outer_place q turn.window i.1) h.stays h.goes_on (outer_inside q a i.1 i.2)
 
--- the default procedure has a destruction inside of it, the call that makes a window clean, or nothing
-default_begins : (P : Begin → Type 0) (b c : Bool) (w : ℕ) (begin : Begin) → Some begin ≡ (if b then Some (destruction w) else if c then Some (cleaning w) else None) → P (destruction w) → P (cleaning w) → P begin
-default_begins P true c w begin e f g = let same : begin ≡ destruction w = cc in subst P (sym same) f
-default_begins P false true w begin e f g = let same : begin ≡ cleaning w = cc in subst P (sym same) g
-default_begins P false false w begin e f g = absurd cc
+-- and so it does by the turn outside
+pub hands_out : (turn o : Turn) (x : Around) → turn.around ≡ x → outer_in turn x ≡ Some o → IsTurn turn → IsTurn o
+hands_out turn o Nobody e f h = absurd (cc f)
+hands_out turn o (One q) e f h = let same : record turn { place = q; around = Nobody } ≡ o = cc f in subst IsTurn same (hands_to_one turn q h e)
+hands_out turn o (Two q a) e f h = let same : record turn { place = q; around = One a } ≡ o = cc f in subst IsTurn same (hands_to_two turn q a h e)
+
+-- the default procedure has a destruction inside of it, the call that makes a window clean or paints it, or nothing
+default_begins : (P : Begin → Type 0) (b c d : Bool) (w : ℕ) (begin : Begin) → Some begin ≡ (if b then Some (destruction w) else if c then Some (cleaning w) else if d then Some (erasing w) else None) → P (destruction w) → P (cleaning w) → P (erasing w) → P begin
+default_begins P true c d w begin e f g h = let same : begin ≡ destruction w = cc in subst P (sym same) f
+default_begins P false true d w begin e f g h = let same : begin ≡ cleaning w = cc in subst P (sym same) g
+default_begins P false false true w begin e f g h = let same : begin ≡ erasing w = cc in subst P (sym same) h
+default_begins P false false false w begin e f g h = absurd cc
 
 first_suits : (c : Compound) (window : Hwnd) (q : Place) (around : Around) → IsPlaceOf window q → IsInside q around → Suits window (first_call c) q around
 first_suits (Create class title parent style extended left top right bottom) window q around h i = plain tt h refl refl i
@@ -268,9 +275,17 @@ module _ (s : Tree) (n : ℕ) where
   feed_ends turn a b x v stage next e l =
       before (Feed turn.place) (around_pieces turn.around (Settle turn.statement ∷ [])) [] (Given v a x) (Given v b 0) stage next tt (ap (goes_on v) (sym e)) l
 
-  -- the same around those that are equal
-  pub around_same : (turn : Turn) (around : Around) (st : State) (stage : Stage) (next : Next) → turn.around ≡ around → Leads s n (around_pieces around (Settle turn.statement ∷ [])) st stage next → Leads s n (around_pieces turn.around (Settle turn.statement ∷ [])) st stage next
-  around_same turn around st stage next e l = subst (λ x. Leads s n (around_pieces x (Settle turn.statement ∷ [])) st stage next) (sym e) l
+  -- the pieces around a call are those behind the turn outside of it
+  pub outer_leads : (turn o : Turn) (x : Around) (st : State) (stage : Stage) (next : Next) → outer_in turn x ≡ Some o → Leads s n (behind o) st stage next → Leads s n (around_pieces x (Settle turn.statement ∷ [])) st stage next
+  outer_leads turn o Nobody st stage next f l = absurd (cc f)
+  outer_leads turn o (One q) st stage next f l = let same : record turn { place = q; around = Nobody } ≡ o = cc f in subst (λ (t : Turn). Leads s n (behind t) st stage next) (sym same) l
+  outer_leads turn o (Two q a) st stage next f l = let same : record turn { place = q; around = One a } ≡ o = cc f in subst (λ (t : Turn). Leads s n (behind t) st stage next) (sym same) l
+
+  -- nothing is around a call that none is around
+  pub alone_around : (turn : Turn) (x : Around) (st : State) (stage : Stage) (next : Next) → outer_in turn x ≡ None → Leads s n (Settle turn.statement ∷ []) st stage next → Leads s n (around_pieces x (Settle turn.statement ∷ [])) st stage next
+  alone_around turn Nobody st stage next f l = l
+  alone_around turn (One q) st stage next f l = absurd (cc f)
+  alone_around turn (Two q a) st stage next f l = absurd (cc f)
 
   -- what hands a result on leads where that result leads
   pub hands_lead : {x : ℕ} {rest qs : List Piece} {stage : Stage} {next : Next} → Hands x rest qs → ((w : Variables) → Leads s n rest (Returning w x) stage next) → (v : Variables) (a : Answer) (y : ℕ) → Leads s n qs (Given v a y) stage next
@@ -406,7 +421,7 @@ module _ (s : Tree) (n : ℕ) where
   pub default_leads : (c : Compound) (p : Parameters) (b : Begin) (x : ℕ) (call : Call) (r : Step) (v : Variables) → begun c ≡ default_pieces p (Settle call ∷ []) → Some b ≡ default_begin p → x ≡ default_result p → r ≡ record { stage = Asked (first_turn b (One (Defaulting x)) call); next = Make b.call } → Leads s n (begun c) (Going v) r.stage r.next
   default_leads c p b x call r v e f g k =
       let turn = first_turn b (One (Defaulting x)) call in
-      let suits : IsTurn turn = default_begins (λ y. IsTurn (first_turn y (One (Defaulting x)) call)) (p.number == WM_CLOSE) (p.number == WM_PAINT) p.hwnd b f (plain tt tt refl refl (omega arith, tt)) (plain tt tt refl refl (omega arith, tt)) in
+      let suits : IsTurn turn = default_begins (λ y. IsTurn (first_turn y (One (Defaulting x)) call)) (p.number == WM_CLOSE) (p.number == WM_PAINT) (p.number == WM_ERASEBKGND) p.hwnd b f (plain tt tt refl refl (omega arith, tt)) (plain tt tt refl refl (omega arith, tt)) (plain tt tt refl refl (omega arith, tt)) in
       let pieces : begun c ≡ Making b.call ∷ behind turn = e ∙ ap (λ y. default_over y (default_result p) (Settle call ∷ [])) (sym f) ∙ ap (λ y. default_over (Some b) y (Settle call ∷ [])) (sym g) in
       carry (begun c) (Going v) (Asked turn) (Make b.call) r k (subst (λ ps. Leads s n ps (Going v) (Asked turn) (Make b.call)) (sym pieces) (asks_leads turn v suits))
 

@@ -113,6 +113,15 @@ pub record Suits (window : Hwnd) (call : Call) (place : Place) (around : Around)
   pub goes_on : is_last call ≡ false
   pub inside : IsInside place around
 
+-- the same turn at the place of the compound around it, where one is around
+abbrev pub outer_in : Turn → Around → Option Turn
+outer_in turn Nobody = None
+outer_in turn (One a) = Some (record turn { place = a; around = Nobody })
+outer_in turn (Two a b) = Some (record turn { place = a; around = One b })
+
+abbrev pub outer : Turn → Option Turn
+outer turn = outer_in turn turn.around
+
 -- a call that a compound makes itself
 abbrev pub IsTurn : Turn → Type 0
 IsTurn turn = Suits turn.window turn.call turn.place turn.around

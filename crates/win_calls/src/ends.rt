@@ -6,7 +6,7 @@ ghost use Rattle.script_tree.specs.Pieces.{Settle, Going, Given};
 ghost use Rattle.script_tree.specs.declared.variables.Variables.{Variables};
 ghost use Rattle.win_calls.specs.declared.compound.Got.{Got};
 ghost use Rattle.win_calls.specs.Table.{begun, first_call as call_of};
-ghost use Rattle.win_calls.specs.States.{IsTurn, Accepts, Awaits, Leads, behind, first_turn, within as within_of, told as told_by, named as named_by};
+ghost use Rattle.win_calls.specs.States.{IsTurn, Accepts, Awaits, Leads, behind, first_turn, within as within_of, told as told_by, named as named_by, outer as outer_of};
 
 use crate::compound::{Compound, Next};
 use crate::stage::{Around, Stage, Step, Turn};
@@ -81,6 +81,22 @@ fn within(place: Place, around: Around) -> Around
     }
 }
 
+/// The same turn at the place of the compound around it. None comes exactly where none is around.
+fn outer(turn: Turn) -> Option<Turn>
+    ensures { result ≡ outer_of turn }
+{
+    let (place, around) = match turn.around {
+        Around::Nobody => return None,
+        Around::One(place) => (place, Around::Nobody),
+        Around::Two(place, outer) => (place, Around::One(outer)),
+    };
+    Some(Turn {
+        place,
+        around,
+        ..turn
+    })
+}
+
 /// Its call has this answer, with this result of the procedure that ran for it. Where a compound ends
 /// inside of another, that one goes on with the answer.
 pub fn gives(turn: Turn, answer: Answer, value: u64) -> Step
@@ -102,32 +118,9 @@ pub fn gives(turn: Turn, answer: Answer, value: u64) -> Step
             window,
             ..turn
         }),
-        Lead::Ends(last) => match turn.around {
-            Around::Nobody => ended(turn.statement, last),
-            Around::One(place) => {
-                let around = Around::Nobody;
-                gives(
-                    Turn {
-                        place,
-                        around,
-                        ..turn
-                    },
-                    last,
-                    0,
-                )
-            }
-            Around::Two(place, outer) => {
-                let around = Around::One(outer);
-                gives(
-                    Turn {
-                        place,
-                        around,
-                        ..turn
-                    },
-                    last,
-                    0,
-                )
-            }
+        Lead::Ends(last) => match outer(turn) {
+            None => ended(turn.statement, last),
+            Some(outer) => gives(outer, last, 0),
         },
     }
 }

@@ -156,8 +156,7 @@ fn destroys_a_window_with_a_child(rt: HostRuntime) -> Result<(), Fail> {
     Ok(())
 }
 
-/// A window that is destroyed, one that is gone, and one that goes to another thread meanwhile; and one
-/// that is to paint.
+/// A window that is destroyed, one that is gone, and one that goes to another thread meanwhile.
 #[test]
 fn closes_by_default(rt: HostRuntime) -> Result<(), Fail> {
     let wanted = [
@@ -187,6 +186,13 @@ fn closes_by_default(rt: HostRuntime) -> Result<(), Fail> {
         make(Call::Doom(16)),
         &wanted,
     );
+    Ok(())
+}
+
+/// A window that is to paint, one whose background is to be painted, and each where it is another
+/// thread's or gone; and messages that the default procedure makes no call for.
+#[test]
+fn paints_by_default(rt: HostRuntime) -> Result<(), Fail> {
     asks(
         &rt,
         Compound::Default(16, 15, 0, 0),
@@ -198,6 +204,18 @@ fn closes_by_default(rt: HostRuntime) -> Result<(), Fail> {
         Compound::Default(16, 15, 0, 0),
         make(Call::Validate(16, 0, 0, 4096, 4096)),
         &[(refused(1400), done(0, 1400))],
+    );
+    asks(
+        &rt,
+        Compound::Default(16, 20, 0, 0),
+        make(Call::Erase(16)),
+        &[(answered(Answer::Okay), done(1, 0))],
+    );
+    asks(
+        &rt,
+        Compound::Default(16, 20, 0, 0),
+        make(Call::Erase(16)),
+        &[(refused(5), done(0, 5))],
     );
     asks(&rt, Compound::Default(16, 129, 0, 0), done(1, 0), &[]);
     asks(&rt, Compound::Default(16, 1024, 0, 0), done(0, 0), &[]);

@@ -46,7 +46,7 @@ pub record IsClose (far : ℕ) (p : Point) : Type 0 where
   pub above : (pos 0 -ℤ pos far) ≤ℤ p.y
   pub below : p.y ≤ℤ pos far
 
-at_zero : (far : ℕ) → IsClose far (point (pos 0) (pos 0))
+pub at_zero : (far : ℕ) → IsClose far (point (pos 0) (pos 0))
 at_zero far = record { left = omega (arith, ints); right = omega (arith, ints); above = omega (arith, ints); below = omega (arith, ints) }
 
 -- one window further
@@ -189,7 +189,7 @@ is_origin t w p across down setup past lawful at lives =
 
 -- ---- windows that moved
 
-numbers_rise : (from last : ℕ) (ws : List KeptWindow) → IsOrdered from last ws → RisesBy (λ v. v.0) from (map number_of ws)
+pub numbers_rise : (from last : ℕ) (ws : List KeptWindow) → IsOrdered from last ws → RisesBy (λ v. v.0) from (map number_of ws)
 numbers_rise from last [] h = tt
 numbers_rise from last (x ∷ ws) h = (h.0, numbers_rise x.number.0 last ws h.2)
 

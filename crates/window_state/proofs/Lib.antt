@@ -1,4 +1,5 @@
 pub mod BoxLaws
+pub mod BoxLists
 pub mod Bridges
 pub mod ClassLaws
 pub mod ClassSteps

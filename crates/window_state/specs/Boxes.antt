@@ -1,5 +1,5 @@
 -- Corners and rectangles of windows on the screen, as the table of windows has them.
-use Rattle.std.specs.Prelude.{◌≡◌, ℕ, zero, suc, ◌==◌, Bool, true, not, pos, List, ◌∷◌, map, Some, None}
+use Rattle.std.specs.Prelude.{◌≡◌, ◌<◌, ◌≤◌, ℕ, zero, suc, ◌==◌, Bool, true, not, pos, List, [], ◌∷◌, map, length, slice_index_or, Some, None}
 use Rattle.std.specs.List.{filter, list_any}
 use Rattle.win_num.specs.declared.message.Hwnd.{Hwnd}
 use Rattle.win_num.specs.declared.shapes.Point.{Point}
@@ -14,7 +14,9 @@ use Rattle.user_model.specs.Legal.{IsLawful}
 use Rattle.user_model.specs.Past.{Past}
 use Rattle.user_model.specs.Pixels.{point, corner_from, shifted, origin}
 use Rattle.user_model.specs.Windows.{is_live}
+use Rattle.window_state.specs.Placings.{box_of}
 use Rattle.window_state.specs.Trees.{IsTreeAt}
+use Rattle.window_state.specs.declared.looks.Edges.{Edges}
 
 -- w's left top corner on the screen, after so many steps up; 0 0 where no window has the number
 abbrev pub origin_from : ℕ → List Window → ℕ → Point
@@ -36,6 +38,20 @@ moved_in old new w = not (same_box (box_on new w) (box_on old w))
 -- the windows of the second list whose rectangle on the screen is another there
 abbrev pub moved_of : List Window → List Window → List Hwnd
 moved_of old new = filter (λ w. moved_in old new w.0) (map number_of new)
+
+-- the rectangles are those on the screen of the first of some windows of the table, in order
+abbrev pub AreBoxes : List Window → List Window → List Edges → Type 0
+AreBoxes ws us [] = Unit {0}
+AreBoxes ws [] (e ∷ es) = ⊥
+AreBoxes ws (x ∷ us) (e ∷ es) = (box_of e ≡ box_on ws x.number.0) × AreBoxes ws us es
+
+-- they are those of all windows of the table
+abbrev pub HasBoxes : List Window → List Edges → Type 0
+HasBoxes ws es = (length es ≡ length ws) × AreBoxes ws ws es
+
+-- each window from this place on has a greater number than w
+abbrev pub IsBefore : List Window → ℕ → ℕ → Type 0
+IsBefore ws n w = (k : ℕ) (d : Window) → n ≤ k → k < length ws → w < (slice_index_or ws k d).number.0
 
 -- the point is w's left top corner on the screen, where w is live and a past has made the table
 abbrev pub IsOriginAt : Windows → ℕ → Point → Type 0

@@ -1,12 +1,14 @@
 //! Where windows are on the screen, and which of them an entry moves.
 
-ghost use Rattle.std.specs.Prelude.{◌≡◌, ◌*◌, ◌-ℤ◌, ◌≤ℤ◌, ℤ, pos, negsuc, IfOk};
+ghost use Rattle.std.specs.Prelude.{◌≡◌, ◌<◌, ◌*◌, ◌-ℤ◌, ◌≤ℤ◌, ℕ, ℤ, pos, negsuc, length, None, IfOk, MatchOption};
 ghost use Rattle.std.specs.List.Sorted.{IsNonDecreasingBy};
 ghost use Rattle.win_num.specs.PixelSets.{same_box};
 ghost use Rattle.win_num.specs.Rects.{box_in};
 ghost use Rattle.user_model.specs.Pixels.{point, shifted};
 ghost use Rattle.window_state.specs.Placings.{box_of};
-ghost use Rattle.window_state.specs.Boxes.{origin_from, box_on, moved_in, moved_of, IsOriginAt, AreMoved};
+ghost use Rattle.win_rows.specs.Index.{IsPlace};
+ghost use Rattle.win_rows.specs.Windows.{IsOrdered, window_of};
+ghost use Rattle.window_state.specs.Boxes.{origin_from, origin_in, box_on, moved_in, moved_of, IsOriginAt, AreMoved, AreBoxes, HasBoxes, IsBefore};
 
 use crate::looks::Edges;
 use std::alloc::{AllocError, Global};
@@ -82,15 +84,27 @@ fn shifted(corner: Corner, place: Rect) -> Edges
     }
 }
 
-/// A window's rectangle on the screen, or 0 0 0 0 where no live window has the number.
-fn edges_on_screen(tree: &Tree, w: Hwnd) -> Edges
+/// The place of a window in the table. None comes exactly where it isn't live.
+fn place_of(tree: &Tree, w: Hwnd) -> Option<usize>
+    ensures { MatchOption result (window_of tree.now.live w.0 ≡ None) (IsPlace tree.now.live w.0) }
+{
+    let numbers = tree.windows();
+    let i = numbers.partition_point(|v| *v < w);
+    if i < numbers.len() && numbers[i] == w {
+        Some(i)
+    } else {
+        None
+    }
+}
+
+/// A window's rectangle on the screen, found among those of the first windows, or 0 0 0 0 where no live window has the number.
+fn known_box(tree: &Tree, boxes: &[Edges], w: Hwnd) -> Edges
+    requires boxes { AreBoxes tree.now.live tree.now.live boxes.now }
+    requires before { IsBefore tree.now.live (length boxes.now) w.0 }
     ensures { box_of result ≡ box_on tree.now.live w.0 }
 {
-    match tree.row(w) {
-        Some(row) => {
-            let corner = corner_within(tree, row.parent, row.parent.0);
-            shifted(corner, row.place)
-        }
+    match place_of(tree, w) {
+        Some(i) => boxes[i],
         None => Edges {
             l: 0,
             t: 0,
@@ -100,6 +114,58 @@ fn edges_on_screen(tree: &Tree, w: Hwnd) -> Edges
     }
 }
 
+/// The left top corner of the same rectangle.
+fn known_corner(tree: &Tree, boxes: &[Edges], w: Hwnd) -> Corner
+    requires ordered { (last : ℕ) × IsOrdered 15 last tree.now.live }
+    requires boxes { AreBoxes tree.now.live tree.now.live boxes.now }
+    requires before { IsBefore tree.now.live (length boxes.now) w.0 }
+    ensures corner { point result.x result.y ≡ origin_in tree.now.live w.0 }
+    ensures left { negsuc 36028797018963967 ≤ℤ result.x }
+    ensures right { result.x ≤ℤ pos 36028797018963968 }
+    ensures above { negsuc 36028797018963967 ≤ℤ result.y }
+    ensures below { result.y ≤ℤ pos 36028797018963968 }
+{
+    if w.0 == 0 {
+        return Corner { x: 0, y: 0 };
+    }
+    let place = known_box(tree, boxes, w);
+    Corner {
+        x: place.l,
+        y: place.t,
+    }
+}
+
+/// The rectangle on the screen of the window after those whose rectangles were found: its parent is one of these.
+fn next_box(tree: &Tree, boxes: &[Edges], w: Hwnd) -> Edges
+    requires ordered { (last : ℕ) × IsOrdered 15 last tree.now.live }
+    requires boxes { AreBoxes tree.now.live tree.now.live boxes.now }
+    requires before { (v : ℕ) → v < w.0 → IsBefore tree.now.live (length boxes.now) v }
+    ensures { box_of result ≡ box_on tree.now.live w.0 }
+{
+    match tree.row(w) {
+        Some(row) => shifted(known_corner(tree, boxes, row.parent), row.place),
+        None => Edges {
+            l: 0,
+            t: 0,
+            r: 0,
+            b: 0,
+        },
+    }
+}
+
+/// The rectangles on the screen of all windows, by rising number.
+fn boxes_of(alloc: Global, tree: &Tree) -> Result<Vec<Edges>, AllocError>
+    ensures { IfOk result (λ v. HasBoxes tree.now.live v.items) }
+{
+    let windows = tree.windows();
+    let mut boxes = Vec::new(alloc);
+    for k in 0..windows.len() {
+        let place = next_box(tree, &boxes, windows[k]);
+        boxes.push(place)?;
+    }
+    Ok(boxes)
+}
+
 /// Whether two rectangles have the same edges.
 fn has_same_edges(a: Edges, b: Edges) -> bool
     ensures { result ≡ same_box (box_of a) (box_of b) }
@@ -107,11 +173,13 @@ fn has_same_edges(a: Edges, b: Edges) -> bool
     a.l == b.l && a.t == b.t && a.r == b.r && a.b == b.b
 }
 
-/// Whether a window's rectangle on the screen is another in the second table.
-fn has_moved(old: &Tree, new: &Tree, w: Hwnd) -> bool
+/// Whether a window's rectangle on the screen is another in the second table, where these are those of each.
+fn has_moved(old: &Tree, before: &[Edges], new: &Tree, after: &[Edges], w: Hwnd) -> bool
+    requires before { HasBoxes old.now.live before.now }
+    requires after { HasBoxes new.now.live after.now }
     ensures { result ≡ moved_in old.now.live new.now.live w.0 }
 {
-    !has_same_edges(edges_on_screen(new, w), edges_on_screen(old, w))
+    !has_same_edges(known_box(new, after, w), known_box(old, before, w))
 }
 
 /// The windows of the second table whose rectangle on the screen is another there, by rising number. Want of
@@ -121,7 +189,14 @@ pub fn moved_windows(alloc: Global, old: &Tree, new: &Tree) -> Result<Vec<Hwnd>,
     ensures sorted { IfOk result (λ v. IsNonDecreasingBy (λ h. h.0) v.items) }
     ensures moved { IfOk result (λ v. AreMoved old.now new.now v.items) }
 {
-    let mut moved = Vec::from_slice(alloc, new.windows())?;
-    moved.retain(|w| has_moved(old, new, *w));
+    let before = boxes_of(alloc, old)?;
+    let after = boxes_of(alloc, new)?;
+    let windows = new.windows();
+    let mut moved = Vec::new(alloc);
+    for k in 0..windows.len() {
+        if has_moved(old, &before, new, &after, windows[k]) {
+            moved.push(windows[k])?;
+        }
+    }
     Ok(moved)
 }

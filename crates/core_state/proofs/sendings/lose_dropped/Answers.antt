@@ -1,7 +1,7 @@
 use Rattle.std.proofs.Common.{ℕ, sym, subst}
 use Rattle.user_model.specs.declared.call.Call.{Call}
 use Rattle.user_model.specs.declared.call.Call.TheVariants.{Drop}
-use Rattle.core_state.specs.Deliveries.{goes_with}
+use Rattle.thread_queues.specs.Deliveries.{goes_with}
 use Rattle.core_state.specs.Sendings.{FitsDropped, FitsLosing, dropped_losses}
 use Rattle.send_state.specs.Stories.{EachStory, noted_loss}
 use Rattle.core_state.proofs.sendings.lose_dropped.Goals as goal

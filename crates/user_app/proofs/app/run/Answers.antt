@@ -1,4 +1,5 @@
-use Rattle.std.proofs.Common.{◌≡◌}
+use Rattle.std.proofs.Common.{◌≡◌, sym, subst}
+use Rattle.user_model.specs.Legal.{IsLawful}
 use Rattle.user_app.proofs.RunEnds.{log_told, whole_told}
 use Rattle.user_app.proofs.app.run.Goals as goal
 
@@ -11,3 +12,6 @@ returns-clause-written g c =
 
 pub returns-clause-whole : goal.returns-clause-whole
 returns-clause-whole g c = λ whole. whole_told c.write_history-outcome.result c.in-Ok-run_listed.end c.written_status.result (g.K.Sink.faults c.write_history-outcome.new.sink ≡ g.K.Sink.faults c.args.sink.now) c.written_status.ensures whole c.write_history-outcome.ensures.unfailed
+
+pub write_history-outcome-requires-clause-lawful : goal.write_history-outcome-requires-clause-lawful
+write_history-outcome-requires-clause-lawful g c = subst (λ x. IsLawful x c.in-Ok-run_listed.user.past) (sym c.in-Ok-run_listed.ensures.setup) c.in-Ok-run_listed.ensures.lawful

@@ -1,6 +1,5 @@
-use Rattle.std.proofs.Common.{◌≡◌, ◌∙◌, ℕ, List, sym, ap, cond, map, subst}
+use Rattle.std.proofs.Common.{◌≡◌, ◌∙◌, List, sym, ap, cond, map, subst}
 use Rattle.win_num.specs.declared.message.Hwnd.{Hwnd}
-use Rattle.win_order.specs.declared.top_level.TopLevel.{TopLevel}
 use Rattle.win_order.specs.Kept.{age_in, is_child, times, top_levels as tops}
 use Rattle.win_order.specs.Layers.{Layers, siblings_of}
 use Rattle.win_order.specs.Mended.{AreOwned, IsMended}
@@ -8,7 +7,7 @@ use Rattle.win_order.specs.Standing.{Standing}
 use Rattle.win_order.specs.Standings.{top_level}
 use Rattle.win_order.proofs.KeptLaws.{kept_owned}
 use Rattle.user_model.specs.Past.{Past}
-use Rattle.user_model.specs.ZOrder.{siblings, standings}
+use Rattle.user_model.specs.ZOrder.{standings}
 use Rattle.window_state.specs.Orders.{IsOrderAt}
 use Rattle.window_state.proofs.OrderSteps.{order_of}
 use Rattle.user_laws.specs.Ranks.{top_levels}

@@ -7,9 +7,9 @@ use Rattle.user_model.proofs.ClockLaws.{past_more}
 use Rattle.core_state.specs.States.{Parts, Seen, Stands, parts}
 use Rattle.send_state.specs.Stories.{EachStory, noted_answer, with_begun}
 use Rattle.send_state.specs.Tallies.{first_cause, first_of}
-use Rattle.screen_state.specs.Screens.{IsScreenAt}
+use Rattle.display_state.specs.Displays.{IsDisplayAt}
 use Rattle.core_state.proofs.Appended.{growth_fits, leaving_fits, ranking_fits, sends_grow, sends_settle, settling_fits, stands_step, tally_step}
-use Rattle.core_state.proofs.ScreenSteps.{screen_step}
+use Rattle.core_state.proofs.DisplaySteps.{display_step}
 use Rattle.core_state.proofs.SendCounts.{naming_fits}
 use Rattle.core_state.proofs.state.CoreState.append.Goals as goal
 
@@ -31,7 +31,7 @@ add_item-requires-clause-parts c =
     let e = c.args.entry in
     let s = c.self.inside in
     let past : Past = reverse s.history.items in
-    let kept : Parts = parts s.tree s.order s.screen s.classes s.threads.items s.post_count s.time s.sends s.tally s.stories.items in
+    let kept : Parts = parts s.tree s.order s.display s.classes s.threads.items s.post_count s.time s.sends s.tally s.stories.items in
     let right : e.answer ≡ reply s.setup past e.who.0 e.call = subst (λ (v : Seen). e.answer ≡ reply v.setup v.past e.who.0 e.call) (sym c.self.view_is) c.requires.answer in
     let at : c.cursor.result ≡ cursor past = subst (λ (v : Seen). c.cursor.result ≡ cursor v.past) (sym c.self.view_is) c.cursor.ensures in
     growth_fits s.setup past kept c.cursor.result e c.self.invariant at right
@@ -46,6 +46,7 @@ add_item-requires-clause-drawing c =
       past = past;
       lawful = c.self.invariant.lawful;
       tree = c.self.invariant.tree;
+      classes = c.self.invariant.classes;
       right = subst (λ (v : Seen). e.answer ≡ reply v.setup v.past e.who.0 e.call) (sym c.self.view_is) c.requires.answer;
     }
 
@@ -54,7 +55,7 @@ add_item-requires-clause-order c =
     let e = c.args.entry in
     let s = c.self.inside in
     let past : Past = reverse s.history.items in
-    let kept : Parts = parts s.tree s.order s.screen s.classes s.threads.items s.post_count s.time s.sends s.tally s.stories.items in
+    let kept : Parts = parts s.tree s.order s.display s.classes s.threads.items s.post_count s.time s.sends s.tally s.stories.items in
     let right : e.answer ≡ reply s.setup past e.who.0 e.call = subst (λ (v : Seen). e.answer ≡ reply v.setup v.past e.who.0 e.call) (sym c.self.view_is) c.requires.answer in
     ranking_fits s.setup past kept e c.self.invariant right
 
@@ -63,7 +64,7 @@ take_effect-requires-clause-order c =
     let e = c.args.entry in
     let s = c.self.inside in
     let past : Past = reverse s.history.items in
-    let kept : Parts = parts s.tree s.order s.screen s.classes s.threads.items s.post_count s.time s.sends s.tally s.stories.items in
+    let kept : Parts = parts s.tree s.order s.display s.classes s.threads.items s.post_count s.time s.sends s.tally s.stories.items in
     let right : e.answer ≡ reply s.setup past e.who.0 e.call = subst (λ (v : Seen). e.answer ≡ reply v.setup v.past e.who.0 e.call) (sym c.self.view_is) c.requires.answer in
     leaving_fits s.setup past kept e c.add_item.new.tree c.add_item.new.order c.self.invariant right c.in_ok-add_item.ensures.tree c.in_ok-add_item.ensures.order
 
@@ -72,7 +73,7 @@ add_item-requires-clause-sends c =
     let e = c.args.entry in
     let s = c.self.inside in
     let past : Past = reverse s.history.items in
-    let kept : Parts = parts s.tree s.order s.screen s.classes s.threads.items s.post_count s.time s.sends s.tally s.stories.items in
+    let kept : Parts = parts s.tree s.order s.display s.classes s.threads.items s.post_count s.time s.sends s.tally s.stories.items in
     let room : is_full past ≡ false = subst (λ (v : Seen). is_full v.past ≡ false) (sym c.self.view_is) c.requires.room in
     let right : e.answer ≡ reply s.setup past e.who.0 e.call = subst (λ (v : Seen). e.answer ≡ reply v.setup v.past e.who.0 e.call) (sym c.self.view_is) c.requires.answer in
     let long : c.len.result ≡ length s.history.items = search rules in
@@ -83,7 +84,7 @@ settle_sends-lost-requires-clause-sends c =
     let e = c.args.entry in
     let s = c.self.inside in
     let past : Past = reverse s.history.items in
-    let kept : Parts = parts s.tree s.order s.screen s.classes s.threads.items s.post_count s.time s.sends s.tally s.stories.items in
+    let kept : Parts = parts s.tree s.order s.display s.classes s.threads.items s.post_count s.time s.sends s.tally s.stories.items in
     let room : is_full past ≡ false = subst (λ (v : Seen). is_full v.past ≡ false) (sym c.self.view_is) c.requires.room in
     let right : e.answer ≡ reply s.setup past e.who.0 e.call = subst (λ (v : Seen). e.answer ≡ reply v.setup v.past e.who.0 e.call) (sym c.self.view_is) c.requires.answer in
     let long : c.len.result ≡ length s.history.items = search rules in
@@ -94,7 +95,7 @@ take_effect-requires-clause-parts c =
     let e = c.args.entry in
     let s = c.self.inside in
     let past : Past = reverse s.history.items in
-    let kept : Parts = parts s.tree s.order s.screen s.classes s.threads.items s.post_count s.time s.sends s.tally s.stories.items in
+    let kept : Parts = parts s.tree s.order s.display s.classes s.threads.items s.post_count s.time s.sends s.tally s.stories.items in
     let right : e.answer ≡ reply s.setup past e.who.0 e.call = subst (λ (v : Seen). e.answer ≡ reply v.setup v.past e.who.0 e.call) (sym c.self.view_is) c.requires.answer in
     settling_fits s.setup past kept e c.add_item.new.classes c.add_item.new.tree c.add_item.new.threads.items c.self.invariant right c.in_ok-add_item.ensures.classes c.in_ok-add_item.ensures.tree c.in_ok-add_item.ensures.threads.same_length
 
@@ -103,7 +104,7 @@ invariant_of-self-2 c =
     let e = c.args.entry in
     let s = c.self.inside in
     let past : Past = reverse s.history.items in
-    let kept : Parts = parts s.tree s.order s.screen s.classes s.threads.items s.post_count s.time s.sends s.tally s.stories.items in
+    let kept : Parts = parts s.tree s.order s.display s.classes s.threads.items s.post_count s.time s.sends s.tally s.stories.items in
     let room : is_full past ≡ false = subst (λ (v : Seen). is_full v.past ≡ false) (sym c.self.view_is) c.requires.room in
     let right : e.answer ≡ reply s.setup past e.who.0 e.call = subst (λ (v : Seen). e.answer ≡ reply v.setup v.past e.who.0 e.call) (sym c.self.view_is) c.requires.answer in
     let pushed : c.push.new.self.items ≡ s.history.items ++ e ∷ [] = search rules in
@@ -117,7 +118,7 @@ invariant_of-self-2 c =
     let begun = ap (with_begun e.answer) c.make_room.ensures.stories in
     let noted = subst (λ q. EachStory (noted_answer e.answer q c.len.result) told.between c.settle_sends-lost.new.stories.items) c.named_send-named.ensures told.after in
     let at : c.cursor.result ≡ cursor past = subst (λ (v : Seen). c.cursor.result ≡ cursor v.past) (sym c.self.view_is) c.cursor.ensures in
-    let seen : IsScreenAt s.setup (e ∷ past) c.take_over.new.self = screen_step s.setup past s.tree s.order e s.screen c.add_item.new.screen c.take_over.new.self c.in_ok-change.change c.self.invariant.lawful c.self.invariant.tree c.self.invariant.order right c.self.invariant.screen c.in_ok-change.ensures.windows c.in_ok-change.ensures.drawing grown.drawn grown.screen c.take_over.ensures in
+    let seen : IsDisplayAt s.setup (e ∷ past) c.take_over.new.self = display_step s.setup past s.tree s.order s.classes e s.display c.add_item.new.display c.take_over.new.self c.in_ok-change.change c.self.invariant.lawful c.self.invariant.tree c.self.invariant.order c.self.invariant.classes right c.self.invariant.display c.in_ok-change.ensures.windows c.in_ok-change.ensures.drawing grown.drawn grown.display c.take_over.ensures in
     let now = stands_step s.setup past kept c.cursor.result e c.add_item.new.classes c.take_effect.new.classes c.add_item.new.tree c.take_effect.new.tree c.add_item.new.order c.take_effect.new.order c.take_over.new.self c.add_item.new.threads.items c.take_effect.new.threads.items c.note_entry.new.threads.items c.add_item.new.sends c.settle_sends-lost.new.sends c.first_cause-first.result c.settle_sends-lost.result c.with-self-inside.result (with_begun e.answer c.make_room.new.stories.items) told.between c.settle_sends-lost.new.stories.items c.len.result room right c.self.invariant at grown.classes settled.classes grown.tree settled.tree grown.order settled.order seen grown.threads settled.threads c.note_entry.ensures grown.sends c.settle_sends-lost.ensures.sends here first c.settle_sends-lost.ensures.lost c.with-self-inside.ensures begun told.before noted in
     subst (λ (h : Past). Stands s.setup h (parts c.take_effect.new.tree c.take_effect.new.order c.take_over.new.self c.take_effect.new.classes c.note_entry.new.threads.items c.count_after-self-inside.result c.time_after-self-inside.result c.settle_sends-lost.new.sends c.with-self-inside.result c.settle_sends-lost.new.stories.items)) newest (search (rules, now))
 
@@ -126,7 +127,7 @@ with-self-inside-requires c =
     let e = c.args.entry in
     let s = c.self.inside in
     let past : Past = reverse s.history.items in
-    let kept : Parts = parts s.tree s.order s.screen s.classes s.threads.items s.post_count s.time s.sends s.tally s.stories.items in
+    let kept : Parts = parts s.tree s.order s.display s.classes s.threads.items s.post_count s.time s.sends s.tally s.stories.items in
     let right : e.answer ≡ reply s.setup past e.who.0 e.call = subst (λ (v : Seen). e.answer ≡ reply v.setup v.past e.who.0 e.call) (sym c.self.view_is) c.requires.answer in
     let long : c.len.result ≡ length s.history.items = search rules in
     let here : c.len.result ≡ place_after past = long ∙ sym (length-reverse s.history.items) in

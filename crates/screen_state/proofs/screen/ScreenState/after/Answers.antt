@@ -4,6 +4,7 @@ use Rattle.screen_state.specs.Screens.{Change, FollowsScreen, LeavesScreen, draw
 use Rattle.screen_state.proofs.Changed.{entered_leaves}
 use Rattle.screen_state.proofs.Followed.{entered_children, entry_fits}
 use Rattle.screen_state.proofs.Screens.{stays_follow}
+use Rattle.screen_state.proofs.Unmoved.{made_of}
 use Rattle.screen_state.proofs.screen.ScreenState.after.Goals as goal
 
 pub returns-then-stays-clause-windows : goal.returns-then-stays-clause-windows
@@ -12,8 +13,11 @@ returns-then-stays-clause-windows c quiet = stays_follow c.args.setup c.args.tre
 pub layout_after-requires : goal.layout_after-requires
 layout_after-requires c = entry_fits c.args.setup c.args.tree.now c.args.order.now c.args.entry c.requires
 
-pub changed-requires : goal.changed-requires
-changed-requires c = entered_children c.args.setup c.args.tree.now c.in_ok-layout.layout.tree c.args.order.now c.in_ok-layout.layout.order c.args.entry c.requires c.in_ok-layout.ensures
+pub changed-requires-clause-children : goal.changed-requires-clause-children
+changed-requires-clause-children c = entered_children c.args.setup c.args.tree.now c.in_ok-layout.layout.tree c.args.order.now c.in_ok-layout.layout.order c.args.entry c.requires c.in_ok-layout.ensures
+
+pub changed-requires-clause-made : goal.changed-requires-clause-made
+changed-requires-clause-made c = made_of c.args.setup c.args.tree.now c.in_ok-layout.layout.tree c.args.order.now c.in_ok-layout.layout.order c.args.entry c.requires c.in_ok-layout.ensures
 
 pub returns-clause-windows : goal.returns-clause-windows
 returns-clause-windows c =

@@ -1,6 +1,6 @@
 use Rattle.std.proofs.Common.{refl, sym, subst}
 use Rattle.screen_state.specs.Parts.{IsLiveAt}
-use Rattle.screen_state.proofs.Drawing.{begin_at, begun, end_at, finished, in_table, invalid_at, invalidated, passed_edges, valid_at, validated}
+use Rattle.screen_state.proofs.Drawing.{begin_at, begun, end_at, finished, in_table, invalid_at, invalidated, passed_edges, plain_at, valid_at, validated}
 use Rattle.screen_state.proofs.screen.ScreenState.draw.Goals as goal
 
 pub window_or_none-w-requires : goal.window_or_none-w-requires
@@ -38,3 +38,12 @@ returns-in-BeginPaint-Painting-clause-drawn c = let x = c.in-BeginPaint-Painting
 
 pub returns-in-EndPaint-Okay-clause-drawn : goal.returns-in-EndPaint-Okay-clause-drawn
 returns-in-EndPaint-Okay-clause-drawn c can = let x = c.in-EndPaint-Okay in finished c.args.tree.now c.args.entry x.w c.window_or_none-in-EndPaint-Okay.result.0 c.args.self.now c.end.new.self x.is-0 x.is-1 c.window_or_none-in-EndPaint-Okay.ensures c.end.ensures
+
+pub returns-in-Fill-Okay-clause-drawn : goal.returns-in-Fill-Okay-clause-drawn
+returns-in-Fill-Okay-clause-drawn c can = let x = c.in-Fill-Okay in plain_at c.args.tree.now c.args.entry c.args.self.now _ _ x.is-0 x.is-1 refl refl refl
+
+pub returns-in-Erase-Okay-clause-drawn : goal.returns-in-Erase-Okay-clause-drawn
+returns-in-Erase-Okay-clause-drawn c can = let x = c.in-Erase-Okay in plain_at c.args.tree.now c.args.entry c.args.self.now _ _ x.is-0 x.is-1 refl refl refl
+
+pub returns-in-Snap-Snap-clause-drawn : goal.returns-in-Snap-Snap-clause-drawn
+returns-in-Snap-Snap-clause-drawn c can = let x = c.in-Snap-Snap in plain_at c.args.tree.now c.args.entry c.args.self.now _ _ x.is-0 x.is-1 refl refl refl

@@ -1,0 +1,6 @@
+pub mod Bare
+pub mod ClassColours
+pub mod Drawn
+pub mod Followed
+pub mod Frames
+pub mod Painted

@@ -1,0 +1,4 @@
+pub mod KinLists
+pub mod Outcomes
+pub mod QueueLists
+pub mod ThreadChanges
