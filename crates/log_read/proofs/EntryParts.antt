@@ -27,7 +27,7 @@ use Rattle.log_read.specs.Limits.{IsCall, IsAnswer, IsExtra}
 use Rattle.log_read.specs.Reading.{small_at, actor_at, values_from}
 use Rattle.log_read.specs.Words.{value_word, call_words, answer_words, entry_words, extra_words}
 use Rattle.log_read.proofs.LineWords.{Words}
-use Rattle.log_read.proofs.LogParts.{same_length}
+use Rattle.log_read.proofs.ListLaws.{same_length}
 use Rattle.log_read.proofs.ValuesAgain.{small_number, actor_again, word_here, one_further, values_again}
 
 module _ (s : Tree) where

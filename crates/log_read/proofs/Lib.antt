@@ -1,8 +1,12 @@
+pub mod EntryLoops
 pub mod EntryParts
+pub mod FrameRows
 pub mod LineLoops
 pub mod LineWords
+pub mod ListLaws
 pub mod LogParts
 pub mod OneLog
+pub mod RunColours
 pub mod RunLogs
 pub mod ValueLoops
 pub mod ValuesAgain

@@ -5,7 +5,7 @@ use Rattle.std.specs.List.{AllByRecursion}
 use Rattle.std.proofs.lemmas.List.{drop_more, drop_all}
 use Rattle.script_lines.specs.LineTexts.{joined}
 use Rattle.log_read.proofs.LineWords.{Words}
-use Rattle.log_read.proofs.OneLog.{first_same, rest_same}
+use Rattle.log_read.proofs.ListLaws.{first_same, rest_same}
 
 -- what is left of the lines is that of what is left of the list
 pub record Rest {R E : Type 0} (read : R → List ℕ) (words : E → Words) (Fits : E → Type 0) (left : List R) (front all : List E) : Type 0 where
@@ -49,7 +49,3 @@ module _ {R E : Type 0} (read : R → List ℕ) (words : E → Words) (Fits : E 
 
   pub at_end : (texts : List R) (i : ℕ) (front all : List E) → length texts ≤ i → Rest read words Fits (drop i texts) front all → front ≡ all
   at_end texts i front all le r = none_left front all r.rest r.is (sym (ap (map read) (drop_all i texts le)) ∙ r.lines)
-
-pub all_push : {A : Type 0} (P : A → Type 0) (xs : List A) (y : A) → AllByRecursion P xs → P y → AllByRecursion P (xs ++ y ∷ [])
-all_push P [] y h p = (p, tt)
-all_push P (x ∷ xs) y h p = (h.0, all_push P xs y h.1 p)

@@ -1,10 +1,11 @@
 -- The text of a log is that of its lines of words, and falls apart into them.
 use Rattle.std.proofs.Common.{◌≡◌, ℕ, zero, suc, ◌^◌, ◌<◌, true, false, List, [], ◌∷◌, ◌++◌, length, Option, Some, None, refl, ap, sym, ◌∙◌, append_assoc, append-nil, arith}
-use Rattle.std.specs.Prelude.{ℤ, pos, negsuc, codes, decimal, unwrap_or, map, slice_get, option_map, FitsSigned}
+use Rattle.std.specs.Prelude.{ℤ, pos, negsuc, codes, decimal, unwrap_or, map, slice_get, option_map, nat_lt, FitsSigned}
 use Rattle.std.specs.Fmt.{signed_decimal}
 use Rattle.std.specs.Int.{w64}
 use Rattle.std.specs.List.{flat_map, list_all, AllByRecursion}
 use Rattle.std.proofs.lemmas.Bool.{and_parts, and_from}
+use Rattle.std.proofs.lemmas.Bool.Decides.{nat_tests}
 use Rattle.std.proofs.lemmas.Grind.{flat_map-append}
 use Rattle.win_num.specs.Codes.{number_of}
 use Rattle.win_num.specs.declared.code.Code.{Code}
@@ -40,11 +41,12 @@ use Rattle.log_text.specs.declared.end.End.{End}
 use Rattle.log_text.specs.declared.end.End.TheVariants as ends
 use Rattle.log_text.specs.Endings.{end_line, counts_line}
 use Rattle.log_text.specs.Entries.{value_text, call_text, entry_line}
+use Rattle.log_text.specs.Frames.{digit, row_line, rows, frame_lines}
 use Rattle.log_read.specs.declared.log.Extra.{Extra}
 use Rattle.log_read.specs.declared.log.Extra.TheVariants as extras
-use Rattle.log_read.specs.Limits.{IsCode, IsValue, IsCall, IsAnswer, IsEntry, IsExtra, AreCounts, IsLog}
-use Rattle.log_read.specs.Logs.{LogTree, extra_line, spelling}
-use Rattle.log_read.specs.Words.{value_word, call_words, answer_words, entry_words, end_words, extra_words, counts_words, inner_words, log_words}
+use Rattle.log_read.specs.Limits.{IsCode, IsValue, IsCall, IsAnswer, IsEntry, IsLogEntry, IsExtra, AreCounts, IsLog}
+use Rattle.log_read.specs.Logs.{LogEntryTree, LogTree, log_entry_text, extra_line, spelling}
+use Rattle.log_read.specs.Words.{value_word, call_words, answer_words, entry_words, row_words, frame_words, log_entry_words, entries_words, end_words, extra_words, counts_words, inner_words, log_words}
 use Rattle.log_read.proofs.ValuesAgain.{at_place, wider}
 
 -- ---- the text as lines
@@ -135,12 +137,31 @@ module _ {A : Type 0} (line : A → List ℕ) (words : A → Words) (written : (
   all_written [] = refl
   all_written (x ∷ xs) = ap (λ (l : List ℕ). l ++ flat_map line xs) (written x) ∙ ap (λ (l : List ℕ). line_text (words x) ++ l) (all_written xs)
 
-inner_written : (s : Tree) (l : LogTree) → flat_map line_text (inner_words s l) ≡ flat_map (entry_line s) l.entries ++ (end_line l.end ++ flat_map (extra_line s) l.extras)
+frame_row_written : (row : List ℕ) → row_line row ≡ line_text (row_words row)
+frame_row_written row = ap (λ (l : List ℕ). l ++ 10 ∷ []) (sym (append-nil (map digit row)))
+
+frame_written : (s : Tree) (frame : Option (List ℕ)) → frame_lines s frame ≡ flat_map line_text (frame_words s frame)
+frame_written s None = refl
+frame_written s (Some colours) = all_written row_line row_words frame_row_written (rows s.width s.height colours)
+
+log_entry_written : (s : Tree) (e : LogEntryTree) → log_entry_text s e ≡ flat_map line_text (log_entry_words s e)
+log_entry_written s e =
+    ap (λ (l : List ℕ). l ++ frame_lines s e.frame) (entry_written s e.entry)
+    ∙ ap (λ (l : List ℕ). line_text (entry_words s e.entry) ++ l) (frame_written s e.frame)
+
+entries_written : (s : Tree) (es : List LogEntryTree) → flat_map (log_entry_text s) es ≡ flat_map line_text (entries_words s es)
+entries_written s [] = refl
+entries_written s (e ∷ es) =
+    ap (λ (l : List ℕ). l ++ flat_map (log_entry_text s) es) (log_entry_written s e)
+    ∙ ap (λ (l : List ℕ). flat_map line_text (log_entry_words s e) ++ l) (entries_written s es)
+    ∙ sym (flat_map-append line_text (log_entry_words s e) (entries_words s es))
+
+inner_written : (s : Tree) (l : LogTree) → flat_map line_text (inner_words s l) ≡ flat_map (log_entry_text s) l.entries ++ (end_line l.end ++ flat_map (extra_line s) l.extras)
 inner_written s l =
-    flat_map-append line_text (map (entry_words s) l.entries) (end_words l.end ∷ map (extra_words s) l.extras)
-    ∙ ap (λ (x : List ℕ). x ++ (line_text (end_words l.end) ++ flat_map line_text (map (extra_words s) l.extras))) (sym (all_written (entry_line s) (entry_words s) (entry_written s) l.entries))
-    ∙ ap (λ (x : List ℕ). flat_map (entry_line s) l.entries ++ (x ++ flat_map line_text (map (extra_words s) l.extras))) (sym (end_written l.end))
-    ∙ ap (λ (x : List ℕ). flat_map (entry_line s) l.entries ++ (end_line l.end ++ x)) (sym (all_written (extra_line s) (extra_words s) (extra_written s) l.extras))
+    flat_map-append line_text (entries_words s l.entries) (end_words l.end ∷ map (extra_words s) l.extras)
+    ∙ ap (λ (x : List ℕ). x ++ (line_text (end_words l.end) ++ flat_map line_text (map (extra_words s) l.extras))) (sym (entries_written s l.entries))
+    ∙ ap (λ (x : List ℕ). flat_map (log_entry_text s) l.entries ++ (x ++ flat_map line_text (map (extra_words s) l.extras))) (sym (end_written l.end))
+    ∙ ap (λ (x : List ℕ). flat_map (log_entry_text s) l.entries ++ (end_line l.end ++ x)) (sym (all_written (extra_line s) (extra_words s) (extra_written s) l.extras))
 
 regroup : (a b c d : List ℕ) → a ++ (b ++ (c ++ d)) ≡ (a ++ (b ++ c)) ++ d
 regroup a b c d = ap (λ (l : List ℕ). a ++ l) (sym (append_assoc b c d)) ∙ sym (append_assoc a (b ++ c) d)
@@ -149,7 +170,7 @@ pub log_written : (s : Tree) (l : LogTree) → spelling s l ≡ flat_map line_te
 unfolding spelling
 log_written s l =
     ap (λ (x : List ℕ). codes "log 1\n" ++ x)
-    (regroup (flat_map (entry_line s) l.entries) (end_line l.end) (flat_map (extra_line s) l.extras) (counts_line l.sends)
+    (regroup (flat_map (log_entry_text s) l.entries) (end_line l.end) (flat_map (extra_line s) l.extras) (counts_line l.sends)
     ∙ ap (λ (x : List ℕ). x ++ counts_line l.sends) (sym (inner_written s l))
     ∙ ap (λ (x : List ℕ). flat_map line_text (inner_words s l) ++ x) (counts_written l.sends ∙ sym (append-nil (line_text (counts_words l.sends))))
     ∙ sym (flat_map-append line_text (inner_words s l) (counts_words l.sends ∷ [])))
@@ -159,14 +180,14 @@ pub from_nothing : (old new text whole : List ℕ) → Adds old new text → old
 from_nothing old new text whole added e same = added.is ∙ ap (λ (l : List ℕ). l ++ text) e ∙ same
 
 -- the text of a log from its parts
-pub of_parts : (s : Tree) (l : LogTree) (es : List Entry) (end : End) (xs : List Extra) (sends : SendCount) → es ≡ l.entries → end ≡ l.end → xs ≡ l.extras → sends ≡ l.sends
-    → codes "log 1\n" ++ (flat_map (entry_line s) es ++ (end_line end ++ (flat_map (extra_line s) xs ++ counts_line sends))) ≡ spelling s l
+pub of_parts : (s : Tree) (l : LogTree) (es : List LogEntryTree) (end : End) (xs : List Extra) (sends : SendCount) → es ≡ l.entries → end ≡ l.end → xs ≡ l.extras → sends ≡ l.sends
+    → codes "log 1\n" ++ (flat_map (log_entry_text s) es ++ (end_line end ++ (flat_map (extra_line s) xs ++ counts_line sends))) ≡ spelling s l
 unfolding spelling
 of_parts s l es end xs sends e1 e2 e3 e4 =
-    ap (λ (x : List Entry). codes "log 1\n" ++ (flat_map (entry_line s) x ++ (end_line end ++ (flat_map (extra_line s) xs ++ counts_line sends)))) e1
-    ∙ ap (λ (x : End). codes "log 1\n" ++ (flat_map (entry_line s) l.entries ++ (end_line x ++ (flat_map (extra_line s) xs ++ counts_line sends)))) e2
-    ∙ ap (λ (x : List Extra). codes "log 1\n" ++ (flat_map (entry_line s) l.entries ++ (end_line l.end ++ (flat_map (extra_line s) x ++ counts_line sends)))) e3
-    ∙ ap (λ (x : SendCount). codes "log 1\n" ++ (flat_map (entry_line s) l.entries ++ (end_line l.end ++ (flat_map (extra_line s) l.extras ++ counts_line x)))) e4
+    ap (λ (x : List LogEntryTree). codes "log 1\n" ++ (flat_map (log_entry_text s) x ++ (end_line end ++ (flat_map (extra_line s) xs ++ counts_line sends)))) e1
+    ∙ ap (λ (x : End). codes "log 1\n" ++ (flat_map (log_entry_text s) l.entries ++ (end_line x ++ (flat_map (extra_line s) xs ++ counts_line sends)))) e2
+    ∙ ap (λ (x : List Extra). codes "log 1\n" ++ (flat_map (log_entry_text s) l.entries ++ (end_line l.end ++ (flat_map (extra_line s) x ++ counts_line sends)))) e3
+    ∙ ap (λ (x : SendCount). codes "log 1\n" ++ (flat_map (log_entry_text s) l.entries ++ (end_line l.end ++ (flat_map (extra_line s) l.extras ++ counts_line x)))) e4
 
 -- ---- all words are words
 
@@ -291,9 +312,31 @@ append_are_words : (a b : List Words) → list_all is_line_of_words a ≡ true �
 append_are_words [] b p q = q
 append_are_words (x ∷ a) b p q = let two = and_parts (is_line_of_words x) (list_all is_line_of_words a) p in and_from _ _ two.0 (append_are_words a b two.1 q)
 
+digit_visible : (colour : ℕ) → nat_lt 32 (digit colour) ≡ true
+digit_visible colour = grind (arith, nat_tests)
+
+digits_are_word : (row : List ℕ) → is_word (map digit row) ≡ true
+digits_are_word [] = refl
+digits_are_word (colour ∷ row) = and_from _ _ (digit_visible colour) (digits_are_word row)
+
+rows_are_words : (rs : List (List ℕ)) → list_all is_line_of_words (map row_words rs) ≡ true
+rows_are_words [] = refl
+rows_are_words (row ∷ rs) = and_from (is_line_of_words (row_words row)) _ (and_from _ _ (digits_are_word row) refl) (rows_are_words rs)
+
+frame_are_words : (s : Tree) (frame : Option (List ℕ)) → list_all is_line_of_words (frame_words s frame) ≡ true
+frame_are_words s None = refl
+frame_are_words s (Some colours) = rows_are_words (rows s.width s.height colours)
+
+entries_are_words : (s : Tree) (es : List LogEntryTree) → AreKnown (known_of s) → AllByRecursion (IsLogEntry s) es → list_all is_line_of_words (entries_words s es) ≡ true
+entries_are_words s [] h fits = refl
+entries_are_words s (e ∷ es) h fits =
+    append_are_words (log_entry_words s e) (entries_words s es)
+    (and_from (is_line_of_words (entry_words s e.entry)) _ (entry_is_words s e.entry h fits.0.entry) (frame_are_words s e.frame))
+    (entries_are_words s es h fits.1)
+
 inner_are_words : (s : Tree) (l : LogTree) → AreKnown (known_of s) → IsLog s l → list_all is_line_of_words (inner_words s l) ≡ true
 inner_are_words s l h fits =
-    all_are_words (entry_words s) (IsEntry s) (λ e f. entry_is_words s e h f) l.entries (end_words l.end ∷ map (extra_words s) l.extras) fits.entries
+    append_are_words (entries_words s l.entries) (end_words l.end ∷ map (extra_words s) l.extras) (entries_are_words s l.entries h fits.entries)
     (and_from _ _ (end_is_words l.end)
     (ap (list_all is_line_of_words) (sym (append-nil (map (extra_words s) l.extras)))
     ∙ all_are_words (extra_words s) (IsExtra s l.end) (λ x f. extra_is_words s l.end x h f) l.extras [] fits.extras refl))

@@ -1,7 +1,7 @@
 -- The parts of a log's text stand where they are looked for.
 use Rattle.std.proofs.Common.{◌≡◌, ℕ, zero, suc, ◌+◌, ◌-◌, ◌<◌, true, false, List, [], ◌∷◌, ◌++◌, length, Option, Some, refl, ap, sym, ◌∙◌, take, drop, get_or, arith}
 use Rattle.std.specs.Prelude.{codes, decimal, map, ◌==◌, Result, Ok, Err, IfOk}
-use Rattle.std.specs.List.{flat_map, AllByRecursion, position_from}
+use Rattle.std.specs.List.{flat_map}
 use Rattle.std.specs.Int.{IsInRange}
 use Rattle.std.specs.Str.Parse.{AllDigits}
 use Rattle.std.proofs.lemmas.Bool.Decides.{nat_tests}
@@ -18,11 +18,10 @@ use Rattle.log_text.specs.declared.end.End.{End}
 use Rattle.log_text.specs.declared.end.End.TheVariants as ends
 use Rattle.log_read.specs.Limits.{IsEntry, IsLog}
 use Rattle.log_read.specs.Logs.{LogTree, spelling}
-use Rattle.log_read.specs.Reading.{is_end_line, end_place}
-use Rattle.log_read.specs.Words.{call_words, answer_words, entry_words, end_words, extra_words, counts_words, inner_words, log_words}
+use Rattle.log_read.specs.Reading.{is_end_line}
+use Rattle.log_read.specs.Words.{call_words, answer_words, entry_words, entries_words, end_words, extra_words, counts_words, inner_words, log_words}
 use Rattle.log_read.proofs.LineWords.{Words, log_split}
-use Rattle.log_read.proofs.OneLog.{first_same}
-use Rattle.log_read.proofs.ValuesAgain.{from_nothing}
+use Rattle.log_read.proofs.ListLaws.{first_same, same_length, read_take, read_drop}
 
 -- ---- lists
 
@@ -53,7 +52,7 @@ unfolding texts_of
 log_texts s l bytes h fits e =
     ap (λ (ts : List (List ℕ)). take (length ts - 1) ts) (ap (split_at 10) e ∙ log_split s l h fits) ∙ but_last (map joined (log_words s l)) []
 
--- ---- the place of the end
+-- ---- the line of the end
 
 letter : (c : ℕ) → IsInRange 48 57 c → (c == 101) ≡ false
 letter c range = grind (arith, nat_tests, range)
@@ -62,88 +61,47 @@ no_e : (ds rest : List ℕ) → AllDigits 10 ds → 0 < length ds → is_end_lin
 no_e [] rest all some = absurd (omega arith)
 no_e (c ∷ cs) rest all some = let range : IsInRange 48 57 c = digit_from_value c all.0 in letter c range
 
-entry_no_end : (s : Tree) (e : Entry) → IsEntry s e → is_end_line (joined (entry_words s e)) ≡ false
+pub entry_no_end : (s : Tree) (e : Entry) → IsEntry s e → is_end_line (joined (entry_words s e)) ≡ false
 entry_no_end s e fits =
     let numeral = decimal_is_IsNumeral e.who.0 (omega (arith, fits.who)) in
     no_e (decimal e.who.0) (flat_map blank_word (call_words s e.call (codes "=" ∷ answer_words s e.answer))) numeral.0.1 numeral.0.0
 
-end_is_end : (end : End) → is_end_line (joined (end_words end)) ≡ true
+pub end_is_end : (end : End) → is_end_line (joined (end_words end)) ≡ true
 end_is_end ends.Done = refl
 end_is_end ends.Stuck = refl
 end_is_end ends.Spent = refl
 end_is_end ends.Cut = refl
 
-place_here : (text : List ℕ) (more : List (List ℕ)) (i : ℕ) → is_end_line text ≡ true → position_from is_end_line i (text ∷ more) ≡ Some i
-place_here text more i hit = rw hit refl
-
-place_further : (text : List ℕ) (more : List (List ℕ)) (i : ℕ) → is_end_line text ≡ false → position_from is_end_line i (text ∷ more) ≡ position_from is_end_line (i + 1) more
-place_further text more i miss = rw miss refl
-
-place_from : (s : Tree) (es : List Entry) (end : End) (more : List Words) (i : ℕ) → AllByRecursion (IsEntry s) es → position_from is_end_line i (map joined (map (entry_words s) es ++ (end_words end ∷ more))) ≡ Some (i + length es)
-place_from s [] end more i fits =
-    let here : i ≡ i + 0 = omega arith in
-    place_here (joined (end_words end)) (map joined more) i (end_is_end end) ∙ (ap (λ (j : ℕ). let o : Option ℕ = Some j in o) here)
-place_from s (e ∷ es) end more i fits =
-    let there : (i + 1) + length es ≡ i + suc (length es) = omega arith in
-    place_further (joined (entry_words s e)) (map joined (map (entry_words s) es ++ (end_words end ∷ more))) i (entry_no_end s e fits.0) ∙ (place_from s es end more (i + 1) fits.1 ∙ ap (λ (j : ℕ). let o : Option ℕ = Some j in o) there)
-
-pub place_of_end : (s : Tree) (l : LogTree) (lines : List (List ℕ)) → IsLog s l → lines ≡ map joined (inner_words s l) → end_place lines ≡ Some (length l.entries)
-unfolding end_place
-place_of_end s l lines fits e = ap (position_from is_end_line 0) e ∙ place_from s l.entries l.end (map (extra_words s) l.extras) 0 fits.entries ∙ from_nothing (length l.entries)
-
--- ---- what stands before it, there and behind it
-
-pub same_length : {A B : Type 0} (f : A → B) (xs : List A) → length (map f xs) ≡ length xs
-same_length f [] = refl
-same_length f (x ∷ xs) = ap suc (same_length f xs)
+-- ---- what stands there and behind it
 
 module _ (s : Tree) (l : LogTree) where
-  parted : map joined (inner_words s l) ≡ map joined (map (entry_words s) l.entries) ++ (joined (end_words l.end) ∷ map joined (map (extra_words s) l.extras))
-  parted = map-append joined (map (entry_words s) l.entries) (end_words l.end ∷ map (extra_words s) l.extras)
+  pub parted : map joined (inner_words s l) ≡ map joined (entries_words s l.entries) ++ (joined (end_words l.end) ∷ map joined (map (extra_words s) l.extras))
+  parted = map-append joined (entries_words s l.entries) (end_words l.end ∷ map (extra_words s) l.extras)
 
-  many : length (map joined (map (entry_words s) l.entries)) ≡ length l.entries
-  many = same_length joined (map (entry_words s) l.entries) ∙ same_length (entry_words s) l.entries
+  many : length (map joined (entries_words s l.entries)) ≡ length (entries_words s l.entries)
+  many = same_length joined (entries_words s l.entries)
 
-  pub before_end : take (length l.entries) (map joined (inner_words s l)) ≡ map joined (map (entry_words s) l.entries)
-  before_end =
-      ap (take (length l.entries)) parted
-      ∙ ap (λ (k : ℕ). take k (map joined (map (entry_words s) l.entries) ++ (joined (end_words l.end) ∷ map joined (map (extra_words s) l.extras)))) (sym many)
-      ∙ take_front (map joined (map (entry_words s) l.entries)) (joined (end_words l.end) ∷ map joined (map (extra_words s) l.extras))
-
-  pub from_end : drop (length l.entries) (map joined (inner_words s l)) ≡ joined (end_words l.end) ∷ map joined (map (extra_words s) l.extras)
+  pub from_end : drop (length (entries_words s l.entries)) (map joined (inner_words s l)) ≡ joined (end_words l.end) ∷ map joined (map (extra_words s) l.extras)
   from_end =
-      ap (drop (length l.entries)) parted
-      ∙ ap (λ (k : ℕ). drop k (map joined (map (entry_words s) l.entries) ++ (joined (end_words l.end) ∷ map joined (map (extra_words s) l.extras)))) (sym many)
-      ∙ drop_front (map joined (map (entry_words s) l.entries)) (joined (end_words l.end) ∷ map joined (map (extra_words s) l.extras))
+      ap (drop (length (entries_words s l.entries))) parted
+      ∙ ap (λ (k : ℕ). drop k (map joined (entries_words s l.entries) ++ (joined (end_words l.end) ∷ map joined (map (extra_words s) l.extras)))) (sym many)
+      ∙ drop_front (map joined (entries_words s l.entries)) (joined (end_words l.end) ∷ map joined (map (extra_words s) l.extras))
 
-  pub behind_end : drop (length l.entries + 1) (map joined (inner_words s l)) ≡ map joined (map (extra_words s) l.extras)
+  pub behind_end : drop (length (entries_words s l.entries) + 1) (map joined (inner_words s l)) ≡ map joined (map (extra_words s) l.extras)
   behind_end =
-      ap (drop (length l.entries + 1)) parted
-      ∙ ap (λ (k : ℕ). drop (k + 1) (map joined (map (entry_words s) l.entries) ++ (joined (end_words l.end) ∷ map joined (map (extra_words s) l.extras)))) (sym many)
-      ∙ drop_more_than (map joined (map (entry_words s) l.entries)) (map joined (map (extra_words s) l.extras)) (joined (end_words l.end))
+      ap (drop (length (entries_words s l.entries) + 1)) parted
+      ∙ ap (λ (k : ℕ). drop (k + 1) (map joined (entries_words s l.entries) ++ (joined (end_words l.end) ∷ map joined (map (extra_words s) l.extras)))) (sym many)
+      ∙ drop_more_than (map joined (entries_words s l.entries)) (map joined (map (extra_words s) l.extras)) (joined (end_words l.end))
 
 -- ---- the same, of lines that are read
 
 module _ {R : Type 0} (read : R → List ℕ) where
-  read_take : (k : ℕ) (xs : List R) → map read (take k xs) ≡ take k (map read xs)
-  read_take zero xs = refl
-  read_take (suc k) [] = refl
-  read_take (suc k) (x ∷ xs) = ap (λ (l : List (List ℕ)). read x ∷ l) (read_take k xs)
-
-  read_drop : (k : ℕ) (xs : List R) → map read (drop k xs) ≡ drop k (map read xs)
-  read_drop zero xs = refl
-  read_drop (suc k) [] = refl
-  read_drop (suc k) (x ∷ xs) = read_drop k xs
-
   read_at : (k : ℕ) (xs : List R) (d : R) (t : List ℕ) (more : List (List ℕ)) → k < length xs → drop k (map read xs) ≡ t ∷ more → read (get_or xs k d) ≡ t
   read_at k xs d t more lt e =
       let opened : map read (drop k xs) ≡ read (get_or xs k d) ∷ map read (drop (k + 1) xs) = ap (map read) (drop_more xs k d lt) in
-      first_same (read (get_or xs k d)) t (map read (drop (k + 1) xs)) more (sym opened ∙ read_drop k xs ∙ e)
+      first_same (read (get_or xs k d)) t (map read (drop (k + 1) xs)) more (sym opened ∙ read_drop read k xs ∙ e)
 
-  module _ (s : Tree) (l : LogTree) (lines : List R) (p : ℕ) (same : map read lines ≡ map joined (inner_words s l)) (here : p ≡ length l.entries) where
-    pub entry_lines : map read (take p lines) ≡ map joined (map (entry_words s) l.entries)
-    entry_lines = read_take p lines ∙ ap (take p) same ∙ ap (λ (k : ℕ). take k (map joined (inner_words s l))) here ∙ before_end s l
-
+  module _ (s : Tree) (l : LogTree) (lines : List R) (p : ℕ) (same : map read lines ≡ map joined (inner_words s l)) (here : p ≡ length (entries_words s l.entries)) where
     pub end_line : (d : R) → p < length lines → read (get_or lines p d) ≡ joined (end_words l.end)
     end_line d lt =
         read_at p lines d (joined (end_words l.end)) (map joined (map (extra_words s) l.extras)) lt
@@ -152,7 +110,7 @@ module _ {R : Type 0} (read : R → List ℕ) where
     pub extra_lines : map read (take (length lines - (p + 1)) (drop (p + 1) lines)) ≡ map joined (map (extra_words s) l.extras)
     extra_lines =
         ap (map read) (take_all (length lines - (p + 1)) (drop (p + 1) lines) (omega (arith, length-drop (p + 1) lines)))
-        ∙ read_drop (p + 1) lines ∙ ap (drop (p + 1)) same ∙ ap (λ (k : ℕ). drop (k + 1) (map joined (inner_words s l))) here ∙ behind_end s l
+        ∙ read_drop read (p + 1) lines ∙ ap (drop (p + 1)) same ∙ ap (λ (k : ℕ). drop (k + 1) (map joined (inner_words s l))) here ∙ behind_end s l
 
   inner_of : (xs : List R) (a c : List ℕ) (bs : List (List ℕ)) → map read xs ≡ a ∷ (bs ++ c ∷ []) → length xs ≡ length bs + 2
   inner_of xs a c bs e = omega (arith, sym (same_length read xs), ap length e, length-append bs (c ∷ []))
@@ -167,7 +125,7 @@ module _ {R : Type 0} (read : R → List ℕ) where
     pub inner_lines : map read (take (length texts - 1 - 1) (drop 1 texts)) ≡ map joined (inner_words s l)
     inner_lines =
         let n : length texts - 1 - 1 ≡ length (map joined (inner_words s l)) = omega (arith, enough) in
-        read_take (length texts - 1 - 1) (drop 1 texts) ∙ ap (take (length texts - 1 - 1)) (read_drop 1 texts ∙ ap (drop 1) whole)
+        read_take read (length texts - 1 - 1) (drop 1 texts) ∙ ap (take (length texts - 1 - 1)) (read_drop read 1 texts ∙ ap (drop 1) whole)
         ∙ ap (λ (k : ℕ). take k (map joined (inner_words s l) ++ joined (counts_words l.sends) ∷ [])) n
         ∙ take_front (map joined (inner_words s l)) (joined (counts_words l.sends) ∷ [])
 

@@ -1,6 +1,6 @@
 -- A text is that of one log at most.
-use Rattle.std.proofs.Common.{◌≡◌, ℕ, ◌^◌, ◌<◌, true, List, [], ◌∷◌, ◌++◌, length, Some, refl, ap, sym, ◌∙◌, arith, subst}
-use Rattle.std.specs.Prelude.{codes, decimal, map}
+use Rattle.std.proofs.Common.{◌≡◌, ℕ, ◌^◌, ◌<◌, true, List, [], ◌∷◌, ◌++◌, length, Some, refl, ap, sym, ◌∙◌, append_assoc, arith, subst}
+use Rattle.std.specs.Prelude.{codes, decimal, map, Option, IfSome, is_some}
 use Rattle.std.specs.List.{list_all, AllByRecursion}
 use Rattle.std.specs.Int.{IsInRange}
 use Rattle.std.specs.Str.Parse.{AllDigits}
@@ -31,22 +31,18 @@ use Rattle.log_text.specs.declared.end.End.{End}
 use Rattle.log_text.specs.Endings.{end_word}
 use Rattle.log_read.specs.declared.log.Extra.{Extra}
 use Rattle.log_read.specs.declared.log.Extra.TheVariants as extras
-use Rattle.log_read.specs.Limits.{IsValue, IsCall, IsAnswer, IsEntry, IsExtra, AreCounts, IsLog}
-use Rattle.log_read.specs.Logs.{LogTree, spelling}
+use Rattle.log_read.specs.Limits.{keeps_frame, IsValue, IsCall, IsAnswer, IsEntry, IsLogEntry, IsExtra, AreCounts, IsLog}
+use Rattle.log_read.specs.Logs.{LogEntryTree, LogTree, spelling}
 use Rattle.log_read.specs.Reading.{value_at, end_at}
-use Rattle.log_read.specs.Words.{value_word, call_words, answer_words, entry_words, end_words, extra_words, counts_words, inner_words, log_words}
+use Rattle.log_read.specs.Words.{value_word, call_words, answer_words, entry_words, frame_words, entries_words, end_words, extra_words, counts_words, inner_words, log_words}
+use Rattle.log_read.proofs.FrameRows.{frame_same}
 use Rattle.log_read.proofs.LineWords.{Words, log_are_words, log_split}
+use Rattle.log_read.proofs.ListLaws.{first_same, rest_same}
 use Rattle.log_read.proofs.ValuesAgain.{value_again, end_again}
 
 -- ---- lists that are equal
 
 module _ {A : Type 0} where
-  pub first_same : (x y : A) (xs ys : List A) → x ∷ xs ≡ y ∷ ys → x ≡ y
-  first_same x y xs ys e = cc e
-
-  pub rest_same : (x y : A) (xs ys : List A) → x ∷ xs ≡ y ∷ ys → xs ≡ ys
-  rest_same x y xs ys e = cc e
-
   last_same : (xs ys : List A) (x y : A) → xs ++ x ∷ [] ≡ ys ++ y ∷ [] → (xs ≡ ys) × (x ≡ y)
   last_same [] [] x y e = (refl, first_same x y [] [] e)
   last_same [] (b ∷ ys) x y e = absurd (omega (arith, ap length e, length-append ys (y ∷ [])))
@@ -76,9 +72,14 @@ counts_of c d e1 e2 e3 e4 e5 e6 e7 =
     ∙ ap (λ (n : ℕ). let r : SendCount = record d { by_timeout = n; unfinished = c.unfinished } in r) e6
     ∙ ap (λ (n : ℕ). let r : SendCount = record d { unfinished = n } in r) e7
 
+pub log_entry_from : (e f : LogEntryTree) → e.entry ≡ f.entry → e.frame ≡ f.frame → e ≡ f
+log_entry_from e f entry frame =
+    ap (λ (x : Entry). let r : LogEntryTree = record { entry = x; frame = e.frame } in r) entry
+    ∙ ap (λ (o : Option (List ℕ)). let r : LogEntryTree = record { entry = f.entry; frame = o } in r) frame
+
 pub log_from : (l m : LogTree) → l.entries ≡ m.entries → l.end ≡ m.end → l.extras ≡ m.extras → l.sends ≡ m.sends → l ≡ m
 log_from l m e1 e2 e3 e4 =
-    ap (λ (x : List Entry). let r : LogTree = record l { entries = x } in r) e1
+    ap (λ (x : List LogEntryTree). let r : LogTree = record l { entries = x } in r) e1
     ∙ ap (λ (x : End). let r : LogTree = record l { entries = m.entries; end = x } in r) e2
     ∙ ap (λ (x : List Extra). let r : LogTree = record m { extras = x; sends = l.sends } in r) e3
     ∙ ap (λ (x : SendCount). let r : LogTree = record m { sends = x } in r) e4
@@ -142,16 +143,28 @@ module _ (s : Tree) (h : AreKnown (known_of s)) where
   no_end e x fits same =
       digits_no_end (decimal e.who.0) (decimal_is_IsNumeral e.who.0 (omega (arith, fits.who))).0.1 (first_same _ _ (end_word x ∷ []) (call_words s e.call (codes "=" ∷ answer_words s e.answer)) same)
 
-  entries_same : (es fs : List Entry) (x y : End) (a b : List Words) → AllByRecursion (IsEntry s) es → AllByRecursion (IsEntry s) fs → map (entry_words s) es ++ (end_words x ∷ a) ≡ map (entry_words s) fs ++ (end_words y ∷ b) → (es ≡ fs) × (end_words x ∷ a ≡ end_words y ∷ b)
+  log_entry_same : (e f : LogEntryTree) (a b : List Words) → IsLogEntry s e → IsLogEntry s f → entry_words s e.entry ∷ (frame_words s e.frame ++ a) ≡ entry_words s f.entry ∷ (frame_words s f.frame ++ b) → (e ≡ f) × (a ≡ b)
+  log_entry_same e f a b fits fits' same =
+      let mine : List Words = frame_words s e.frame ++ a in
+      let other : List Words = frame_words s f.frame ++ b in
+      let entry : e.entry ≡ f.entry = entry_same e.entry f.entry fits.entry fits'.entry (first_same (entry_words s e.entry) (entry_words s f.entry) mine other same) in
+      let kept : is_some e.frame ≡ is_some f.frame = fits.kept ∙ ap (λ (x : Entry). keeps_frame x.answer) entry ∙ sym fits'.kept in
+      let frame = frame_same s e.frame f.frame a b kept fits.frame fits'.frame (rest_same (entry_words s e.entry) (entry_words s f.entry) mine other same) in
+      (log_entry_from e f entry frame.0, frame.1)
+
+  entries_same : (es fs : List LogEntryTree) (x y : End) (a b : List Words) → AllByRecursion (IsLogEntry s) es → AllByRecursion (IsLogEntry s) fs → entries_words s es ++ (end_words x ∷ a) ≡ entries_words s fs ++ (end_words y ∷ b) → (es ≡ fs) × (end_words x ∷ a ≡ end_words y ∷ b)
   entries_same [] [] x y a b fits fits' e = (refl, e)
-  entries_same [] (f ∷ fs) x y a b fits fits' e = absurd (no_end f x fits'.0 (first_same _ _ a (map (entry_words s) fs ++ (end_words y ∷ b)) e))
-  entries_same (g ∷ es) [] x y a b fits fits' e = absurd (no_end g y fits.0 (sym (first_same _ _ (map (entry_words s) es ++ (end_words x ∷ a)) b e)))
+  entries_same [] (f ∷ fs) x y a b fits fits' e = absurd (no_end f.entry x fits'.0.entry (first_same (end_words x) (entry_words s f.entry) a ((frame_words s f.frame ++ entries_words s fs) ++ (end_words y ∷ b)) e))
+  entries_same (g ∷ es) [] x y a b fits fits' e = absurd (no_end g.entry y fits.0.entry (sym (first_same (entry_words s g.entry) (end_words y) ((frame_words s g.frame ++ entries_words s es) ++ (end_words x ∷ a)) b e)))
   entries_same (g ∷ es) (f ∷ fs) x y a b fits fits' e =
-      let mine : List Words = map (entry_words s) es ++ (end_words x ∷ a) in
-      let other : List Words = map (entry_words s) fs ++ (end_words y ∷ b) in
-      let first = entry_same g f fits.0 fits'.0 (first_same (entry_words s g) (entry_words s f) mine other e) in
-      let more = entries_same es fs x y a b fits.1 fits'.1 (rest_same (entry_words s g) (entry_words s f) mine other e) in
-      (ap (λ (z : Entry). z ∷ es) first ∙ ap (λ (l : List Entry). f ∷ l) more.0, more.1)
+      let mine : List Words = entries_words s es ++ (end_words x ∷ a) in
+      let other : List Words = entries_words s fs ++ (end_words y ∷ b) in
+      let grouped : entry_words s g.entry ∷ (frame_words s g.frame ++ mine) ≡ entry_words s f.entry ∷ (frame_words s f.frame ++ other) =
+      ap (λ (l : List Words). entry_words s g.entry ∷ l) (sym (append_assoc (frame_words s g.frame) (entries_words s es) (end_words x ∷ a)))
+      ∙ e ∙ ap (λ (l : List Words). entry_words s f.entry ∷ l) (append_assoc (frame_words s f.frame) (entries_words s fs) (end_words y ∷ b)) in
+      let first = log_entry_same g f mine other fits.0 fits'.0 grouped in
+      let more = entries_same es fs x y a b fits.1 fits'.1 first.1 in
+      (ap (λ (z : LogEntryTree). z ∷ es) first.0 ∙ ap (λ (l : List LogEntryTree). f ∷ l) more.0, more.1)
 
   -- ---- the ending
 

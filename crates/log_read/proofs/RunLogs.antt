@@ -1,15 +1,17 @@
 -- What is written of a run is the text of a log.
-use Rattle.std.proofs.Common.{◌≡◌, ℕ, zero, suc, ◌≤◌, Bool, true, false, List, [], ◌∷◌, ◌++◌, length, Option, Some, None, refl, ap, sym, ◌∙◌, append-nil, arith, reverse, inl, inr, subst}
-use Rattle.std.specs.Prelude.{codes, ◌==◌, if◌then◌else◌, IfSome}
+use Rattle.std.proofs.Common.{◌≡◌, ℕ, zero, suc, ◌+◌, ◌*◌, ◌≤◌, Bool, true, false, List, [], ◌∷◌, ◌++◌, length, Option, Some, None, refl, ap, sym, ◌∙◌, append-nil, arith, reverse, inl, inr}
+use Rattle.std.specs.Prelude.{codes, ◌==◌, map, if◌then◌else◌, is_some, IfSome, ℤ, pos}
 use Rattle.std.specs.List.{flat_map, AllByRecursion}
-use Rattle.std.proofs.lemmas.Bool.{cases_Bool, false≢true}
+use Rattle.std.proofs.lemmas.Bool.{cases_Bool}
 use Rattle.std.proofs.lemmas.Grind.{flat_map-append}
-use Rattle.std.proofs.lemmas.List.{reverse-append}
+use Rattle.std.proofs.lemmas.List.{length-append, map-append, reverse-append}
 use Rattle.user_model.specs.declared.call.Call.{Call}
 use Rattle.user_model.specs.declared.entry.Answer.{Answer}
 use Rattle.user_model.specs.declared.entry.Answer.TheVariants.{Snap}
 use Rattle.user_model.specs.declared.entry.Entry.{Entry}
 use Rattle.user_model.specs.declared.entry.Setup.{Setup}
+use Rattle.region_box.specs.Screens.{row_points, screen_points}
+use Rattle.user_model.specs.Colours.{colour, frame}
 use Rattle.user_model.specs.Counts.{send_count}
 use Rattle.user_model.specs.Past.{Past}
 use Rattle.user_model.specs.Idle.{is_barred}
@@ -21,36 +23,25 @@ use Rattle.script_lines.specs.NameLimits.{AreKnown}
 use Rattle.log_text.specs.declared.end.End.{End}
 use Rattle.log_text.specs.declared.end.End.TheVariants as ends
 use Rattle.log_text.specs.Ends.{setup_of, end_of}
-use Rattle.log_text.specs.Entries.{entry_line, entry_text, entries_text}
-use Rattle.log_text.specs.Frames.{shown, frame_lines}
+use Rattle.log_text.specs.Entries.{entry_text, entries_text}
+use Rattle.log_text.specs.Frames.{shown}
 use Rattle.log_text.specs.Endings.{end_line, last_call, waits_line, spent_line, extra, sends_line}
 use Rattle.log_text.specs.Logs.{log}
 use Rattle.log_read.specs.declared.log.Extra.{Extra}
 use Rattle.log_read.specs.declared.log.Extra.TheVariants as extras
-use Rattle.log_read.specs.Limits.{keeps_frame, IsFrameless, IsCall, IsEntry, IsExtra, AreCounts, IsLog}
-use Rattle.log_read.specs.Logs.{LogTree, extra_line, spelling, waits_of, extra_of, log_of}
+use Rattle.log_read.specs.Limits.{keeps_frame, IsCall, IsColour, IsFrame, IsEntry, IsLogEntry, IsExtra, AreCounts, IsLog, HasColours}
+use Rattle.log_read.specs.Logs.{LogEntryTree, LogTree, log_entry_text, extra_line, spelling, log_entry_of, log_entries_of, waits_of, extra_of, log_of}
+use Rattle.log_read.proofs.ListLaws.{all_append, all_parts, all_push, same_length}
 use Rattle.log_read.proofs.OneLog.{one_log}
 
 -- ---- the text
 
-newest_last : (e : Entry) (past : Past) → reverse (e ∷ past) ≡ reverse past ++ e ∷ []
-newest_last e past = reverse-append (e ∷ []) past
-
-no_frame : (setup : Setup) (past : Past) (a : Answer) → keeps_frame a ≡ false → shown setup past a ≡ None
-no_frame setup past (Snap k) h = absurd (false≢true (sym h))
-no_frame setup past _ h = refl
-
-entry_is : (s : Tree) (past : Past) (e : Entry) → IsFrameless e → entry_text s past e ≡ entry_line s e
-entry_is s past e h = ap (λ o. entry_line s e ++ frame_lines s o) (no_frame (setup_of s) past e.answer h) ∙ append-nil (entry_line s e)
-
-entries_are : (s : Tree) (past : Past) → AllByRecursion IsFrameless past → entries_text s past ≡ flat_map (entry_line s) (reverse past)
-entries_are s [] h = refl
-entries_are s (e ∷ past) h =
-    ap (λ (l : List ℕ). entries_text s past ++ l) (entry_is s past e h.0)
-    ∙ ap (λ (l : List ℕ). l ++ entry_line s e) (entries_are s past h.1)
-    ∙ ap (λ (l : List ℕ). flat_map (entry_line s) (reverse past) ++ l) (sym (append-nil (entry_line s e)))
-    ∙ sym (flat_map-append (entry_line s) (reverse past) (e ∷ []))
-    ∙ ap (flat_map (entry_line s)) (sym (newest_last e past))
+entries_are : (s : Tree) (past : Past) → entries_text s past ≡ flat_map (log_entry_text s) (log_entries_of s past)
+entries_are s [] = refl
+entries_are s (e ∷ past) =
+    ap (λ (l : List ℕ). l ++ entry_text s past e) (entries_are s past)
+    ∙ ap (λ (l : List ℕ). flat_map (log_entry_text s) (log_entries_of s past) ++ l) (sym (append-nil (entry_text s past e)))
+    ∙ sym (flat_map-append (log_entry_text s) (log_entries_of s past) (log_entry_of s past e ∷ []))
 
 waits_are : (s : Tree) (t : ℕ) (call : Option Call) → waits_line s t call ≡ flat_map (extra_line s) (waits_of t call)
 waits_are s t None = refl
@@ -73,22 +64,55 @@ extras_are s past end (suc n) =
     ∙ ap (λ (l : List ℕ). flat_map (extra_line s) (from_each (extra_of s past end) n) ++ l) (extra_is s past end (suc n))
     ∙ sym (flat_map-append (extra_line s) (from_each (extra_of s past end) n) (extra_of s past end (suc n)))
 
-pub run_text : (s : Tree) (past : Past) → AllByRecursion IsFrameless past → log s past ≡ spelling s (log_of s past)
+pub run_text : (s : Tree) (past : Past) → log s past ≡ spelling s (log_of s past)
 unfolding log spelling
-run_text s past h =
+run_text s past =
     let end : End = end_of s past in
-    ap (λ (l : List ℕ). codes "log 1\n" ++ (l ++ (end_line end ++ (from_each (extra s past end) (length s.threads) ++ sends_line past)))) (entries_are s past h)
-    ∙ ap (λ (l : List ℕ). codes "log 1\n" ++ (flat_map (entry_line s) (reverse past) ++ (end_line end ++ (l ++ sends_line past)))) (extras_are s past end (length s.threads))
+    ap (λ (l : List ℕ). codes "log 1\n" ++ (l ++ (end_line end ++ (from_each (extra s past end) (length s.threads) ++ sends_line past)))) (entries_are s past)
+    ∙ ap (λ (l : List ℕ). codes "log 1\n" ++ (flat_map (log_entry_text s) (log_entries_of s past) ++ (end_line end ++ (l ++ sends_line past)))) (extras_are s past end (length s.threads))
+
+-- ---- its entries
+
+-- they are the history
+pub run_history : (s : Tree) (past : Past) → map (λ (e : LogEntryTree). e.entry) (log_entries_of s past) ≡ reverse past
+run_history s [] = refl
+run_history s (e ∷ past) =
+    map-append (λ (x : LogEntryTree). x.entry) (log_entries_of s past) (log_entry_of s past e ∷ [])
+    ∙ ap (λ (l : List Entry). l ++ e ∷ []) (run_history s past)
+    ∙ sym (reverse-append (e ∷ []) past)
+
+row_size : (y : ℤ) (x : ℕ) → length (row_points y x) ≡ x
+unfolding row_points
+row_size y zero = refl
+row_size y (suc x) = omega (arith, row_size y x, length-append (row_points y x) (record { x = pos x; y = y } ∷ []))
+
+screen_size : (w h : ℕ) → length (screen_points w h) ≡ h * w
+unfolding screen_points
+screen_size w zero = omega arith
+screen_size w (suc h) =
+    let next : suc h * w ≡ h * w + w = omega arith in
+    omega (arith, next, screen_size w h, row_size (pos h) w, length-append (screen_points w h) (row_points (pos h) w))
+
+frame_size : (setup : Setup) (past : Past) → length (frame setup past) ≡ setup.height * setup.width
+frame_size setup past = same_length (colour setup past) (screen_points setup.width setup.height) ∙ screen_size setup.width setup.height
+
+-- a frame stands exactly where one was kept
+shown_there : (setup : Setup) (past : Past) (a : Answer) → is_some (shown setup past a) ≡ keeps_frame a
+shown_there setup past (Snap k) = refl
+shown_there setup past _ = refl
+
+shown_fits : (s : Tree) (past : Past) (a : Answer) → IfSome (shown (setup_of s) past a) (AllByRecursion IsColour) → IfSome (shown (setup_of s) past a) (IsFrame s)
+shown_fits s past (Snap k) colours = record { size = frame_size (setup_of s) past; below = colours }
+shown_fits s past _ colours = tt
+
+entries_fit : (s : Tree) (past : Past) → AllByRecursion (IsEntry s) past → HasColours s past → AllByRecursion (IsLogEntry s) (log_entries_of s past)
+entries_fit s [] h colours = tt
+entries_fit s (e ∷ past) h colours =
+    let parts = all_parts (λ (x : LogEntryTree). IfSome x.frame (AllByRecursion IsColour)) (log_entries_of s past) (log_entry_of s past e ∷ []) colours in
+    all_push (IsLogEntry s) (log_entries_of s past) (log_entry_of s past e) (entries_fit s past h.1 parts.0)
+    (record { entry = h.0; kept = shown_there (setup_of s) past e.answer; frame = shown_fits s past e.answer parts.1.0 })
 
 -- ---- its limits
-
-all_append : {A : Type 0} (P : A → Type 0) (xs ys : List A) → AllByRecursion P xs → AllByRecursion P ys → AllByRecursion P (xs ++ ys)
-all_append P [] ys h k = k
-all_append P (x ∷ xs) ys h k = (h.0, all_append P xs ys h.1 k)
-
-all_reversed : (s : Tree) (past : Past) → AllByRecursion (IsEntry s) past → AllByRecursion (IsEntry s) (reverse past)
-all_reversed s [] h = tt
-all_reversed s (e ∷ past) h = subst (AllByRecursion (IsEntry s)) (sym (newest_last e past)) (all_append (IsEntry s) (reverse past) (e ∷ []) (all_reversed s past h.1) (h.0, tt))
 
 last_fits : (s : Tree) (past : Past) (t : ℕ) → AllByRecursion (IsEntry s) past → IfSome (last_call past t) (IsCall s)
 last_fits s [] t h = tt
@@ -115,16 +139,12 @@ extras_fit : (s : Tree) (past : Past) (end : End) (n : ℕ) → AllByRecursion (
 extras_fit s past end zero h small = tt
 extras_fit s past end (suc n) h small = all_append (IsExtra s end) (from_each (extra_of s past end) n) (extra_of s past end (suc n)) (extras_fit s past end n h (omega (arith, small))) (extra_fits s past end (suc n) h small)
 
-pub run_fits : (s : Tree) (past : Past) → length s.threads ≤ 15 → AllByRecursion (IsEntry s) past → AreCounts (send_count past) → IsLog s (log_of s past)
-run_fits s past few entries counts = record {
-  entries = all_reversed s past entries;
+pub run_fits : (s : Tree) (past : Past) → length s.threads ≤ 15 → AllByRecursion (IsEntry s) past → HasColours s past → AreCounts (send_count past) → IsLog s (log_of s past)
+run_fits s past few entries colours counts = record {
+  entries = entries_fit s past entries colours;
   extras = extras_fit s past (end_of s past) (length s.threads) entries few;
   sends = counts;
 }
 
-frameless : (s : Tree) (past : Past) → AllByRecursion (IsEntry s) past → AllByRecursion IsFrameless past
-frameless s [] h = tt
-frameless s (e ∷ past) h = (h.0.frameless, frameless s past h.1)
-
-pub run_read : (s : Tree) (past : Past) (l : LogTree) → AreKnown (known_of s) → length s.threads ≤ 15 → AllByRecursion (IsEntry s) past → AreCounts (send_count past) → IsLog s l → log s past ≡ spelling s l → l ≡ log_of s past
-run_read s past l h few entries counts fits e = one_log s h l (log_of s past) fits (run_fits s past few entries counts) (sym e ∙ run_text s past (frameless s past entries))
+pub run_read : (s : Tree) (past : Past) (l : LogTree) → AreKnown (known_of s) → length s.threads ≤ 15 → AllByRecursion (IsEntry s) past → HasColours s past → AreCounts (send_count past) → IsLog s l → log s past ≡ spelling s l → l ≡ log_of s past
+run_read s past l h few entries colours counts fits e = one_log s h l (log_of s past) fits (run_fits s past few entries colours counts) (sym e ∙ run_text s past)

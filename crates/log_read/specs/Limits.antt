@@ -1,5 +1,5 @@
 -- Which trees are logs of a script.
-use Rattle.std.specs.Prelude.{◌≡◌, ◌^◌, ◌≤◌, ◌<◌, length, FitsSigned, ⊤, Bool, true, false}
+use Rattle.std.specs.Prelude.{◌≡◌, ℕ, ◌*◌, ◌^◌, ◌≤◌, ◌<◌, List, length, FitsSigned, ⊤, Bool, true, false, is_some, IfSome}
 use Rattle.std.specs.Int.{w32, w64}
 use Rattle.std.specs.List.{AllByRecursion}
 use Rattle.win_num.specs.declared.code.Code.{Code}
@@ -9,6 +9,7 @@ use Rattle.user_model.specs.declared.entry.Answer.{Answer}
 use Rattle.user_model.specs.declared.entry.Answer.TheVariants.{Snap}
 use Rattle.user_model.specs.declared.entry.Entry.{Entry}
 use Rattle.user_model.specs.declared.entry.SendCount.{SendCount}
+use Rattle.user_model.specs.Past.{Past}
 use Rattle.call_fields.specs.declared.value.Value.{Value}
 use Rattle.call_fields.specs.declared.value.Value.TheVariants as values
 use Rattle.call_table.specs.Calls.{call_parts}
@@ -18,7 +19,7 @@ use Rattle.log_text.specs.declared.end.End.{End}
 use Rattle.log_text.specs.declared.end.End.TheVariants.{Stuck, Spent}
 use Rattle.log_read.specs.declared.log.Extra.{Extra}
 use Rattle.log_read.specs.declared.log.Extra.TheVariants as extras
-use Rattle.log_read.specs.Logs.{LogTree}
+use Rattle.log_read.specs.Logs.{LogEntryTree, LogTree, log_entries_of}
 
 -- the number of a code has 16 bits
 abbrev pub IsCode : Code → Type 0
@@ -59,16 +60,26 @@ abbrev pub keeps_frame : Answer → Bool
 keeps_frame (Snap k) = true
 keeps_frame _ = false
 
--- the entry kept no frame
-abbrev pub IsFrameless : Entry → Type 0
-IsFrameless e = keeps_frame e.answer ≡ false
-
--- an actor is the clock or one of 15 threads; entries that kept a frame aren't read
+-- an actor is the clock or one of 15 threads
 pub record IsEntry (s : Tree) (e : Entry) : Type 0 where
   pub who : e.who.0 ≤ 15
   pub call : IsCall s e.call
   pub answer : IsAnswer s e.answer
-  pub frameless : IsFrameless e
+
+-- a colour is a number from 0 to 15
+abbrev pub IsColour : ℕ → Type 0
+IsColour colour = colour < 16
+
+-- colours, one for each pixel of the script's screen
+pub record IsFrame (s : Tree) (colours : List ℕ) : Type 0 where
+  pub size : length colours ≡ s.height * s.width
+  pub below : AllByRecursion IsColour colours
+
+-- an entry, with a frame exactly where its answer says that it kept one
+pub record IsLogEntry (s : Tree) (e : LogEntryTree) : Type 0 where
+  pub entry : IsEntry s e.entry
+  pub kept : is_some e.frame ≡ keeps_frame e.entry.answer
+  pub frame : IfSome e.frame (IsFrame s)
 
 -- lines of waiting threads stand where a run is stuck, and lines of spent ones where it is spent
 abbrev pub IsExtra : Tree → End → Extra → Type 0
@@ -87,6 +98,10 @@ pub record AreCounts (c : SendCount) : Type 0 where
 
 -- the tree is a log of the script
 pub record IsLog (s : Tree) (l : LogTree) : Type 0 where
-  pub entries : AllByRecursion (IsEntry s) l.entries
+  pub entries : AllByRecursion (IsLogEntry s) l.entries
   pub extras : AllByRecursion (IsExtra s l.end) l.extras
   pub sends : AreCounts l.sends
+
+-- the frames that a past kept have such colours
+abbrev pub HasColours : Tree → Past → Type 0
+HasColours s past = AllByRecursion (λ (e : LogEntryTree). IfSome e.frame (AllByRecursion IsColour)) (log_entries_of s past)

@@ -10,6 +10,7 @@ use Rattle.win_num.specs.declared.send.Cause.{Cause}
 use Rattle.win_num.specs.declared.send.Cause.TheVariants as causes
 use Rattle.name_table.specs.Rows.{number_in}
 use Rattle.name_table.specs.Messages.{message_rows}
+use Rattle.user_model.specs.declared.entry.Answer.{Answer}
 use Rattle.user_model.specs.declared.entry.Origin.{Origin}
 use Rattle.user_model.specs.declared.entry.Origin.TheVariants as origins
 use Rattle.call_fields.specs.declared.form.Field.{Field}
@@ -22,6 +23,7 @@ use Rattle.script_lines.specs.LineReading.{◌>>=◌, number_at, word_at}
 use Rattle.log_text.specs.declared.end.End.{End}
 use Rattle.log_text.specs.declared.end.End.TheVariants.{Done, Stuck, Spent, Cut}
 use Rattle.log_text.specs.Endings.{end_word}
+use Rattle.log_read.specs.Limits.{keeps_frame}
 
 -- a number, or the greatest of so many bits where it is too large
 abbrev pub small_at : ℕ → List ℕ → ℕ
@@ -111,11 +113,15 @@ all_ends = Done ∷ Stuck ∷ Spent ∷ Cut ∷ []
 unfoldable pub end_at : List ℕ → Option End
 end_at word = find (λ e. bytes_eq (end_word e) word) all_ends
 
--- whether a line is no entry's: it begins with an e
+-- whether a line that is no row of a frame is no entry's: it begins with an e
 abbrev pub is_end_line : List ℕ → Bool
 is_end_line [] = false
 is_end_line (c ∷ cs) = c == 101
 
--- the place of the first such line
-unfoldable pub end_place : List (List ℕ) → Option ℕ
-end_place lines = position_from is_end_line 0 lines
+-- how many lines an entry has that was answered so: its own, and where it kept a frame the rows of the screen
+abbrev pub line_count : Tree → Answer → ℕ
+line_count s a = if keeps_frame a then s.height + 1 else 1
+
+-- the colour of a digit, 0 to 9 and a to f; another letter is read as colour 0
+abbrev pub colour_at : ℕ → ℕ
+colour_at c = if nat_le 48 c && nat_le c 57 then c - 48 else if nat_le 97 c && nat_le c 102 then c - 87 else 0

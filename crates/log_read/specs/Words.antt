@@ -1,6 +1,7 @@
 -- The words of a log.
-use Rattle.std.specs.Prelude.{ℕ, List, [], ◌∷◌, ◌++◌, map, codes, decimal, unwrap_or, slice_get}
+use Rattle.std.specs.Prelude.{ℕ, List, [], ◌∷◌, ◌++◌, map, codes, decimal, unwrap_or, slice_get, Option, Some, None}
 use Rattle.std.specs.Fmt.{signed_decimal}
+use Rattle.std.specs.List.{flat_map}
 use Rattle.win_num.specs.Codes.{number_of}
 use Rattle.name_table.specs.Rows.{name_in}
 use Rattle.name_table.specs.Messages.{message_rows}
@@ -18,9 +19,10 @@ use Rattle.script_tree.specs.Tree.{Tree}
 use Rattle.log_text.specs.declared.end.End.{End}
 use Rattle.log_text.specs.Endings.{end_word}
 use Rattle.log_text.specs.Entries.{procedure_name}
+use Rattle.log_text.specs.Frames.{digit, rows}
 use Rattle.log_read.specs.declared.log.Extra.{Extra}
 use Rattle.log_read.specs.declared.log.Extra.TheVariants as extras
-use Rattle.log_read.specs.Logs.{LogTree}
+use Rattle.log_read.specs.Logs.{LogEntryTree, LogTree}
 
 -- a message, by its name where it has one
 abbrev pub message_word : ℕ → List ℕ
@@ -57,6 +59,23 @@ answer_words s a = (answer_row (answer_name a)).word ∷ map (value_word s) (ans
 abbrev pub entry_words : Tree → Entry → List (List ℕ)
 entry_words s e = decimal e.who.0 ∷ call_words s e.call (codes "=" ∷ answer_words s e.answer)
 
+-- the line of a row of a frame: one word, whose letters are the digits of the colours
+abbrev pub row_words : List ℕ → List (List ℕ)
+row_words row = map digit row ∷ []
+
+-- the lines of a frame, if there is one
+abbrev pub frame_words : Tree → Option (List ℕ) → List (List (List ℕ))
+frame_words s None = []
+frame_words s (Some colours) = map row_words (rows s.width s.height colours)
+
+-- the lines of an entry: its own, and those of its frame
+abbrev pub log_entry_words : Tree → LogEntryTree → List (List (List ℕ))
+log_entry_words s e = entry_words s e.entry ∷ frame_words s e.frame
+
+-- the lines of all entries
+abbrev pub entries_words : Tree → List LogEntryTree → List (List (List ℕ))
+entries_words s es = flat_map (log_entry_words s) es
+
 -- the line of the end
 abbrev pub end_words : End → List (List ℕ)
 end_words end = codes "end" ∷ end_word end ∷ []
@@ -74,7 +93,7 @@ counts_words c =
 
 -- the lines between the first and the last
 abbrev pub inner_words : Tree → LogTree → List (List (List ℕ))
-inner_words s l = map (entry_words s) l.entries ++ (end_words l.end ∷ map (extra_words s) l.extras)
+inner_words s l = entries_words s l.entries ++ (end_words l.end ∷ map (extra_words s) l.extras)
 
 -- all lines of a log
 abbrev pub log_words : Tree → LogTree → List (List (List ℕ))

@@ -1,7 +1,7 @@
 //! The lines after the entries from their words.
 
-ghost use Rattle.std.specs.Prelude.{◌≡◌, ◌<◌, List, length, map, option_map, find, Some, IfSome, IfOk};
-ghost use Rattle.std.specs.List.{AllByRecursion, position_from};
+ghost use Rattle.std.specs.Prelude.{◌≡◌, List, map, option_map, find, Some, IfSome, IfOk};
+ghost use Rattle.std.specs.List.{AllByRecursion};
 ghost use Rattle.std.specs.Str.{bytes_eq};
 ghost use Rattle.user_model.specs.declared.entry.SendCount.{SendCount};
 ghost use Rattle.script_lines.specs.Known.{known_of};
@@ -10,7 +10,7 @@ ghost use Rattle.script_lines.specs.NameLimits.{AreKnown};
 ghost use Rattle.log_text.specs.declared.end.End.{End};
 ghost use Rattle.log_read.specs.declared.log.Extra.{Extra};
 ghost use Rattle.log_read.specs.Limits.{IsExtra, AreCounts};
-ghost use Rattle.log_read.specs.Reading.{end_at, end_place, is_end_line};
+ghost use Rattle.log_read.specs.Reading.{end_at};
 ghost use Rattle.log_text.specs.Endings.{end_word};
 ghost use Rattle.log_read.specs.Words.{extra_words, counts_words};
 
@@ -23,27 +23,6 @@ use std::alloc::{AllocError, Global};
 use user_model::SendCount;
 
 static ENDS: [End; 4] = [End::Done, End::Stuck, End::Spent, End::Cut];
-
-/// Whether a line begins with an e, as that of the end does, and those of entries don't.
-fn is_end_line(text: &[u8]) -> bool
-    ensures { result ≡ is_end_line text.now }
-{
-    matches!(text, [b'e', ..])
-}
-
-/// The place of the line of the end.
-#[tactic(auto, unfolding(crate::specs::Reading::end_place))]
-pub fn end_place(lines: &[&[u8]]) -> Option<usize>
-    ensures found { result ≡ end_place (map (λ w. w.now) lines.now) }
-    ensures within { IfSome result (λ place. place < length lines.now) }
-{
-    for (place, text) in lines.iter().enumerate() {
-        if is_end_line(text) {
-            return Some(place);
-        }
-    }
-    None
-}
 
 /// The first of these ends that has the word.
 fn end_in(all: &[End], word: &[u8]) -> Option<End>

@@ -1,6 +1,6 @@
 //! Entries from their words.
 
-ghost use Rattle.std.specs.Prelude.{◌≡◌, ◌≤◌, ◌++◌, List, ℕ, length, map, option_map, Some, IfSome, IfOk};
+ghost use Rattle.std.specs.Prelude.{◌≡◌, ◌<◌, ◌≤◌, ◌++◌, ◌∷◌, List, ℕ, length, map, option_map, true, Some, IfSome, IfOk};
 ghost use Rattle.std.specs.List.{AllByRecursion};
 ghost use Rattle.user_model.specs.declared.call.Call.{Call};
 ghost use Rattle.user_model.specs.declared.entry.Answer.{Answer};
@@ -8,15 +8,19 @@ ghost use Rattle.user_model.specs.declared.entry.Entry.{Entry};
 ghost use Rattle.script_lines.specs.Known.{known_of};
 ghost use Rattle.script_lines.specs.LineTexts.{joined};
 ghost use Rattle.script_lines.specs.NameLimits.{AreKnown};
-ghost use Rattle.log_read.specs.Limits.{IsCall, IsAnswer, IsEntry, keeps_frame};
-ghost use Rattle.log_read.specs.Reading.{actor_at};
-ghost use Rattle.log_read.specs.Words.{call_words, answer_words, entry_words};
+ghost use Rattle.log_read.specs.Limits.{IsCall, IsAnswer, IsEntry, IsLogEntry, keeps_frame};
+ghost use Rattle.log_read.specs.Logs.{LogEntryTree};
+ghost use Rattle.log_read.specs.Reading.{actor_at, is_end_line, line_count};
+ghost use Rattle.log_read.specs.Words.{call_words, answer_words, entry_words, frame_words, entries_words};
 
+use crate::frames::frame_at;
+use crate::log::LogEntry;
 use crate::values::values_at;
 use answer_table::{answer_form, answer_named, answer_of_parts};
 use call_table::{call_form, call_name, call_named, call_of_parts};
 use log_text::Words;
 use script_lines::{number_at, split_at, word_at};
+use script_tree::Script;
 use std::alloc::{AllocError, Global};
 use user_model::{Answer, Call, Entry};
 use win_num::Thread;
@@ -62,14 +66,7 @@ fn answer_at(words: &Words, line: &[&[u8]], at: usize) -> Option<Answer>
     answer_of_parts(name, &values)
 }
 
-/// Whether the entry of an answer kept a frame, whose lines stand behind its own.
-fn keeps_frame(answer: Answer) -> bool
-    ensures { result ≡ keeps_frame answer }
-{
-    matches!(answer, Answer::Snap(_))
-}
-
-/// The entry with these words. None comes also where it kept a frame.
+/// The entry with these words.
 fn entry_at(words: &Words, line: &[&[u8]]) -> Option<Entry>
     requires named { AreKnown (known_of words.now.script.now) }
     ensures fits { IfSome result (IsEntry words.now.script.now) }
@@ -78,29 +75,89 @@ fn entry_at(words: &Words, line: &[&[u8]]) -> Option<Entry>
     let who = actor_at(word_at(line, 0))?;
     let call = call_at(words, line, 1)?;
     let answer = answer_at(words, line, 3 + call_form(call_name(call)).fields.len())?;
-    if keeps_frame(answer) {
-        return None;
-    }
     Some(Entry { who, call, answer })
 }
 
-/// The entries of these lines. None comes where one of them is none.
-pub fn entries_at(
+/// Whether the entry of an answer kept a frame, whose lines stand behind its own.
+fn keeps_frame(answer: Answer) -> bool
+    ensures { result ≡ keeps_frame answer }
+{
+    matches!(answer, Answer::Snap(_))
+}
+
+/// How many lines an entry has that was answered so: its own, and where it kept a frame the rows of the screen.
+fn line_count(script: &Script, answer: Answer) -> usize
+    ensures count { result ≡ line_count script.now answer }
+    ensures some { 0 < result }
+    ensures few { result ≤ 65536 }
+{
+    if keeps_frame(answer) {
+        usize::from(script.height()) + 1
+    } else {
+        1
+    }
+}
+
+/// The entry of this line, with its frame, where it kept one, from the first lines below.
+fn log_entry_at(
     alloc: Global,
     words: &Words,
-    lines: &[&[u8]],
-) -> Result<Option<Vec<Entry>>, AllocError>
+    text: &[u8],
+    below: &[&[u8]],
+) -> Result<Option<LogEntry>, AllocError>
     requires named { AreKnown (known_of words.now.script.now) }
-    ensures fits { IfOk result (λ found. IfSome found (λ es. AllByRecursion (IsEntry words.now.script.now) es.items)) }
-    ensures again { IfOk result (λ found. (es : List Entry) → AllByRecursion (IsEntry words.now.script.now) es → map (λ w. w.now) lines.now ≡ map joined (map (entry_words words.now.script.now) es) → option_map (λ v. v.items) found ≡ Some es) }
+    ensures fits { IfOk result (λ found. IfSome found (IsLogEntry words.now.script.now)) }
+    ensures again { IfOk result (λ found. (e : LogEntryTree) (rest : List (List ℕ)) → IsLogEntry words.now.script.now e → text.now ≡ joined (entry_words words.now.script.now e.entry) → map (λ w. w.now) below.now ≡ map joined (frame_words words.now.script.now e.frame) ++ rest → found ≡ Some e) }
+{
+    let line = split_at(alloc, text, b' ')?;
+    let Some(entry) = entry_at(words, &line) else {
+        return Ok(None);
+    };
+    if !keeps_frame(entry.answer) {
+        return Ok(Some(LogEntry::new(entry, None)));
+    }
+    let Some(colours) = frame_at(alloc, words.script, below)? else {
+        return Ok(None);
+    };
+    Ok(Some(LogEntry::new(entry, Some(colours))))
+}
+
+/// Whether a line that is no row of a frame begins with an e, as that of the end does, and those of entries don't.
+fn is_end_line(text: &[u8]) -> bool
+    ensures { result ≡ is_end_line text.now }
+{
+    matches!(text, [b'e', ..])
+}
+
+/// The entries of a log's lines, and the place of the line behind them, that of the end.
+#[derive(Drop)]
+pub struct Body {
+    pub entries: Vec<LogEntry>,
+    pub end_place: usize,
+}
+
+/// The entries of these lines, each with its frame, up to the line of the end. None comes where a line above it is
+/// none of an entry, where rows of a frame are wanting, or where no line is that of the end.
+pub fn entries_at(alloc: Global, words: &Words, lines: &[&[u8]]) -> Result<Option<Body>, AllocError>
+    requires named { AreKnown (known_of words.now.script.now) }
+    ensures fits { IfOk result (λ found. IfSome found (λ body. AllByRecursion (IsLogEntry words.now.script.now) body.entries.items)) }
+    ensures within { IfOk result (λ found. IfSome found (λ body. body.end_place < length lines.now)) }
+    ensures again { IfOk result (λ found. (es : List LogEntryTree) (end : List ℕ) (rest : List (List ℕ)) → AllByRecursion (IsLogEntry words.now.script.now) es → is_end_line end ≡ true → map (λ w. w.now) lines.now ≡ map joined (entries_words words.now.script.now es) ++ end ∷ rest → (option_map (λ body. body.entries.items) found ≡ Some es) × (option_map (λ body. body.end_place) found ≡ Some (length (entries_words words.now.script.now es)))) }
 {
     let mut entries = Vec::new(alloc);
-    for text in lines {
-        let line = split_at(alloc, text, b' ')?;
-        let Some(entry) = entry_at(words, &line) else {
+    let mut place = 0;
+    while place < lines.len() {
+        if is_end_line(lines[place]) {
+            return Ok(Some(Body {
+                entries,
+                end_place: place,
+            }));
+        }
+        let Some(entry) = log_entry_at(alloc, words, lines[place], &lines[place + 1..])? else {
             return Ok(None);
         };
+        place += line_count(words.script, entry.entry().answer);
         entries.push(entry)?;
     }
-    Ok(Some(entries))
+    Ok(None)
 }

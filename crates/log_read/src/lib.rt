@@ -6,11 +6,13 @@
 //! `end spent` any number of lines `spent T`, and none after the other two words; whether they are those of
 //! the run isn't told here. WHO and T are numbers from 0 to 15. A class, a title, a message that has a name and
 //! a procedure are written by their names, and those of classes, titles and procedures must be the script's.
-//! An entry answered `snap K` has kept a frame, whose lines stand behind its own: such an entry isn't read, and the text is refused.
+//! An entry answered `snap K` has kept a frame, and its lines stand behind that of the entry: a line for each row of the script's
+//! screen, the top one first, with one digit for each pixel, 0 to 9 and a to f. K is any number of 32 bits.
 #![tactic(auto)]
 
 mod ending;
 mod entries;
+mod frames;
 mod laws;
 mod log;
 mod parser;
@@ -19,7 +21,7 @@ mod values;
 mod writer;
 
 pub use laws::{one_log, run_is_its_log};
-pub use log::{Extra, Log};
+pub use log::{Extra, Log, LogEntry};
 pub use reader::read_log;
 pub use script_text::{ReadFault, Reason, Refusal};
 

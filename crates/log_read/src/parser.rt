@@ -8,8 +8,8 @@ ghost use Rattle.log_read.specs.Logs.{LogTree, spelling};
 ghost use Rattle.log_read.specs.Words.{inner_words, counts_words};
 ghost use Rattle.script_lines.specs.LineTexts.{joined};
 
-use crate::ending::{counts_at, end_at, end_place, extras_at};
-use crate::entries::entries_at;
+use crate::ending::{counts_at, end_at, extras_at};
+use crate::entries::{Body, entries_at};
 use crate::log::Log;
 use log_text::Words;
 use script_lines::{split_at, texts_of, word_at};
@@ -26,17 +26,15 @@ fn log_at(
     ensures fits { IfOk result (λ found. IfSome found (IsLog words.now.script.now)) }
     ensures again { IfOk result (λ found. (l : LogTree) → IsLog words.now.script.now l → map (λ w. w.now) lines.now ≡ map joined (inner_words words.now.script.now l) → last.now ≡ joined (counts_words l.sends) → found ≡ Some l) }
 {
-    let Some(place) = end_place(lines) else {
+    let Some(body) = entries_at(alloc, words, lines)? else {
         return Ok(None);
     };
-    let Some(entries) = entries_at(alloc, words, &lines[..place])? else {
-        return Ok(None);
-    };
-    let end_line = split_at(alloc, lines[place], b' ')?;
+    let Body { entries, end_place } = body;
+    let end_line = split_at(alloc, lines[end_place], b' ')?;
     let Some(end) = end_at(word_at(&end_line, 1)) else {
         return Ok(None);
     };
-    let Some(extras) = extras_at(alloc, words, end, &lines[place + 1..])? else {
+    let Some(extras) = extras_at(alloc, words, end, &lines[end_place + 1..])? else {
         return Ok(None);
     };
     let counts = split_at(alloc, last, b' ')?;

@@ -22,9 +22,20 @@ const SENDS_LOG: &[u8] =
 
 const COUNTS: &[u8] = b"sends begun 0 entered 0 proc 0 reply 0 loss 0 timeout 0 open 0\n";
 
+/// A script whose screen is one pixel wide.
+const NARROW: &[u8] = b"user 1\nscreen 1 3\nbudget 9\norder\nthread\nend\n";
+
+const FRAMES: &[u8] =
+    b"log 1\n1 snap = snap 1\n01234567\n89abcdef\neeeeeeee\n10000000\n2 yield = ok\n2 snap = snap 2\n00000000\n0000000f\nf0000000\n00000000\nend done\nsends begun 0 entered 0 proc 0 reply 0 loss 0 timeout 0 open 0\n";
+
 /// Whether a text is read as a log of the script.
 fn is_read(alloc: Global, text: &[u8]) -> Result<bool, Fail> {
-    let script = script_text::read(alloc, SCRIPT)?;
+    is_read_of(alloc, SCRIPT, text)
+}
+
+/// Whether a text is read as a log of this script.
+fn is_read_of(alloc: Global, script: &[u8], text: &[u8]) -> Result<bool, Fail> {
+    let script = script_text::read(alloc, script)?;
     match read_log(alloc, &script, text) {
         Ok(_) => Ok(true),
         Err(ReadFault::Refused(refusal)) => {
@@ -39,10 +50,15 @@ fn is_read(alloc: Global, text: &[u8]) -> Result<bool, Fail> {
 
 /// Whether a log of these lines, with no sends, is read.
 fn are_read(alloc: Global, lines: &[u8]) -> Result<bool, Fail> {
+    are_read_of(alloc, SCRIPT, lines)
+}
+
+/// The same of this script.
+fn are_read_of(alloc: Global, script: &[u8], lines: &[u8]) -> Result<bool, Fail> {
     let mut text = Vec::from_slice(alloc, b"log 1\n")?;
     text.extend_from_slice(lines)?;
     text.extend_from_slice(COUNTS)?;
-    is_read(alloc, &text)
+    is_read_of(alloc, script, &text)
 }
 
 #[test]
@@ -50,9 +66,10 @@ fn parts(rt: HostRuntime) -> Result<(), Fail> {
     let script = script_text::read(rt.alloc(), SCRIPT)?;
     let log = read_log(rt.alloc(), &script, WHOLE)?;
     assert_eq!(rt; log.entries().len(), 16);
-    assert_eq!(rt; log.entries()[0].call, Call::Register(0, 0, 0));
+    assert_eq!(rt; log.entries()[0].entry().call, Call::Register(0, 0, 0));
+    assert!(rt; log.entries()[0].frame().is_none());
     assert_eq!(rt;
-        log.entries()[1].call,
+        log.entries()[1].entry().call,
         Call::NewWindow(
             0,
             1,
@@ -65,16 +82,19 @@ fn parts(rt: HostRuntime) -> Result<(), Fail> {
             -9223372036854775808
         )
     );
-    assert_eq!(rt; log.entries()[4].answer, Answer::Refused(Code::Full));
     assert_eq!(rt;
-        log.entries()[10].answer,
+        log.entries()[4].entry().answer,
+        Answer::Refused(Code::Full)
+    );
+    assert_eq!(rt;
+        log.entries()[10].entry().answer,
         Answer::Done {
             result: 3,
             cause: Cause::Proc
         }
     );
-    assert_eq!(rt; log.entries()[9].answer, Answer::Left(SendId(1)));
-    assert_eq!(rt; log.entries()[14].who, Thread(15));
+    assert_eq!(rt; log.entries()[9].entry().answer, Answer::Left(SendId(1)));
+    assert_eq!(rt; log.entries()[14].entry().who, Thread(15));
     assert_eq!(rt; log.end(), End::Stuck);
     assert_eq!(rt;
         log.extras(),
@@ -227,5 +247,123 @@ fn printed_log(rt: HostRuntime) -> Result<(), Fail> {
     assert_eq!(rt; log.entries().len(), 46);
     assert_eq!(rt; log.end(), End::Done);
     assert_eq!(rt; log.extras().len(), 0);
+    Ok(())
+}
+
+/// Whether an entry kept a frame of these colours.
+fn has_frame(entry: &LogEntry, colours: &[u8]) -> bool {
+    match entry.frame() {
+        Some(frame) => frame == colours,
+        None => false,
+    }
+}
+
+#[test]
+fn frames(rt: HostRuntime) -> Result<(), Fail> {
+    let script = script_text::read(rt.alloc(), SCRIPT)?;
+    let log = read_log(rt.alloc(), &script, FRAMES)?;
+    assert_eq!(rt; log.entries().len(), 3);
+    assert_eq!(rt; log.entries()[0].entry().answer, Answer::Snap(1));
+    assert!(rt;
+        has_frame(
+            &log.entries()[0],
+            b"\x00\x01\x02\x03\x04\x05\x06\x07\x08\x09\x0a\x0b\x0c\x0d\x0e\x0f\x0e\x0e\x0e\x0e\x0e\x0e\x0e\x0e\x01\x00\x00\x00\x00\x00\x00\x00"
+        )
+    );
+    assert!(rt; log.entries()[1].frame().is_none());
+    assert!(rt;
+        has_frame(
+            &log.entries()[2],
+            b"\x00\x00\x00\x00\x00\x00\x00\x00\x00\x00\x00\x00\x00\x00\x00\x0f\x0f\x00\x00\x00\x00\x00\x00\x00\x00\x00\x00\x00\x00\x00\x00\x00"
+        )
+    );
+    Ok(())
+}
+
+#[test]
+fn frame_rows(rt: HostRuntime) -> Result<(), Fail> {
+    for (lines, want) in [
+        (
+            b"1 snap = snap 1\n01234567\n89abcdef\neeeeeeee\n10000000\nend done\n".as_slice(),
+            true,
+        ),
+        // Rows too short and too long, also where the number of all digits is right.
+        (
+            b"1 snap = snap 1\n01234567\n89abcde\neeeeeeee\n10000000\nend done\n",
+            false,
+        ),
+        (
+            b"1 snap = snap 1\n01234567\n89abcdef0\neeeeeeee\n10000000\nend done\n",
+            false,
+        ),
+        (
+            b"1 snap = snap 1\n01234567\n89abcde\nfeeeeeeee\n10000000\nend done\n",
+            false,
+        ),
+        // Letters that are no digits of colours.
+        (
+            b"1 snap = snap 1\n01234567\n89abcdeg\neeeeeeee\n10000000\nend done\n",
+            false,
+        ),
+        (
+            b"1 snap = snap 1\n01234567\n89ABCDEF\neeeeeeee\n10000000\nend done\n",
+            false,
+        ),
+        (
+            b"1 snap = snap 1\n01234567\n89abc ef\neeeeeeee\n10000000\nend done\n",
+            false,
+        ),
+        // Rows too few, none, and too many.
+        (
+            b"1 snap = snap 1\n01234567\n89abcdef\neeeeeeee\nend done\n",
+            false,
+        ),
+        (b"1 snap = snap 1\nend done\n", false),
+        (
+            b"1 snap = snap 1\n01234567\n89abcdef\neeeeeeee\n10000000\n10000000\nend done\n",
+            false,
+        ),
+        (
+            b"1 snap = snap 1\n01234567\n89abcdef\neeeeeeee\n10000000\n",
+            false,
+        ),
+        // Frames behind entries that kept none, and above their entries.
+        (
+            b"1 snap = refused full\n01234567\n89abcdef\neeeeeeee\n10000000\nend done\n",
+            false,
+        ),
+        (
+            b"1 yield = ok\n01234567\n89abcdef\neeeeeeee\n10000000\nend done\n",
+            false,
+        ),
+        (
+            b"01234567\n89abcdef\neeeeeeee\n10000000\n1 snap = snap 1\nend done\n",
+            false,
+        ),
+        // The largest number of a frame, and one more.
+        (
+            b"1 snap = snap 4294967295\n01234567\n89abcdef\neeeeeeee\n10000000\nend done\n",
+            true,
+        ),
+        (
+            b"1 snap = snap 4294967296\n01234567\n89abcdef\neeeeeeee\n10000000\nend done\n",
+            false,
+        ),
+    ] {
+        assert_eq!(rt; are_read(rt.alloc(), lines)?, want);
+    }
+    Ok(())
+}
+
+#[test]
+fn narrow_frames(rt: HostRuntime) -> Result<(), Fail> {
+    for (lines, want) in [
+        (b"1 snap = snap 1\ne\n1\ne\nend done\n".as_slice(), true),
+        (b"1 snap = snap 1\ne\n1\nend done\n", false),
+        (b"1 snap = snap 1\ne\n1\ne\ne\nend done\n", false),
+        (b"1 snap = snap 1\ne\n\ne\nend done\n", false),
+    ] {
+        assert_eq!(rt; are_read_of(rt.alloc(), NARROW, lines)?, want);
+    }
     Ok(())
 }

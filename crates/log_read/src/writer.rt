@@ -3,21 +3,26 @@
 ghost use Rattle.std.specs.Prelude.{◌≡◌, OnOk, IfOk};
 ghost use Rattle.std.specs.List.{flat_map};
 ghost use Rattle.user_io.specs.Text.{Adds};
-ghost use Rattle.log_text.specs.Entries.{entry_line};
-ghost use Rattle.log_read.specs.Logs.{extra_line, spelling};
+ghost use Rattle.log_read.specs.Logs.{log_entry_text, extra_line, spelling};
 
-use crate::log::{Extra, Log};
-use log_text::{Words, put_end_line, put_entry, put_sends_line, put_spent, put_waits};
+use crate::log::{Extra, Log, LogEntry};
+use log_text::{Words, put_end_line, put_sends_line, put_spent, put_waits, put_whole_entry};
 use std::alloc::{AllocError, Global};
 use user_io::text::put_text;
-use user_model::Entry;
 
-/// Adds the lines of entries.
-fn put_entries(out: &mut Vec<u8>, words: &Words, entries: &[Entry]) -> Result<(), AllocError>
-    ensures { OnOk result (Adds out.old.items out.new.items (flat_map (entry_line words.now.script.now) entries.now)) }
+/// Adds the line of an entry, and the lines of its frame.
+fn put_log_entry(out: &mut Vec<u8>, words: &Words, entry: &LogEntry) -> Result<(), AllocError>
+    ensures { OnOk result (Adds out.old.items out.new.items (log_entry_text words.now.script.now entry.now)) }
+{
+    put_whole_entry(out, words, entry.entry(), entry.frame())
+}
+
+/// Adds the lines of entries, and of their frames.
+fn put_entries(out: &mut Vec<u8>, words: &Words, entries: &[LogEntry]) -> Result<(), AllocError>
+    ensures { OnOk result (Adds out.old.items out.new.items (flat_map (log_entry_text words.now.script.now) entries.now)) }
 {
     for entry in entries {
-        put_entry(out, words, *entry)?;
+        put_log_entry(out, words, entry)?;
     }
     Ok(())
 }

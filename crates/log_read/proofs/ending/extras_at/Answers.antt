@@ -5,8 +5,9 @@ use Rattle.script_lines.specs.LineReading.{split_at}
 use Rattle.script_lines.proofs.TextsAgain.{line_split}
 use Rattle.log_read.specs.Limits.{IsExtra}
 use Rattle.log_read.specs.Words.{extra_words}
-use Rattle.log_read.proofs.LineLoops.{Rest, next_line, at_end, all_push}
+use Rattle.log_read.proofs.LineLoops.{Rest, next_line, at_end}
 use Rattle.log_read.proofs.LineWords.{extra_is_words}
+use Rattle.log_read.proofs.ListLaws.{all_push}
 use Rattle.log_read.proofs.OneLog.{some_same}
 use Rattle.log_read.proofs.ending.extras_at.Goals as goal
 

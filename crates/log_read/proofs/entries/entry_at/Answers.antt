@@ -1,9 +1,7 @@
 use Rattle.std.proofs.Common.{Option, ◌+◌, [], ◌∷◌, length, Some, ap, ◌∙◌, sym, refl}
 use Rattle.std.specs.Prelude.{codes, decimal}
-use Rattle.std.proofs.lemmas.Bool.{false≢true}
 use Rattle.call_table.specs.Calls.{call_row, call_name}
 use Rattle.user_model.specs.declared.entry.Entry.{Entry}
-use Rattle.log_read.specs.Limits.{keeps_frame}
 use Rattle.log_read.specs.Reading.{actor_at}
 use Rattle.log_read.specs.Words.{call_words, answer_words}
 use Rattle.log_read.proofs.EntryParts.{actor_here, before_answer, answer_behind, answer_place}
@@ -30,14 +28,6 @@ returns-in_err-answer-clause-again c e fits same =
     let place = ap (λ r. 3 + length r.fields) c.call_form.ensures ∙ ap (λ n. 3 + length (call_row n).fields) (c.call_name.ensures ∙ ap call_name call) in
     let answer = c.in_err-answer.ensures.again e.answer (before_answer s e) fits.answer (answer_behind s e _ same) (answer_place s e _ place) in
     absurd (cc answer)
-
-pub returns-then-keeps_frame-clause-again : goal.returns-then-keeps_frame-clause-again
-returns-then-keeps_frame-clause-again c e fits same =
-    let s = c.args.words.now.script.now in
-    let call = some_same _ _ (c.in_ok-call.ensures.again e.call (decimal e.who.0 ∷ []) (codes "=" ∷ answer_words s e.answer) fits.call same refl) in
-    let place = ap (λ r. 3 + length r.fields) c.call_form.ensures ∙ ap (λ n. 3 + length (call_row n).fields) (c.call_name.ensures ∙ ap call_name call) in
-    let answer = some_same _ _ (c.in_ok-answer.ensures.again e.answer (before_answer s e) fits.answer (answer_behind s e _ same) (answer_place s e _ place)) in
-    absurd (false≢true (sym fits.frameless ∙ ap keeps_frame (sym answer) ∙ sym c.keeps_frame.ensures ∙ c.if-keeps_frame.true))
 
 pub returns-clause-again : goal.returns-clause-again
 returns-clause-again c e fits same =

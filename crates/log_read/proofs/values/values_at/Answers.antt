@@ -2,7 +2,7 @@ use Rattle.std.proofs.Common.{ap, ◌∙◌, [], ◌∷◌, length, arith}
 use Rattle.std.proofs.lemmas.List.{length-append}
 use Rattle.log_read.specs.Limits.{IsValue}
 use Rattle.log_read.specs.Reading.{value_at}
-use Rattle.log_read.proofs.LineLoops.{all_push}
+use Rattle.log_read.proofs.ListLaws.{all_push}
 use Rattle.log_read.proofs.ValueLoops.{values_none, values_more, values_over}
 use Rattle.log_read.proofs.values.values_at.Goals as goal
 
