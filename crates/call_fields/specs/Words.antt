@@ -12,6 +12,7 @@ abbrev pub source_word : Origin → List ℕ
 source_word origins.Posted = codes "posted"
 source_word origins.Quit = codes "quit"
 source_word origins.Paint = codes "paint"
+source_word origins.Timer = codes "timer"
 
 -- how a send came to its answer
 abbrev pub cause_word : Cause → List ℕ

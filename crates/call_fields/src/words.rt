@@ -14,6 +14,7 @@ pub fn source_word(source: Origin) -> &'static [u8]
         Origin::Posted => b"posted",
         Origin::Quit => b"quit",
         Origin::Paint => b"paint",
+        Origin::Timer => b"timer",
     }
 }
 

@@ -1,4 +1,4 @@
-//! Calls of the clock, and the end of a thread, one row each.
+//! Calls of the clock, on timers, and the end of a thread, one row each.
 
 ghost use Rattle.std.specs.Prelude.{◌≡◌, option_map};
 ghost use Rattle.call_fields.specs.Forms.{read_form};
@@ -15,6 +15,8 @@ use user_model::Call;
 /// The names of these calls.
 #[derive(Clone, Copy, Debug, PartialEq, Eq)]
 pub enum ClockCall {
+    SetTimer,
+    KillTimer,
     EndThread,
     Clock,
     SleepUntil,
@@ -24,7 +26,9 @@ pub enum ClockCall {
 }
 
 /// These calls.
-pub static CLOCK_CALLS: [CallName; 6] = [
+pub static CLOCK_CALLS: [CallName; 8] = [
+    Clock(ClockCall::SetTimer),
+    Clock(ClockCall::KillTimer),
     Clock(ClockCall::EndThread),
     Clock(ClockCall::Clock),
     Clock(ClockCall::SleepUntil),
@@ -38,6 +42,8 @@ pub fn clock_form(name: ClockCall) -> Form
     ensures { read_form result ≡ clock_row name }
 {
     match name {
+        ClockCall::SetTimer => row_of(b"set_timer", &[Number, Number, Number]),
+        ClockCall::KillTimer => row_of(b"kill_timer", &[Number, Number]),
         ClockCall::EndThread => row_of(b"end_thread", &[]),
         ClockCall::Clock => row_of(b"clock", &[]),
         ClockCall::SleepUntil => row_of(b"sleep_until", &[Number]),
@@ -52,6 +58,10 @@ pub fn split_clock(call: Call) -> Option<SplitCall>
     ensures { option_map read_split result ≡ split_clock call }
 {
     match call {
+        Call::SetTimer(window, id, ms) => {
+            split_numbers(Clock(ClockCall::SetTimer), &[window, id, ms])
+        }
+        Call::KillTimer(window, id) => split_numbers(Clock(ClockCall::KillTimer), &[window, id]),
         Call::EndThread => split_numbers(Clock(ClockCall::EndThread), &[]),
         Call::Clock => split_numbers(Clock(ClockCall::Clock), &[]),
         Call::SleepUntil(time) => split_numbers(Clock(ClockCall::SleepUntil), &[time]),
@@ -68,6 +78,8 @@ pub fn made_clock(name: ClockCall, values: &[Value]) -> Call
 {
     let numbers = numbers_at(values);
     match name {
+        ClockCall::SetTimer => Call::SetTimer(numbers[0], numbers[1], numbers[2]),
+        ClockCall::KillTimer => Call::KillTimer(numbers[0], numbers[1]),
         ClockCall::EndThread => Call::EndThread,
         ClockCall::Clock => Call::Clock,
         ClockCall::SleepUntil => Call::SleepUntil(numbers[0]),

@@ -13,12 +13,15 @@ use win_num::Thread;
 /// How many steps a compound has here at most.
 const STEPS: u32 = 100;
 
+/// A window is being made (Microsoft, WM_NCCREATE message).
+const WM_NCCREATE: u32 = 129;
+
 /// A window of class 0 with title 1, which is the first and gets number 16.
 const CREATE: Compound = Compound::Create(0, 1, 0, 0, 0, 0, 0, 8, 4);
 
 /// The procedure of the class: it takes the window at WM_NCCREATE, and has 0 for any other message.
 fn procedure(number: u32) -> u64 {
-    if number == 129 { 1 } else { 0 }
+    if number == WM_NCCREATE { 1 } else { 0 }
 }
 
 /// Whether a call can have this answer: no machine answers `leave` with `enter`.

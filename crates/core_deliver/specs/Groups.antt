@@ -1,12 +1,12 @@
 -- Which layer answers a call.
 use Rattle.std.specs.Prelude.{Bool, true, false}
 use Rattle.user_model.specs.declared.call.Call.{Call}
-use Rattle.user_model.specs.declared.call.Call.TheVariants.{Peek, Get, Post, PostThread, PostQuit, Dispatch, Send, SendTimeout, SendNotify, SendCallback, Await, Leave, Reply, InSend, Message, Register, Unregister, NewWindow, Doom, Unmake, Drop, Place, Show, Find, AwaitTitle, NextTop, WindowAt, IsWindow, Parent, Invalidate, Validate, UpdateRect, BeginPaint, EndPaint, Fill, Erase, Snap, EndThread, Clock, SleepUntil, Yield, Tick, Advance}
+use Rattle.user_model.specs.declared.call.Call.TheVariants.{Peek, Get, Post, PostThread, PostQuit, Dispatch, Send, SendTimeout, SendNotify, SendCallback, Await, Leave, Reply, InSend, Message, Register, Unregister, NewWindow, Doom, Unmake, Drop, Place, Show, Find, AwaitTitle, NextTop, WindowAt, IsWindow, Parent, Invalidate, Validate, UpdateRect, BeginPaint, EndPaint, Fill, Erase, Snap, SetTimer, KillTimer, EndThread, Clock, SleepUntil, Yield, Tick, Advance}
 use Rattle.core_deliver.specs.declared.groups.Group.{Group}
 use Rattle.core_deliver.specs.declared.groups.Group.TheVariants.{Retrieval, Delivery, Window, Drawing, Other}
 
 -- the group of each call: it asks for a message; it posts, sends, hands a message to a procedure, is made inside or after a send,
--- or registers a message; it is about classes or windows; it is about dirty pixels, painting, colours or frames; or it is about time, or ends a thread
+-- or registers a message; it is about classes or windows; it is about dirty pixels, painting, colours or frames; or it is about time or timers, or ends a thread
 abbrev pub group_of : Call → Group
 group_of (Peek w min max flags) = Retrieval
 group_of (Get w min max) = Retrieval
@@ -45,6 +45,8 @@ group_of (EndPaint w) = Drawing
 group_of (Fill w l t r b colour) = Drawing
 group_of (Erase w) = Drawing
 group_of Snap = Drawing
+group_of (SetTimer w id ms) = Other
+group_of (KillTimer w id) = Other
 group_of EndThread = Other
 group_of Clock = Other
 group_of (SleepUntil time) = Other

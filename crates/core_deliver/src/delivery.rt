@@ -4,7 +4,7 @@ ghost use Rattle.std.specs.Prelude.{◌≡◌, ◌<◌, ◌≤◌, false};
 ghost use Rattle.user_model.specs.Past.{is_full};
 ghost use Rattle.user_model.specs.Filters.{is_no_filter_window};
 ghost use Rattle.user_model.specs.Places.{clock, cursor};
-ghost use Rattle.user_model.specs.Next.{next, next_paint, next_posted, next_quit};
+ghost use Rattle.user_model.specs.Next.{next, next_paint, next_posted, next_quit, next_timer};
 ghost use Rattle.user_model.specs.Posts.{message};
 ghost use Rattle.user_model.specs.ReplyDelivery.{get_reply, peek_reply, post_reply, post_thread_reply, post_to};
 
@@ -26,7 +26,7 @@ fn is_no_filter_window(state: &CoreState, who: u8, w: u64) -> bool
     !state.is_live(w) || state.thread_of(w) != who
 }
 
-/// What is ready, else the first posted message that passes, else quit, else painting.
+/// What is ready, else the first posted message that passes, else quit, else painting, else a timer.
 fn next(state: &CoreState, who: u8, filter: Filter) -> Option<Answer>
     requires some { 0 < who }
     requires known { who ≤ state.now.setup.threads }
@@ -41,7 +41,10 @@ fn next(state: &CoreState, who: u8, filter: Filter) -> Option<Answer>
     if let Some(answer) = next_quit(state, who) {
         return Some(answer);
     }
-    next_paint(state, who, filter)
+    if let Some(answer) = next_paint(state, who, filter) {
+        return Some(answer);
+    }
+    next_timer(state, who, filter)
 }
 
 /// The first posted message that passes.
@@ -81,6 +84,16 @@ fn next_paint(state: &CoreState, who: u8, filter: Filter) -> Option<Answer>
 {
     match state.to_paint(who, filter) {
         Some(window) => Some(got(state, Origin::Paint, window, names::WM_PAINT, 0)),
+        None => None,
+    }
+}
+
+/// WM_TIMER of the first due timer that passes.
+fn next_timer(state: &CoreState, who: u8, filter: Filter) -> Option<Answer>
+    ensures { result ≡ next_timer state.now.past who filter }
+{
+    match state.due_timer(who, filter) {
+        Some(timer) => Some(got(state, Origin::Timer, timer.hwnd, names::WM_TIMER, timer.id)),
         None => None,
     }
 }

@@ -16,7 +16,7 @@ pub enum Group {
     Window,
     /// It is about dirty pixels, painting, colours and frames, and `core_draw` answers it.
     Drawing,
-    /// It is about time, or ends a thread, and the machine answers it.
+    /// It is about time or timers, or ends a thread, and the machine answers it.
     Other,
 }
 
@@ -61,7 +61,9 @@ fn group_of(call: Call) -> Group
         | Call::Fill(..)
         | Call::Erase(..)
         | Call::Snap => Group::Drawing,
-        Call::EndThread
+        Call::SetTimer(..)
+        | Call::KillTimer(..)
+        | Call::EndThread
         | Call::Clock
         | Call::SleepUntil(..)
         | Call::Yield

@@ -119,6 +119,7 @@ both_now past ws t who answers.Okay call v e = ap (λ (c : Change). changed t c 
 both_now past ws t who (answers.Got origins.Posted n m) call v e = refl
 both_now past ws t who (answers.Got origins.Quit n m) call v e = refl
 both_now past ws t who (answers.Got origins.Paint n m) call v e = none_twice t (removes call) v
+both_now past ws t who (answers.Got origins.Timer n m) call v e = none_twice t (removes call) v
 both_now past ws t who _ call v e = refl
 
 -- what is added and then what is settled make the change of the entry

@@ -11,6 +11,7 @@ pub mod SendLosses
 pub mod SendNeeds
 pub mod SendStacks
 pub mod SendSteps
+pub mod Timing
 pub mod Tops
 pub mod Running
 pub mod SendNumbers

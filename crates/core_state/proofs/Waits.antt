@@ -14,7 +14,7 @@ use Rattle.user_model.specs.declared.entry.Setup.{Setup}
 use Rattle.user_model.specs.Past.{Past, first}
 use Rattle.user_model.specs.Stacks.{stack, stacked, top}
 use Rattle.user_model.specs.Replies.{is_barred_by}
-use Rattle.user_model.specs.Idle.{is_wait, last_entry, one_of, times_of, times_of_call}
+use Rattle.user_model.specs.Idle.{is_wait, last_entry, least_of, one_of, times_of, times_of_call}
 use Rattle.user_model.specs.ReplySends.{deadline}
 use Rattle.core_state.specs.Frames.{wait_end}
 use Rattle.user_model.specs.Legal.{IsLawful}
@@ -94,6 +94,11 @@ times_none past t (Some e) h = by (is_wait e.answer) h
     by : (b : Bool) → cond b (Some e.call) None ≡ None → cond b (times_of_call past t e.call) [] ≡ []
     by true k = absurd cc
     by false k = refl
+
+-- the least of one time is that time
+pub least_alone : (o : Option ℕ) → least_of (one_of o) ≡ o
+least_alone None = refl
+least_alone (Some m) = refl
 
 -- a wait for a send ends when that gives up
 pub await_times : (setup : Setup) (past : Past) (t s : ℕ) → IsLawful setup past → waiting_call (last_entry past t) ≡ Some (Await s) → one_of (option_and_then (wait_end past) (top past t)) ≡ times_of past t (last_entry past t)

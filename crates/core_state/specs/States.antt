@@ -13,6 +13,8 @@ use Rattle.send_state.specs.Stories.{StoriesStand}
 use Rattle.send_state.specs.Tallies.{tally_at}
 use Rattle.user_model.specs.declared.story.SendStory.{SendStory}
 use Rattle.send_state.specs.declared.tally.Tally.{Tally}
+use Rattle.timer_source.specs.declared.setting.Setting.{Setting}
+use Rattle.timer_state.specs.TimerLists.{timers_at}
 use Rattle.window_state.specs.ClassTables.{classes_at}
 use Rattle.thread_state.specs.Threads.{ThreadView, thread_at}
 use Rattle.win_order.specs.Layers.{Layers}
@@ -32,6 +34,7 @@ pub record Parts : Type 0 where
   pub display : Shown
   pub classes : ClassTable
   pub threads : List ThreadView
+  pub timers : List Setting
   pub post_count : ℕ
   pub time : ℕ
   pub sends : SendParts
@@ -39,8 +42,8 @@ pub record Parts : Type 0 where
   pub stories : List SendStory
 
 -- the parts from their values
-abbrev pub parts : Windows → Layers → Shown → ClassTable → List ThreadView → ℕ → ℕ → SendParts → Tally → List SendStory → Parts
-parts tree order display classes threads post_count time sends tally stories = record { tree = tree; order = order; display = display; classes = classes; threads = threads; post_count = post_count; time = time; sends = sends; tally = tally; stories = stories }
+abbrev pub parts : Windows → Layers → Shown → ClassTable → List ThreadView → List Setting → ℕ → ℕ → SendParts → Tally → List SendStory → Parts
+parts tree order display classes threads timers post_count time sends tally stories = record { tree = tree; order = order; display = display; classes = classes; threads = threads; timers = timers; post_count = post_count; time = time; sends = sends; tally = tally; stories = stories }
 
 -- each thread's part is what the past says of the thread
 pub record EachThread (past : Past) (threads : List ThreadView) : Type 0 where
@@ -56,6 +59,7 @@ pub record Stands (setup : Setup) (past : Past) (p : Parts) : Type 0 where
   pub classes : p.classes ≡ classes_at past
   pub count : length p.threads ≡ setup.threads
   pub each : EachThread past p.threads
+  pub timers : p.timers ≡ timers_at past
   pub posts : p.post_count ≡ length (posts past)
   pub clock : p.time ≡ clock past
   pub sends : PartsStand setup past p.sends

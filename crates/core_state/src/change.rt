@@ -1,7 +1,7 @@
 //! What one more entry does to the parts. First comes the one change that may want memory, then what
 //! can't fail.
 
-ghost use Rattle.std.specs.Prelude.{◌≡◌, true, false, OnOk, OnErr};
+ghost use Rattle.std.specs.Prelude.{◌≡◌, ◌<◌, true, false, OnOk, OnErr};
 ghost use Rattle.thread_queues.specs.Changes.{changed};
 ghost use Rattle.thread_queues.specs.Deliveries.{carried_in, adding_in, effect_in};
 ghost use Rattle.window_state.specs.Effects.{IsAddedBy, named_by, carried_classes, carried_tree, added_classes, affected_classes, IsAffected};
@@ -11,6 +11,8 @@ ghost use Rattle.core_state.specs.Sendings.{FitsAddedSends, added_sends};
 ghost use Rattle.thread_queues.specs.Queues.{EachBy};
 ghost use Rattle.display_state.specs.Displays.{DrawsDisplay, IsPainting};
 ghost use Rattle.screen_state.specs.Screens.{draws};
+ghost use Rattle.timer_state.specs.Changes.{FitsAddedTimers, added_timers};
+ghost use Rattle.win_num.specs.Clocks.{clock_limit};
 ghost use Rattle.window_state.specs.Orders.{FitsLeaving, FitsOrder, FitsOrderEffect, FitsReordering, IsOrderAdded, affected_order, carried_order, reordered_by};
 
 use crate::sendings::begin;
@@ -19,6 +21,8 @@ use send_state::SendState;
 use std::alloc::{AllocError, Global};
 use thread_queues::{Stamp, end, post, posting, purge_kin, set_quit, take};
 use thread_state::ThreadState;
+use timer_source::Timers;
+use timer_state::set_timer;
 use user_model::{Answer, Call, Entry};
 use win_class::Classes;
 use win_num::Thread;
@@ -28,13 +32,14 @@ use window_state::{
     doom, drop_window, leave, make, name, relook, reorder, unmake, unregister, window_or_none,
 };
 
-/// Adds a post, a class, a message's name, a window or a send, puts a window elsewhere among its siblings, changes
+/// Adds a post, a class, a message's name, a window, a send or a timer, puts a window elsewhere among its siblings, changes
 /// dirty pixels, begun painting and colours, or keeps a frame, as the answer says. After want of memory nothing has changed.
 pub fn add_item(
     classes: &mut Classes,
     tree: &mut Tree,
     order: &mut Order,
     threads: &mut Vec<ThreadState>,
+    timers: &mut Timers,
     sends: &mut SendState,
     display: &mut Display,
     stamp: Stamp,
@@ -44,11 +49,14 @@ pub fn add_item(
     requires order { FitsOrder entry.who.0 entry.answer entry.call tree.old order.old }
     requires sends { FitsAddedSends tree.old.live stamp.time stamp.place entry.who entry.answer entry.call sends.old }
     requires drawing { IsPainting tree.old classes.old entry }
+    requires timers { FitsAddedTimers tree.old.live entry.who timers.old entry.answer entry.call }
+    requires early { stamp.time < clock_limit }
     ensures classes { OnOk result (classes.new ≡ added_classes entry.answer entry.call classes.old) }
     ensures tree { OnOk result (IsAddedBy entry.who.0 entry.answer entry.call tree.old tree.new) }
     ensures order { OnOk result (IsOrderAdded entry.answer entry.call tree.old tree.new order.old order.new) }
     ensures threads { OnOk result (EachBy (λ t. changed t (adding_in tree.old.live stamp.time stamp.cursor entry.who.0 entry.answer entry.call)) threads.old.items threads.new.items) }
     ensures sends { OnOk result (sends.new ≡ added_sends tree.old.live stamp.time stamp.place entry.who entry.answer entry.call sends.old) }
+    ensures timers { OnOk result (timers.new ≡ added_timers entry.who stamp.time entry.answer entry.call timers.old) }
     ensures drawn { OnOk result (draws entry.call entry.answer ≡ true → DrawsDisplay tree.old classes.old entry display.old display.new) }
     ensures display { OnOk result (draws entry.call entry.answer ≡ false → display.new ≡ display.old) }
     ensures classes_stay { OnErr result (classes.new ≡ classes.old) }
@@ -56,6 +64,7 @@ pub fn add_item(
     ensures order_stays { OnErr result (order.new ≡ order.old) }
     ensures threads_stay { OnErr result (threads.new.items ≡ threads.old.items) }
     ensures sends_stay { OnErr result (sends.new ≡ sends.old) }
+    ensures timers_stay { OnErr result (timers.new ≡ timers.old) }
     ensures display_stays { OnErr result (display.new ≡ display.old) }
 {
     let alloc = *threads.allocator();
@@ -67,9 +76,11 @@ pub fn add_item(
         Answer::Value(_) => register(alloc, classes, order, entry.call),
         Answer::Window(_) => make(alloc, tree, order, entry.who, entry.call),
         Answer::Inside(_, _) | Answer::Begun(_) => begin(sends, tree, stamp, entry),
-        Answer::Okay | Answer::Painting { .. } | Answer::Snap(_) => {
-            display.draw(alloc, tree, classes, entry)
-        }
+        Answer::Okay => match entry.call {
+            Call::SetTimer(..) => set_timer(timers, tree, entry.who, entry.call, stamp.time),
+            _ => display.draw(alloc, tree, classes, entry),
+        },
+        Answer::Painting { .. } | Answer::Snap(_) => display.draw(alloc, tree, classes, entry),
         _ => Ok(()),
     }
 }

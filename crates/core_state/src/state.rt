@@ -1,6 +1,6 @@
 //! The history, and the parts that stand for it.
 
-ghost use Rattle.std.specs.Prelude.{◌≡◌, ◌==◌, ◌<◌, ◌≤◌, ◌+◌, ◌&&◌, option_copied, vec_capacity, vec_len, [], ◌∷◌, length, nat_le, reverse, All, true, false, IfOk, OnOk, OnErr, Some, is_some, option_and_then, option_map};
+ghost use Rattle.std.specs.Prelude.{◌≡◌, ◌==◌, ◌<◌, ◌≤◌, ◌+◌, ◌&&◌, option_copied, vec_capacity, vec_len, [], ◌∷◌, length, map, nat_le, reverse, All, true, false, IfOk, OnOk, OnErr, Some, is_some, option_and_then, option_map};
 ghost use Rattle.win_num.specs.Clocks.{clock_limit};
 ghost use Rattle.user_model.specs.Legal.{IsLegal};
 ghost use Rattle.user_model.specs.Past.{is_full};
@@ -33,7 +33,9 @@ ghost use Rattle.user_model.specs.Refusals.{is_no_rect};
 ghost use Rattle.window_state.specs.Placings.{box_of};
 ghost use Rattle.user_model.specs.Destruction.{is_marked, was_given, ended};
 ghost use Rattle.user_model.specs.Classes.{class, classes, registered_count, is_used, message_names, message_number, proc_of};
-ghost use Rattle.user_model.specs.Idle.{reply, is_idle, ends_stuck, last_entry, one_of, times_of};
+ghost use Rattle.user_model.specs.Idle.{reply, is_idle, ends_stuck, last_entry, least_of, times_of};
+ghost use Rattle.user_model.specs.Timers.{due, due_time, passing_timers, timer, timers_of};
+ghost use Rattle.timer_state.specs.TimerLists.{as_due};
 ghost use Rattle.thread_state.specs.Threads.{code_of, fresh_thread, told_post, waiting_call};
 ghost use Rattle.window_state.specs.Steps.{destruction_answer};
 
@@ -47,6 +49,8 @@ use std::alloc::{AllocError, Global};
 use std::marker::Model;
 use thread_queues::{Stamp, count_after, note_entry, time_after};
 use thread_state::ThreadState;
+use timer_source::{Timer, Timers};
+use timer_state::{due_timer, follow_timers, has_timer, next_due, timers_are_full};
 use user_model::{Answer, Call, Entry, HISTORY_LIMIT, SendCount, SendStory, Setup};
 use win_class::Classes;
 use win_num::{Cause, Filter, Frame, Hwnd, Msg, Point, SendId, Thread};
@@ -71,6 +75,7 @@ pub struct CoreState {
     classes: Classes,
     /// What is kept of each thread, from thread 1 on.
     threads: Vec<ThreadState>,
+    timers: Timers,
     /// How many posts there were.
     post_count: u32,
     /// Milliseconds of the virtual clock.
@@ -89,7 +94,7 @@ impl Model for CoreState {
 
     ghost view = { λ s. record { setup = s.setup; past = reverse s.history.items } };
 
-    ghost invariant = { λ s. Stands s.setup (reverse s.history.items) (parts s.tree s.order s.display s.classes s.threads.items s.post_count s.time s.sends s.tally s.stories.items) };
+    ghost invariant = { λ s. Stands s.setup (reverse s.history.items) (parts s.tree s.order s.display s.classes s.threads.items s.timers s.post_count s.time s.sends s.tally s.stories.items) };
 }
 
 impl CoreState {
@@ -106,6 +111,7 @@ impl CoreState {
             display: Display::new(alloc, setup)?,
             classes: Classes::new(alloc),
             threads: fresh_threads(alloc, setup.threads)?,
+            timers: Timers::new(alloc),
             post_count: 0,
             time: 0,
             sends: SendState::new(alloc, setup.threads)?,
@@ -367,17 +373,48 @@ impl CoreState {
         SendId(self.sends.begun() + 1)
     }
 
-    /// The time that a thread waits for.
+    /// The soonest time that a thread waits for: a sleep's, a timeout's, or that of the first timer that its retrieval lets pass.
     pub fn wake_time(&self, thread: u8) -> Option<u64>
         requires some { 0 < thread }
         requires known { thread ≤ self.now.setup.threads }
-        ensures { one_of result ≡ times_of self.now.past thread (last_entry self.now.past thread) }
+        ensures { result ≡ least_of (times_of self.now.past thread (last_entry self.now.past thread)) }
     {
         match self.threads[usize::from(thread - 1)].waiting()? {
             Call::SleepUntil(time) => Some(time),
             Call::Await(_) => self.wait_end(thread),
+            Call::Get(hwnd, min, max) | Call::Peek(hwnd, min, max, _) => {
+                self.next_due(thread, Filter { hwnd, min, max })
+            }
             _ => None,
         }
+    }
+
+    /// When the first timer of a thread is due whose WM_TIMER a filter lets pass, whether that time has come or not.
+    fn next_due(&self, thread: u8, filter: Filter) -> Option<u64>
+        ensures { result ≡ least_of (map (due_time self.now.past) (passing_timers self.now.past thread filter)) }
+    {
+        next_due(&self.timers, &self.tree, Thread(thread), filter)
+    }
+
+    /// The timer of a thread that is due first, among those that are due now and whose WM_TIMER a filter lets pass.
+    pub fn due_timer(&self, thread: u8, filter: Filter) -> Option<Timer>
+        ensures { result ≡ option_map (as_due self.now.past) (due self.now.past thread filter) }
+    {
+        due_timer(&self.timers, &self.tree, Thread(thread), filter, self.time)
+    }
+
+    /// Whether a live window has a timer with the id.
+    pub fn has_timer(&self, w: u64, id: u64) -> bool
+        ensures { result ≡ is_some (timer self.now.past w id) }
+    {
+        has_timer(&self.timers, &self.tree, w, id)
+    }
+
+    /// Whether a thread has as many timers as it may have, 256.
+    pub fn timers_are_full(&self, thread: u8) -> bool
+        ensures { result ≡ nat_le 256 (length (timers_of self.now.past thread)) }
+    {
+        timers_are_full(&self.timers, Thread(thread))
     }
 
     /// When the send that a thread waits for gives up.
@@ -659,6 +696,7 @@ impl CoreState {
             &mut self.tree,
             &mut self.order,
             &mut self.threads,
+            &mut self.timers,
             &mut self.sends,
             &mut self.display,
             stamp,
@@ -672,6 +710,7 @@ impl CoreState {
             named,
             entry,
         );
+        follow_timers(&mut self.timers, &self.tree, entry, stamp.time);
         take_effect(
             &mut self.classes,
             &mut self.tree,

@@ -20,7 +20,7 @@ use Rattle.screen_owners.specs.Owners.{region_in}
 use Rattle.screen_state.specs.Owned.{AreOwnersAt}
 use Rattle.screen_state.specs.Screens.{Change, FollowsScreen, IsScreenAt, Kept, draws, replaced}
 use Rattle.display_state.specs.Displays.{FollowsDisplay, IsBared, IsBaring, IsDisplayAt, IsShown, Shown}
-use Rattle.display_state.proofs.Bare.{bare_is_0}
+use Rattle.user_model.proofs.ColourLaws.{bare_is_0}
 use Rattle.display_state.proofs.Painted.{colour_stays, is_colouring, snapped_stays, uncoloured}
 
 -- a picture of the colours of a past

@@ -1,4 +1,3 @@
-pub mod Bare
 pub mod ClassColours
 pub mod Drawn
 pub mod Followed

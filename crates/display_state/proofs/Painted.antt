@@ -18,7 +18,7 @@ use Rattle.user_model.specs.Windows.{is_live, thread_of}
 use Rattle.user_model.specs.Pixels.{owner}
 use Rattle.user_model.specs.Colours.{colour, is_in_clip, paints_in, reaches, snapped, snaps}
 use Rattle.user_model.specs.Refusals.{if_own, access_denied, invalid_parameter, invalid_window_handle, is_no_rect, refuse}
-use Rattle.user_model.proofs.ColourLaws.{colour-next, colour-refused, snapped-next}
+use Rattle.user_model.proofs.ColourLaws.{bare_is_0, colour-next, colour-refused, snapped-next}
 use Rattle.user_model.proofs.PastLaws.{first_way}
 use Rattle.user_model.proofs.ReplyLaws.{by_call, not_false, not_refused}
 use Rattle.user_model.proofs.WindowLooks.{look-same}
@@ -26,8 +26,7 @@ use Rattle.window_state.proofs.OrderSteps.{live_rest, order_of, order_rest}
 use Rattle.screen_state.specs.Shown.{changes_owners}
 use Rattle.screen_state.specs.Screens.{draws}
 use Rattle.screen_state.proofs.Followed.{no_look, no_order}
-use Rattle.screen_state.proofs.OwnersKept.{owner_same}
-use Rattle.display_state.proofs.Bare.{bare_is_0}
+use Rattle.user_model.proofs.OwnersKept.{owner_same}
 
 -- whether a call may paint, or keep a frame
 abbrev pub is_colouring : Call → Bool

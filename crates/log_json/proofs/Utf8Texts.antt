@@ -112,6 +112,7 @@ source_utf8 : (o : Origin) → IsUtf8 (source_word o)
 source_utf8 origins.Posted = plain (codes "posted") refl
 source_utf8 origins.Quit = plain (codes "quit") refl
 source_utf8 origins.Paint = plain (codes "paint") refl
+source_utf8 origins.Timer = plain (codes "timer") refl
 
 cause_utf8 : (c : Cause) → IsUtf8 (cause_word c)
 cause_utf8 causes.Proc = plain (codes "proc") refl

@@ -226,6 +226,7 @@ source_is_word : (o : Origin) → is_word (source_word o) ≡ true
 source_is_word origins.Posted = refl
 source_is_word origins.Quit = refl
 source_is_word origins.Paint = refl
+source_is_word origins.Timer = refl
 
 cause_is_word : (c : Cause) → is_word (cause_word c) ≡ true
 cause_is_word causes.Proc = refl

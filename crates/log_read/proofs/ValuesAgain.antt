@@ -124,6 +124,7 @@ unfolding source_at
 source_again origins.Posted = refl
 source_again origins.Quit = refl
 source_again origins.Paint = refl
+source_again origins.Timer = refl
 
 pub cause_again : (c : Cause) → cause_at (cause_word c) ≡ Some c
 unfolding cause_at

@@ -17,7 +17,7 @@ use script_tree::{Name, Procedure, Script};
 use user_model::Origin;
 use win_num::{Cause, Code, Hwnd, SendId, Thread};
 
-static SOURCES: [Origin; 3] = [Origin::Posted, Origin::Quit, Origin::Paint];
+static SOURCES: [Origin; 4] = [Origin::Posted, Origin::Quit, Origin::Paint, Origin::Timer];
 
 static CAUSES: [Cause; 4] = [Cause::Proc, Cause::Reply, Cause::Loss, Cause::Timeout];
 

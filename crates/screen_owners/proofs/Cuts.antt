@@ -1,5 +1,5 @@
 -- Covers, and what they leave.
-use Rattle.std.proofs.Common.{◌≡◌, ℕ, suc, ◌+◌, ◌<◌, Bool, true, false, cond, not, eqb, List, [], ◌∷◌, ◌++◌, length, take, drop, get_or, reverse, Option, Some, None, refl, ap, ◌∙◌, sym, subst, arith, add-one}
+use Rattle.std.proofs.Common.{◌≡◌, ℕ, zero, suc, ◌+◌, ◌<◌, ◌≤◌, Bool, true, false, cond, not, eqb, List, [], ◌∷◌, ◌++◌, length, take, drop, get_or, reverse, Option, Some, None, refl, ap, ◌∙◌, sym, subst, arith, add-one}
 use Rattle.std.specs.Prelude.{◌&&◌, ◌||◌, ℤ, int_le, int_lt, find}
 use Rattle.std.proofs.lemmas.Int.{ints}
 use Rattle.std.specs.List.{All, AllByRecursion, list_any}
@@ -18,8 +18,9 @@ use Rattle.band_region.specs.Regions.{rect_has, region_has}
 use Rattle.user_model.specs.ZOrder.{hwnd}
 use Rattle.window_state.specs.Pixels.{covers_in}
 use Rattle.screen_owners.specs.declared.covers.Cover.{Cover}
+use Rattle.screen_owners.specs.declared.lefts.Left.{Left}
 use Rattle.screen_owners.proofs.Edges.{four}
-use Rattle.screen_owners.specs.Shares.{any_covers, overlaps, top_at, IsCoverAt, IsLastAt, IsPut, IsTaken}
+use Rattle.screen_owners.specs.Shares.{any_covers, overlaps, top_at, IsCoverAt, IsLastAt, IsLeft, IsPut, IsTaken}
 
 pub same_window : (v w : Hwnd) → v.0 ≡ w.0 → v ≡ w
 same_window v w e = ap hwnd e
@@ -117,6 +118,19 @@ top_taken ws q p cs w i c all at e top = (has, pick (any_covers (drop (i + 1) cs
 
 -- ---- one cover more
 
+or_none : (a : Bool) → (a || false) ≡ a
+or_none true = refl
+or_none false = refl
+
+any_push : (cs : List Cover) (c : Cover) (p : Point) → any_covers (cs ++ c ∷ []) p ≡ (any_covers cs p || rect_has c.part p)
+any_push cs c p = list_any-append (λ (d : Cover). rect_has d.part p) cs (c ∷ []) ∙ ap (λ b. any_covers cs p || b) (or_none (rect_has c.part p))
+
+any_more : (cs : List Cover) (i : ℕ) (c : Cover) (p : Point) → i < length cs → c ≡ get_or cs i c → any_covers (take (i + 1) cs) p ≡ (any_covers (take i cs) p || rect_has c.part p)
+any_more cs i c p h e = list_any_more (λ (d : Cover). rect_has d.part p) cs i c h ∙ ap (λ (d : Cover). any_covers (take i cs) p || rect_has d.part p) (sym e)
+
+any_split : (n : ℕ) (cs : List Cover) (p : Point) → any_covers cs p ≡ (any_covers (take n cs) p || any_covers (drop n cs) p)
+any_split n cs p = ap (λ xs. any_covers xs p) (sym (take-append-drop n cs)) ∙ list_any-append (λ (c : Cover). rect_has c.part p) (take n cs) (drop n cs)
+
 pub top_push : (cs : List Cover) (c : Cover) (p : Point) → top_at (cs ++ c ∷ []) p ≡ cond (rect_has c.part p) (Some c.window) (top_at cs p)
 top_push [] c p = refl
 top_push (x ∷ xs) c p = ap (or_first x p) (top_push xs c p) ∙ pick (rect_has c.part p)
@@ -174,33 +188,73 @@ cut_none false has h = refl
 
 -- ---- covers united by halves
 
-abbrev pub Parts : List Rect → List Cover → List Rect → Type 0
-Parts whole covers part = (p : Point) → region_has part p ≡ (region_has whole p && any_covers covers p)
+abbrev pub Parts : List Cover → List Rect → Type 0
+Parts covers part = (p : Point) → region_has part p ≡ any_covers covers p
 
-pub parts_one : (whole cover part : List Rect) (covers : List Cover) (first : Cover) (others : List Cover) → covers ≡ first ∷ others → length others ≡ 0 →
-    ((p : Point) → region_has cover p ≡ has_pixel (box_in first.part) p) → ((p : Point) → region_has part p ≡ (region_has whole p && region_has cover p)) → Parts whole covers part
+pub parts_one : (part : List Rect) (covers : List Cover) (first : Cover) (others : List Cover) → covers ≡ first ∷ others → length others ≡ 0 →
+    ((p : Point) → region_has part p ≡ has_pixel (box_in first.part) p) → Parts covers part
 unfolding rect_has
-parts_one whole cover part covers first others e f g h p = h p ∙ ap (λ b. region_has whole p && b) (g p ∙ (sym (or_none (has_pixel (box_in first.part) p)) ∙ (ap (λ b. has_pixel (box_in first.part) p || b) (sym (ap (λ xs. any_covers xs p) (nil_from_length others f))) ∙ sym (ap (λ xs. any_covers xs p) e))))
+parts_one part covers first others e f g p = g p ∙ (sym (or_none (has_pixel (box_in first.part) p)) ∙ (ap (λ b. has_pixel (box_in first.part) p || b) (sym (ap (λ xs. any_covers xs p) (nil_from_length others f))) ∙ sym (ap (λ xs. any_covers xs p) e)))
+
+pub parts_both : (one other part : List Rect) (covers front back : List Cover) (n : ℕ) → front ≡ take n covers → back ≡ drop n covers →
+    Parts front one → Parts back other → ((p : Point) → region_has part p ≡ (region_has one p || region_has other p)) → Parts covers part
+parts_both one other part covers front back n e f g h k p = k p ∙ rw (g p, h p, e, f) (sym (any_split n covers p))
+
+-- ---- those of the covers that meet a region
+
+-- the same as the place before, with one cover more
+pub met_more : (whole : Bool) (ms ns cs : List Cover) (i : ℕ) (c : Cover) (p : Point) → i < length cs → c ≡ get_or cs i c → ns ≡ ms ++ c ∷ [] → (whole && any_covers ms p) ≡ (whole && any_covers (take i cs) p) → (whole && any_covers ns p) ≡ (whole && any_covers (take (i + 1) cs) p)
+met_more whole ms ns cs i c p h e same before =
+    ap (λ xs. whole && any_covers xs p) same
+    ∙ ap (λ b. whole && b) (any_push ms c p)
+    ∙ tests whole (any_covers ms p) (any_covers (take i cs) p) (rect_has c.part p) before
+    ∙ ap (λ b. whole && b) (sym (any_more cs i c p h e))
   where
-    or_none : (a : Bool) → (a || false) ≡ a
-    or_none true = refl
-    or_none false = refl
+    tests : (w a b c : Bool) → (w && a) ≡ (w && b) → (w && (a || c)) ≡ (w && (b || c))
+    tests true a b c h = ap (λ d. d || c) h
+    tests false a b c h = refl
 
-pub parts_both : (whole one other part : List Rect) (covers front back : List Cover) (n : ℕ) → front ≡ take n covers → back ≡ drop n covers →
-    Parts whole front one → Parts whole back other → ((p : Point) → region_has part p ≡ (region_has one p || region_has other p)) → Parts whole covers part
-parts_both whole one other part covers front back n e f g h k p = k p ∙ rw (g p, h p, e, f) (tests (region_has whole p) (any_covers (take n covers) p) (any_covers (drop n covers) p) ∙ ap (λ b. region_has whole p && b) (sym split))
+-- a cover that shares no pixel counts for nothing
+pub met_same : (whole : Bool) (ms cs : List Cover) (i : ℕ) (c : Cover) (p : Point) → i < length cs → c ≡ get_or cs i c → (whole && rect_has c.part p) ≡ false → (whole && any_covers ms p) ≡ (whole && any_covers (take i cs) p) → (whole && any_covers ms p) ≡ (whole && any_covers (take (i + 1) cs) p)
+met_same whole ms cs i c p h e none before = before ∙ tests whole (any_covers (take i cs) p) (rect_has c.part p) none ∙ ap (λ b. whole && b) (sym (any_more cs i c p h e))
   where
-    tests : (w a b : Bool) → ((w && a) || (w && b)) ≡ (w && (a || b))
-    tests true a b = refl
-    tests false a b = refl
+    tests : (w a c : Bool) → (w && c) ≡ false → (w && a) ≡ (w && (a || c))
+    tests true a true h = absurd (true≢false h)
+    tests true a false h = sym (or_none a)
+    tests false a c h = refl
 
-    split : any_covers covers p ≡ (any_covers (take n covers) p || any_covers (drop n covers) p)
-    split = ap (λ xs. any_covers xs p) (sym (take-append-drop n covers)) ∙ list_any-append (λ (c : Cover). rect_has c.part p) (take n covers) (drop n covers)
+-- what is left without those that meet the region is left without all
+pub left_met : (w a b : Bool) → (w && a) ≡ (w && b) → (w && not a) ≡ (w && not b)
+left_met true a b h = ap not h
+left_met false a b h = refl
 
--- what is left without all covers
-pub left_all : (w a : Bool) → (w && not (w && a)) ≡ (w && not a)
-left_all true a = refl
-left_all false a = refl
+-- ---- what ever more covers leave
+
+-- between two places, and from the higher one on
+between : (n m : ℕ) (cs : List Cover) → n ≤ m → drop n (take m cs) ++ drop m cs ≡ drop n cs
+between zero m cs h = take-append-drop m cs
+between (suc n) zero cs h = absurd (omega (arith, h))
+between (suc n) (suc m) [] h = refl
+between (suc n) (suc m) (c ∷ cs) h = between n m cs (omega (arith, h))
+
+any_between : (n m : ℕ) (cs : List Cover) (p : Point) → n ≤ m → any_covers (drop n cs) p ≡ (any_covers (drop n (take m cs)) p || any_covers (drop m cs) p)
+any_between n m cs p h = ap (λ xs. any_covers xs p) (sym (between n m cs h)) ∙ list_any-append (λ (c : Cover). rect_has c.part p) (drop n (take m cs)) (drop m cs)
+
+-- a cover that doesn't meet what those above it leave takes nothing
+pub taken_none : (whole : List Rect) (cs : List Cover) (i : ℕ) (d : Cover) (l : Left) → i < length cs → d ≡ get_or cs i d → i < l.from → IsLeft whole cs l → ((p : Point) → (region_has l.region p && rect_has d.part p) ≡ false) → IsTaken whole cs i []
+taken_none whole cs i d l within at over left apart c p is =
+    let equal : d ≡ c = at ∙ get_or_default cs i d c within ∙ sym is in
+    tests (region_has whole p) (any_covers (drop l.from cs) p) (rect_has d.part p) (any_covers (drop (i + 1) (take l.from cs)) p) (ap (λ b. b && rect_has d.part p) (sym (left.pixels p)) ∙ apart p)
+    ∙ ap (λ b. region_has whole p && rect_has d.part p && not b) (sym (any_between (i + 1) l.from cs p (omega (arith, over))))
+    ∙ ap (λ (x : Cover). region_has whole p && rect_has x.part p && not (any_covers (drop (i + 1) cs) p)) equal
+  where
+    tests : (w a r b : Bool) → ((w && not a) && r) ≡ false → false ≡ (w && r && not (b || a))
+    tests true true true true h = refl
+    tests true true true false h = refl
+    tests true true false b h = refl
+    tests true false true b h = absurd (true≢false h)
+    tests true false false b h = refl
+    tests false a r b h = refl
 
 -- ---- rectangles that share no pixel
 

@@ -1,7 +1,7 @@
 -- What a window has to share out, from what its parent has.
 use Rattle.std.proofs.Common.{◌≡◌, ℕ, zero, suc, ◌+◌, ◌<◌, ◌≤◌, Bool, true, false, cond, not, eqb, List, [], ◌∷◌, length, drop, get_or, Option, Some, None, refl, ap, ◌∙◌, sym, subst, arith}
 use Rattle.std.specs.Prelude.{◌&&◌, ℤ, pos, ◌+ℤ◌, ◌-ℤ◌, option_map}
-use Rattle.std.specs.List.{list_any}
+use Rattle.std.specs.List.{All, list_any}
 use Rattle.std.proofs.lemmas.Bool.{eq-eqb, ne_eqb, eqb-true, false≢true, true≢false}
 use Rattle.std.proofs.lemmas.Int.{ints}
 use Rattle.std.proofs.lemmas.List.{get_or_default, nil_from_length}
@@ -21,7 +21,7 @@ use Rattle.screen_owners.specs.declared.screen.Corner.{Corner}
 use Rattle.screen_owners.specs.declared.owners.Owned.{Owned}
 use Rattle.screen_owners.specs.declared.shares.Share.{Share}
 use Rattle.screen_owners.specs.Owners.{is_on_screen, AreChildren, IsOwned}
-use Rattle.screen_owners.specs.Shares.{any_covers, has_share, seen_from, top_at, AreCovers, IsBelow, IsLastAt, IsMovedBy, IsNear, IsParentAt, IsParentless, IsShare, IsShareOf, IsTaken, IsUnreached, Passes, begins, goes_on}
+use Rattle.screen_owners.specs.Shares.{any_covers, has_share, seen_from, top_at, AreCovers, IsBelow, IsLastAt, IsLeft, IsMovedBy, IsNear, IsParentAt, IsParentless, IsShare, IsShareOf, IsTaken, IsUnreached, Passes, begins, goes_on}
 use Rattle.screen_owners.proofs.Cuts.{same_window, taken_top, top_among, top_none, top_some, top_taken, is_of}
 use Rattle.screen_owners.proofs.Ways.{at_child, at_screen, older_than, owner_below, owner_here, owner_passes}
 
@@ -110,8 +110,8 @@ record IsWayIn (ws : List Window) (z : Layers) (s : Share) (w : Hwnd) (p q : Poi
 
 module _ (ws : List Window) (z : Layers) (last width height : ℕ) (ordered : IsOrdered 15 last ws) (children : AreChildren ws z) where
   -- the whole screen is its share
-  pub first_share : (s : Share) → s.window ≡ nobody → s.corner.x ≡ pos 0 → s.corner.y ≡ pos 0 → ((p : Point) → region_has s.taken p ≡ is_on_screen width height p) → ((p : Point) → is_on_screen width height p ≡ true → AreCovers ws z s.corner 0 p s.covers.items) → IsShareOf ws z width height nobody s
-  first_share s first x y whole covers = (
+  pub first_share : (s : Share) → s.window ≡ nobody → s.corner.x ≡ pos 0 → s.corner.y ≡ pos 0 → ((p : Point) → region_has s.taken p ≡ is_on_screen width height p) → ((p : Point) → is_on_screen width height p ≡ true → AreCovers ws z s.corner 0 p s.covers.items) → All (IsLeft s.taken s.covers.items) s.lefts.items → IsShareOf ws z width height nobody s
+  first_share s first x y whole covers lefts = (
     first,
     record {
       near = record {
@@ -124,6 +124,7 @@ module _ (ws : List Window) (z : Layers) (last width height : ℕ) (ordered : Is
       passes = λ p h. subst (λ u. Passes ws z p u (seen_from s.corner p)) (sym first) (subst (Passes ws z p nobody) (sym (at_origin s.corner p x y)) begins);
       all = λ p q on d. (whole p ∙ on, at_screen ws z last ordered children p q (subst (λ u. Passes ws z p u q) first d) ∙ sym (at_origin s.corner p x y));
       covers = λ p h. subst (λ n. AreCovers ws z s.corner n p s.covers.items) (sym number) (covers p (sym (whole p) ∙ h));
+      lefts = lefts;
     },
   )
     where
@@ -149,8 +150,8 @@ module _ (ws : List Window) (z : Layers) (last width height : ℕ) (ordered : Is
 
   -- a child's share, from its parent's
   pub child_share : (s t : Share) (i : ℕ) → IsShare ws z width height s → IsBelow ws s.window t.window → IsLastAt s.covers.items t.window.0 i → IsTaken s.taken s.covers.items i t.taken → IsMovedBy ws t.window s.corner t.corner →
-      ((p : Point) → is_on_screen width height p ≡ true → AreCovers ws z t.corner t.window.0 p t.covers.items) → IsShare ws z width height t
-  child_share s t i share below at taken moved covers = record {
+      ((p : Point) → is_on_screen width height p ≡ true → AreCovers ws z t.corner t.window.0 p t.covers.items) → All (IsLeft t.taken t.covers.items) t.lefts.items → IsShare ws z width height t
+  child_share s t i share below at taken moved covers lefts = record {
     near = near_more (s.window.0 + 1) t.window.0 t.corner (omega (arith, (older_than ws z last ordered children t.window.0 below.row below.live).parent, below.parent)) (moved.near s.window.0 share.near);
     on_screen = on;
     passes = λ p h.
@@ -160,6 +161,7 @@ module _ (ws : List Window) (z : Layers) (last width height : ℕ) (ordered : Is
         subst (Passes ws z p t.window) (moved.same p) (goes_on t.window (share.passes p parts.0) step);
     all = λ p q screen d. (child_way s t.taken t.window i c p q share below at is taken screen d, (way_in s t.window p q share below screen d).inside ∙ moved.same p);
     covers = λ p h. covers p (on p h);
+    lefts = lefts;
   }
     where
       c : Cover

@@ -1,5 +1,5 @@
 -- What windows have to share out, on the way from the screen down to the window that owns a pixel.
-use Rattle.std.specs.Prelude.{if◌then◌else◌, ◌≡◌, ℕ, ◌+◌, ◌*◌, ◌<◌, ◌==◌, Bool, true, false, not, ◌&&◌, pos, ◌+ℤ◌, ◌-ℤ◌, ◌≤ℤ◌, int_lt, List, [], ◌∷◌, length, map, take, drop, Option, Some, None, All, AllPairs, slice_index_or}
+use Rattle.std.specs.Prelude.{if◌then◌else◌, ◌≡◌, ℕ, ◌+◌, ◌*◌, ◌<◌, ◌≤◌, ◌==◌, Bool, true, false, not, ◌&&◌, pos, ◌+ℤ◌, ◌-ℤ◌, ◌≤ℤ◌, int_lt, List, [], ◌∷◌, length, map, take, drop, Option, Some, None, All, AllPairs, slice_index_or}
 use Rattle.std.specs.List.{list_any}
 use Rattle.win_num.specs.declared.message.Hwnd.{Hwnd}
 use Rattle.win_num.specs.declared.shapes.Point.{Point}
@@ -11,6 +11,7 @@ use Rattle.band_region.specs.Regions.{rect_has, region_has}
 use Rattle.user_model.specs.Pixels.{point}
 use Rattle.window_state.specs.Pixels.{covers_in, highest_in, inside_of}
 use Rattle.screen_owners.specs.declared.covers.Cover.{Cover}
+use Rattle.screen_owners.specs.declared.lefts.Left.{Left}
 use Rattle.screen_owners.specs.declared.screen.Corner.{Corner}
 use Rattle.screen_owners.specs.declared.shares.Share.{Share}
 use Rattle.screen_owners.specs.Owners.{is_on_screen}
@@ -87,6 +88,16 @@ pub record IsMovedBy (ws : List Window) (w : Hwnd) (old new : Corner) : Type 0 w
 abbrev pub IsTaken : List Rect → List Cover → ℕ → List Rect → Type 0
 IsTaken whole cs i part = (c : Cover) (p : Point) → c ≡ slice_index_or cs i c → region_has part p ≡ (region_has whole p && rect_has c.part p && not (any_covers (drop (i + 1) cs) p))
 
+-- what the covers from the place on leave of the pixels
+pub record IsLeft (whole : List Rect) (cs : List Cover) (l : Left) : Type 0 where
+  pub within : l.from ≤ length cs
+  pub pixels : (p : Point) → region_has l.region p ≡ (region_has whole p && not (any_covers (drop l.from cs) p))
+
+-- the one at the place has none of the covers up to i taken out
+pub record IsOver (ls : List Left) (i j : ℕ) : Type 0 where
+  pub within : j < length ls
+  pub over : (l : Left) → l ≡ slice_index_or ls j l → i < l.from
+
 -- the window of a share
 abbrev pub share_window : Share → Hwnd
 share_window s = s.window
@@ -98,6 +109,7 @@ pub record IsShare (ws : List Window) (z : Layers) (width height : ℕ) (s : Sha
   pub passes : (p : Point) → region_has s.taken p ≡ true → Passes ws z p s.window (seen_from s.corner p)
   pub all : (p q : Point) → is_on_screen width height p ≡ true → Passes ws z p s.window q → (region_has s.taken p ≡ true) × (q ≡ seen_from s.corner p)
   pub covers : (p : Point) → region_has s.taken p ≡ true → AreCovers ws z s.corner s.window.0 p s.covers.items
+  pub lefts : All (IsLeft s.taken s.covers.items) s.lefts.items
 
 -- the share of a window, with the pixels of the screen on whose way down it lies
 abbrev pub IsShareOf : List Window → Layers → ℕ → ℕ → Hwnd → Share → Type 0

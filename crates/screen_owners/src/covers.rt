@@ -114,7 +114,7 @@ fn overlap(a: Rect, b: Rect) -> bool
 
 /// Whether a region and a rectangle may share a pixel.
 #[tactic(auto, using(crate::proofs::Cuts::meet_more))]
-fn meets(region: &Region, r: Rect) -> bool
+pub fn meets(region: &Region, r: Rect) -> bool
     ensures { result ≡ false → (p : Point) → (region_has region.now p && rect_has r p) ≡ false }
 {
     let rects = region.rects();
@@ -169,27 +169,42 @@ pub fn taken(
     Ok(left)
 }
 
-/// The pixels of the region that a cover has too: those of each half of the covers, united.
-fn covered(alloc: Global, whole: &Region, covers: &[Cover]) -> Result<Region, AllocError>
-    ensures { IfOk result (λ x. (p : Point) → region_has x p ≡ (region_has whole.now p && any_covers covers.now p)) }
+/// Those of the covers that meet a region.
+#[tactic(auto, using(crate::proofs::Cuts::met_more, crate::proofs::Cuts::met_same))]
+fn meeting(alloc: Global, region: &Region, covers: &[Cover]) -> Result<Vec<Cover>, AllocError>
+    ensures { IfOk result (λ v. (p : Point) → (region_has region.now p && any_covers v.items p) ≡ (region_has region.now p && any_covers covers.now p)) }
+{
+    let mut met = Vec::new(alloc);
+    for c in covers {
+        if meets(region, c.part) {
+            met.push(*c)?;
+        }
+    }
+    Ok(met)
+}
+
+/// The pixels that a cover has: those of each half of the covers, united.
+fn united(alloc: Global, covers: &[Cover]) -> Result<Region, AllocError>
+    ensures { IfOk result (λ x. (p : Point) → region_has x p ≡ any_covers covers.now p) }
 {
     let Some((first, others)) = covers.split_first() else {
         return Ok(Region::empty(alloc));
     };
     if others.is_empty() {
-        let cover = Region::of_rect(alloc, first.part)?;
-        return whole.and(alloc, &cover);
+        return Region::of_rect(alloc, first.part);
     }
     let (front, back) = covers.split_at(covers.len() / 2);
-    let one = covered(alloc, whole, front)?;
-    let other = covered(alloc, whole, back)?;
+    let one = united(alloc, front)?;
+    let other = united(alloc, back)?;
     one.or(alloc, &other)
 }
 
-/// What the covers leave of a region, all taken out at once.
+/// What the covers leave of a region, all that meet it taken out at once.
+#[tactic(auto, using(crate::proofs::Cuts::left_met))]
 pub fn left_by(alloc: Global, whole: &Region, covers: &[Cover]) -> Result<Region, AllocError>
     ensures { IfOk result (λ x. (p : Point) → region_has x p ≡ (region_has whole.now p && not (any_covers covers.now p))) }
 {
-    let lent = covered(alloc, whole, covers)?;
+    let met = meeting(alloc, whole, covers)?;
+    let lent = united(alloc, &met)?;
     whole.diff(alloc, &lent)
 }

@@ -8,6 +8,7 @@
 
 mod covers;
 pub mod laws;
+mod lefts;
 mod owners;
 mod screen;
 mod shares;

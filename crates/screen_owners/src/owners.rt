@@ -7,7 +7,7 @@ ghost use Rattle.win_rows.specs.Windows.{IsOrdered};
 ghost use Rattle.screen_owners.specs.Owners.{entry_of, owned_region, AreChildren, AreOwners, IsOwned};
 ghost use Rattle.screen_owners.specs.Shares.{AreSharesOf, IsShare, IsSharedOut};
 
-use crate::covers::left_by;
+use crate::lefts::left_by_all;
 use crate::screen::Screen;
 use crate::shares::{Share, shares_of};
 use band_region::Region;
@@ -134,7 +134,7 @@ fn owned_of(
     ensures window { IfOk result (λ o. o.window ≡ share.now.window) }
     ensures owned { IfOk result (IsOwned tree.now.live order.now screen.width screen.height) }
 {
-    let region = left_by(alloc, &share.taken, &share.covers)?;
+    let region = left_by_all(alloc, &share.taken, &share.covers, &share.lefts)?;
     Ok(Owned {
         window: share.window,
         region,

@@ -7,7 +7,8 @@ ghost use Rattle.screen_owners.specs.Owners.{AreChildren};
 ghost use Rattle.screen_owners.specs.Shares.{IsBelow, IsLastAt, IsMovedBy, IsNear, IsOlderShare, IsParentAt, IsParentless, IsShare, IsShareOf, IsSharedOut, IsSharedUpTo, IsUnreached};
 ghost use Rattle.std.specs.List.{AllPairs};
 
-use crate::covers::{Cover, covers_of, place_in, taken};
+use crate::covers::{Cover, covers_of, place_in};
+use crate::lefts::{Left, lefts_of, taken_of};
 use crate::screen::{Corner, Screen, known_rect, moved_by};
 use band_region::Region;
 use std::alloc::{AllocError, Global};
@@ -25,6 +26,8 @@ pub struct Share {
     pub taken: Region,
     /// Its visible children, from the bottom to the top.
     pub covers: Vec<Cover>,
+    /// What ever more of these leave of the pixels, from the top down.
+    pub lefts: Vec<Left>,
 }
 
 /// The shares of the screen and of each window that the way down to a pixel comes through, by rising
@@ -65,11 +68,13 @@ fn screen_share(
     let whole = known_rect(0, 0, i32::from(screen.width), i32::from(screen.height));
     let taken = Region::of_rect(alloc, whole)?;
     let covers = covers_of(alloc, screen, tree, order, Hwnd(0), corner)?;
+    let lefts = lefts_of(alloc, &taken, &covers)?;
     Ok(Share {
         window: Hwnd(0),
         corner,
         taken,
         covers,
+        lefts,
     })
 }
 
@@ -150,17 +155,19 @@ fn child_share(
 {
     // It is read for its range: 32 bits bound how far the corner is.
     let _number = parent.window.0;
-    let taken = taken(alloc, &parent.taken, &parent.covers, i)?;
+    let taken = taken_of(alloc, &parent.taken, &parent.covers, &parent.lefts, i)?;
     if taken.rects().is_empty() {
         return Ok(None);
     }
     let corner = corner_of(tree, parent.corner, w);
     let covers = covers_of(alloc, screen, tree, order, w, corner)?;
+    let lefts = lefts_of(alloc, &taken, &covers)?;
     Ok(Some(Share {
         window: w,
         corner,
         taken,
         covers,
+        lefts,
     }))
 }
 

@@ -37,7 +37,7 @@ use Rattle.screen_owners.specs.Owners.{AreChildren, AreOwners, entry_of, owned_r
 use Rattle.screen_state.specs.Entries.{FitsEntry, FitsTable, IsEntered}
 use Rattle.screen_state.specs.Owned.{AreOwnersAt, FollowsOwners, IsNext, keeps_owners, told_has}
 use Rattle.screen_state.specs.Shown.{changes_owners, shows}
-use Rattle.screen_state.proofs.OwnersKept.{owner_same}
+use Rattle.user_model.proofs.OwnersKept.{owner_same}
 use Rattle.screen_state.proofs.QuietEntries.{shows_none, stays_quiet}
 
 -- ---- what an entry needs

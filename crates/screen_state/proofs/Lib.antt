@@ -4,7 +4,6 @@ pub mod DirtyAt
 pub mod Drawing
 pub mod Entered
 pub mod Followed
-pub mod OwnersKept
 pub mod Parts
 pub mod Owning
 pub mod QuietEntries

@@ -41,7 +41,7 @@ use Rattle.screen_state.specs.Screens.{Kept, FollowsScreen, IsScreenAt, draws, i
 use Rattle.screen_state.proofs.Clips.{clip_by}
 use Rattle.screen_state.proofs.Followed.{kept_follow, no_look, no_order, region_none}
 use Rattle.screen_state.proofs.Owning.{dead_owns, owner_stands_there, region_owns}
-use Rattle.screen_state.proofs.OwnersKept.{box_same, owner_same}
+use Rattle.user_model.proofs.OwnersKept.{box_same, owner_same}
 use Rattle.screen_state.proofs.Somewhere.{none_passes, some_listed, some_passes}
 use Rattle.screen_state.proofs.Undrawn.{is_drawing, no_clean, no_dirt, no_flag, no_paint, no_session, undrawn}
 use Rattle.screen_state.proofs.Unset.{unset_fresh}

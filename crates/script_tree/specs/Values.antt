@@ -5,7 +5,7 @@ use Rattle.win_num.specs.declared.message.Msg.{Msg}
 use Rattle.win_num.specs.Codes.{number_of}
 use Rattle.name_table.specs.Constants.{constant_values}
 use Rattle.user_model.specs.declared.call.Call.{Call}
-use Rattle.user_model.specs.declared.call.Call.TheVariants.{Peek, Get, Post, PostThread, PostQuit, Dispatch, Send, SendTimeout, SendNotify, SendCallback, Reply, InSend, Message as MessageCall, Register, Unregister, NewWindow, Find, AwaitTitle, NextTop, WindowAt, IsWindow, Parent, Invalidate, Validate, UpdateRect, EndPaint, Fill, Snap, Clock, Yield}
+use Rattle.user_model.specs.declared.call.Call.TheVariants.{Peek, Get, Post, PostThread, PostQuit, Dispatch, Send, SendTimeout, SendNotify, SendCallback, Reply, InSend, Message as MessageCall, Register, Unregister, NewWindow, Find, AwaitTitle, NextTop, WindowAt, IsWindow, Parent, Invalidate, Validate, UpdateRect, EndPaint, Fill, Snap, SetTimer, KillTimer, Clock, Yield}
 use Rattle.user_model.specs.declared.entry.Answer.{Answer}
 use Rattle.user_model.specs.declared.entry.Answer.TheVariants.{Okay, Ended, Nothing, Wait, Stuck, Gone, Value, Window as WindowAnswer, Posted, Called, Inside, Begun, Left, Tell, Last, Advanced, Busy, Update, Painting, Snap as SnapAnswer, Enter, Callback, Done, Got, Refused}
 use Rattle.win_num.specs.declared.send.Cause.{Cause}
@@ -22,7 +22,7 @@ use Rattle.script_tree.specs.declared.operand.Comparison.{Comparison}
 use Rattle.script_tree.specs.declared.operand.Comparison.TheVariants.{Equal, Different, Below}
 use Rattle.script_tree.specs.declared.operand.Test.{Test}
 use Rattle.script_tree.specs.declared.statement.CallStatement.{CallStatement}
-use Rattle.script_tree.specs.declared.statement.CallStatement.TheVariants.{Peek as PeekStatement, Get as GetStatement, Post as PostStatement, PostThread as PostThreadStatement, PostQuit as PostQuitStatement, Dispatch as DispatchStatement, Send as SendStatement, SendTimeout as SendTimeoutStatement, SendNotify as SendNotifyStatement, SendCallback as SendCallbackStatement, Reply as ReplyStatement, InSend as InSendStatement, Message as MessageStatement, Register as RegisterStatement, Unregister as UnregisterStatement, IsWindow as IsWindowStatement, Parent as ParentStatement, NextTop as NextTopStatement, Find as FindStatement, AwaitTitle as AwaitTitleStatement, WindowAt as WindowAtStatement, Invalidate as InvalidateStatement, Validate as ValidateStatement, UpdateRect as UpdateRectStatement, EndPaint as EndPaintStatement, Fill as FillStatement, Snap as SnapStatement, Clock as ClockStatement, Yield as YieldStatement}
+use Rattle.script_tree.specs.declared.statement.CallStatement.TheVariants.{Peek as PeekStatement, Get as GetStatement, Post as PostStatement, PostThread as PostThreadStatement, PostQuit as PostQuitStatement, Dispatch as DispatchStatement, Send as SendStatement, SendTimeout as SendTimeoutStatement, SendNotify as SendNotifyStatement, SendCallback as SendCallbackStatement, Reply as ReplyStatement, InSend as InSendStatement, Message as MessageStatement, Register as RegisterStatement, Unregister as UnregisterStatement, IsWindow as IsWindowStatement, Parent as ParentStatement, NextTop as NextTopStatement, Find as FindStatement, AwaitTitle as AwaitTitleStatement, WindowAt as WindowAtStatement, Invalidate as InvalidateStatement, Validate as ValidateStatement, UpdateRect as UpdateRectStatement, EndPaint as EndPaintStatement, Fill as FillStatement, Snap as SnapStatement, SetTimer as SetTimerStatement, KillTimer as KillTimerStatement, Clock as ClockStatement, Yield as YieldStatement}
 use Rattle.script_tree.specs.declared.statement.Creation.{Creation}
 use Rattle.script_tree.specs.declared.variables.Letters.{Letters}
 use Rattle.script_tree.specs.declared.variables.Parameters.{Parameters}
@@ -116,6 +116,8 @@ call_of (UpdateRectStatement w) v = UpdateRect (value_of w v)
 call_of (EndPaintStatement w) v = EndPaint (value_of w v)
 call_of (FillStatement w l t r b colour) v = Fill (value_of w v) (edge_of l v) (edge_of t v) (edge_of r v) (edge_of b v) (value_of colour v)
 call_of SnapStatement v = Snap
+call_of (SetTimerStatement w id ms) v = SetTimer (value_of w v) (value_of id v) (value_of ms v)
+call_of (KillTimerStatement w id) v = KillTimer (value_of w v) (value_of id v)
 call_of ClockStatement v = Clock
 call_of YieldStatement v = Yield
 

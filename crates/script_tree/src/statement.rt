@@ -62,6 +62,10 @@ pub enum CallStatement {
     Fill(Operand, Operand, Operand, Operand, Operand, Operand),
     /// `snap`
     Snap,
+    /// `set_timer W ID MS` (Microsoft, SetTimer function).
+    SetTimer(Operand, Operand, Operand),
+    /// `kill_timer W ID` (Microsoft, KillTimer function).
+    KillTimer(Operand, Operand),
     /// `clock` (Microsoft, GetTickCount64 function).
     Clock,
     /// `yield`

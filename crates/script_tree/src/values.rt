@@ -228,6 +228,14 @@ impl CallStatement {
             CallStatement::UpdateRect(window) => Call::UpdateRect(window.value(variables)),
             CallStatement::EndPaint(window) => Call::EndPaint(window.value(variables)),
             CallStatement::Snap => Call::Snap,
+            CallStatement::SetTimer(window, id, ms) => Call::SetTimer(
+                window.value(variables),
+                id.value(variables),
+                ms.value(variables),
+            ),
+            CallStatement::KillTimer(window, id) => {
+                Call::KillTimer(window.value(variables), id.value(variables))
+            }
             CallStatement::Clock => Call::Clock,
             CallStatement::Yield => Call::Yield,
             _ => unreachable!(),

@@ -24,10 +24,10 @@ use Rattle.user_model.specs.Legal.{IsLawful}
 use Rattle.user_model.proofs.ClockLaws.{clock-next, last_entry-next}
 use Rattle.user_model.proofs.ReplyLaws.{by_row}
 use Rattle.user_model.proofs.ThreadLaws.{has_ended-same, has_ended-end}
-use Rattle.user_model.proofs.DeliveryReplies.{post_told, take_told, quit_told, paint_told, end_told}
+use Rattle.user_model.proofs.DeliveryReplies.{post_told, take_told, quit_told, paint_told, timer_told, end_told}
 use Rattle.user_model.proofs.PostCounts.{count-next, count_after}
 use Rattle.user_model.proofs.PostOwners.{message_of, is_drop}
-use Rattle.user_model.proofs.PostLaws.{GoWithin, goes_with, is_plain, posted-plain, posted-okay, posted-post, posted-got, posted-quit, posted-paint, posted-drop, posted-drop-other, posted-end}
+use Rattle.user_model.proofs.PostLaws.{GoWithin, goes_with, is_plain, posted-plain, posted-okay, posted-post, posted-got, posted-quit, posted-paint, posted-timer, posted-drop, posted-drop-other, posted-end}
 use Rattle.user_model.proofs.QuitLaws.{is_post_quit, is_got_quit, quit-plain, quit-posted, quit-taken, quit-other}
 use Rattle.user_model.proofs.WindowFacts.{kin_of_thread}
 use Rattle.user_model.proofs.WindowReplies.{drop_told}
@@ -135,6 +135,11 @@ changed_paint setup past t n m e is right =
     let told = paint_told setup past e.who.0 e.call n m (by_row setup past e.who.0 e.call (answers.Got origins.Paint n m) (sym right) refl).is_row in
     changed_none setup past t e (posted-paint e past t n m is (ap is_some told.is_call)) (quit-other e past t (retrieves_no_quit e.call (ap is_some told.is_call)) (ap is_got_quit is)) (ap is_end is)
 
+changed_timer : (setup : Setup) (past : Past) (t n : ℕ) (m : Msg) (e : Entry) → e.answer ≡ answers.Got origins.Timer n m → answers.Got origins.Timer n m ≡ reply setup past e.who.0 e.call → thread_at past t ≡ half past t e
+changed_timer setup past t n m e is right =
+    let told = timer_told setup past e.who.0 e.call n m (by_row setup past e.who.0 e.call (answers.Got origins.Timer n m) (sym right) refl).is_row in
+    changed_none setup past t e (posted-timer e past t n m is (ap is_some told.is_call)) (quit-other e past t (retrieves_no_quit e.call (ap is_some told.is_call)) (ap is_got_quit is)) (ap is_end is)
+
 changed_end : (setup : Setup) (past : Past) (t : ℕ) (e : Entry) → IsLawful setup past → e.answer ≡ answers.Ended → answers.Ended ≡ reply setup past e.who.0 e.call → changed t (change_by past e.who.0 answers.Ended e.call) (thread_at past t) ≡ half past t e
 unfolding half view
 changed_end setup past t e lawful is right =
@@ -174,6 +179,7 @@ changed_by setup past t e (answers.Posted k) lawful is right = changed_post setu
 changed_by setup past t e (answers.Got origins.Posted n m) lawful is right = changed_take setup past t n m e lawful is right
 changed_by setup past t e (answers.Got origins.Quit n m) lawful is right = changed_quit setup past t n m e is right
 changed_by setup past t e (answers.Got origins.Paint n m) lawful is right = changed_paint setup past t n m e is right
+changed_by setup past t e (answers.Got origins.Timer n m) lawful is right = changed_timer setup past t n m e is right
 changed_by setup past t e answers.Ended lawful is right = changed_end setup past t e lawful is right
 changed_by setup past t e answers.Okay lawful is right = changed_okay setup past t e e.call lawful is refl right
 changed_by setup past t e _ lawful is right = changed_plain setup past t e (is ∙ right) (ap is_plain is)

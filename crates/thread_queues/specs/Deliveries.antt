@@ -10,7 +10,7 @@ use Rattle.user_model.specs.declared.call.Call.TheVariants.{PostQuit, Drop}
 use Rattle.user_model.specs.declared.entry.Answer.{Answer}
 use Rattle.user_model.specs.declared.entry.Answer.TheVariants.{Okay, Ended, Posted as PostMade, Got}
 use Rattle.user_model.specs.declared.entry.Origin.{Origin}
-use Rattle.user_model.specs.declared.entry.Origin.TheVariants.{Posted as FromPosted, Quit as FromQuit, Paint as FromPaint}
+use Rattle.user_model.specs.declared.entry.Origin.TheVariants.{Posted as FromPosted, Quit as FromQuit, Paint as FromPaint, Timer as FromTimer}
 use Rattle.user_model.specs.Posts.{message}
 use Rattle.user_model.specs.Deeds.{Posting, to_window, to_thread, posting_of}
 use Rattle.window_state.specs.Trees.{thread_in}
@@ -65,6 +65,7 @@ abbrev pub removal : ℕ → Origin → ℕ → Change
 removal who FromPosted n = takes who n
 removal who FromQuit n = quits who None
 removal who FromPaint n = none
+removal who FromTimer n = none
 
 -- the change of an answer that takes no memory
 abbrev pub effect_in : List Window → ℕ → Answer → Call → Change

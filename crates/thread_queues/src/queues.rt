@@ -2,7 +2,6 @@
 
 ghost use Rattle.std.specs.Prelude.{◌≡◌, ◌<◌, All, None, Some, OnOk, OnErr, length, slice_index_or};
 ghost use Rattle.win_num.specs.declared.message.Msg.{Msg};
-ghost use Rattle.user_model.specs.Retrievals.{removes};
 ghost use Rattle.thread_queues.specs.Changes.{changed, count_kept, ends, noted, posts, purges, quits, taken_if, takes, time_kept};
 ghost use Rattle.thread_queues.specs.Deliveries.{goes_with, kin_in, removal};
 ghost use Rattle.thread_queues.specs.Queues.{HasRoom, IsOne};
@@ -13,7 +12,7 @@ use crate::delivery::posting;
 use std::alloc::AllocError;
 use thread_state::ThreadState;
 use user_model::{Answer, Call, Entry, Origin};
-use win_num::{Hwnd, Msg, Thread, names};
+use win_num::{Hwnd, Msg, Thread};
 use win_tree::Tree;
 
 /// Adds a message under its number to the queue of a thread. After want of memory nothing has changed.
@@ -49,18 +48,18 @@ pub fn end(threads: &mut Vec<ThreadState>, who: Thread)
     threads[usize::from(who.0 - 1)].end();
 }
 
-/// Takes out what a retrieval handed out and removes: a posted message, or quit. WM_PAINT isn't taken out.
+/// Takes out what a retrieval handed out and removes: a posted message, or quit. WM_PAINT and WM_TIMER aren't kept here.
 pub fn take(threads: &mut Vec<ThreadState>, entry: Entry, origin: Origin, number: u32)
     requires { IsOne threads.old.items entry.who.0 }
     ensures { EachBy (λ t. changed t (taken_if entry.call (removal entry.who.0 origin number))) threads.old.items threads.new.items }
 {
-    if !removes(entry.call) {
+    if !entry.call.removes() {
         return;
     }
     match origin {
         Origin::Posted => take_post(threads, entry.who, number),
         Origin::Quit => set_quit(threads, entry.who, None),
-        Origin::Paint => {}
+        Origin::Paint | Origin::Timer => {}
     }
 }
 
@@ -70,17 +69,6 @@ fn take_post(threads: &mut Vec<ThreadState>, who: Thread, number: u32)
     ensures { EachBy (λ t. changed t (takes who.0 number)) threads.old.items threads.new.items }
 {
     threads[usize::from(who.0 - 1)].take(number);
-}
-
-/// Whether a call removes what it retrieves: a get does, and a peek with bit 0 of its flags.
-fn removes(call: Call) -> bool
-    ensures { result ≡ removes call }
-{
-    match call {
-        Call::Get(..) => true,
-        Call::Peek(_, _, _, flags) => flags & names::PM_REMOVE == names::PM_REMOVE,
-        _ => false,
-    }
 }
 
 /// Keeps the code of a thread's quit, or that there is none.

@@ -1,6 +1,7 @@
 -- Lists of settings.
-use Rattle.std.proofs.Common.{◌≡◌, ◌&&◌, ℕ, ◌+◌, ◌<◌, ◌≤◌, ◌^◌, take, drop, ◌==◌, Bool, true, false, not, cond, List, [], ◌∷◌, ◌++◌, length, get_or, set, Option, Some, None, refl, ap, sym, ◌∙◌, arith}
-use Rattle.std.proofs.lemmas.List.Elements.{filter-append, All-filter, All-push, All-map, All-weaker}
+use Rattle.std.proofs.Common.{◌≡◌, ◌&&◌, filter, ℕ, ◌+◌, ◌<◌, ◌≤◌, ◌^◌, take, drop, ◌==◌, Bool, true, false, not, cond, List, [], ◌∷◌, ◌++◌, length, get_or, set, Option, Some, None, refl, ap, sym, ◌∙◌, arith}
+use Rattle.std.specs.List.{items_where_true}
+use Rattle.std.proofs.lemmas.List.Elements.{filter-append, All-cons, All-filter, All-head, All-map, All-nil, All-push, All-tail, All-weaker}
 use Rattle.std.proofs.lemmas.List.{append-nil, append_assoc, drop_all, take_all, length-map, length-take-le, drop_more, take_more, get_or_at, set_at, map-append}
 use Rattle.std.proofs.lemmas.Bool.Decides.{nat_tests}
 use Rattle.std.specs.Option.{option_map}
@@ -8,15 +9,28 @@ use Rattle.win_num.specs.declared.message.Hwnd.{Hwnd}
 use Rattle.win_num.specs.declared.message.Thread.{Thread}
 use Rattle.timer_source.specs.declared.setting.Setting.{Setting}
 use Rattle.timer_source.specs.declared.timer.Timer.{Timer}
-use Rattle.timer_source.specs.Settings.{AreEarly, is_of, without, without_window, anew, restarted, sooner, soonest, timer_of, passing, first_passing, or_timer, with_timer}
+use Rattle.timer_source.specs.Settings.{AreEarly, is_of, without, anew, restarted, sooner, soonest, timer_of, passing, first_passing, or_timer, with_timer}
 
 -- what is taken out leaves early settings
 pub early_without : (w : Hwnd) (id : ℕ) (settings left : List Setting) → left ≡ without w id settings → AreEarly settings → AreEarly left
 early_without w id settings left e early = rw e (All-filter (λ s. not (is_of w id s)) (λ s. s.base < 2 ^ 54) settings early)
 
--- the same of a window's
-pub early_without_window : (w : Hwnd) (settings left : List Setting) → left ≡ without_window w settings → AreEarly settings → AreEarly left
-early_without_window w settings left e early = rw e (All-filter (λ s. not (s.hwnd.0 == w.0)) (λ s. s.base < 2 ^ 54) settings early)
+-- the same of those that fail a test
+pub early_kept : (stays : Setting → Bool) (settings left : List Setting) → left ≡ filter stays settings → AreEarly settings → AreEarly left
+early_kept stays settings left e early = rw e (All-filter stays (λ s. s.base < 2 ^ 54) settings early)
+
+abbrev IsEarly : Setting → Type 0
+IsEarly s = s.base < 2 ^ 54
+
+picked : (bs : List Bool) (xs : List Setting) → AreEarly xs → AreEarly (items_where_true bs xs)
+picked [] xs h = All-nil IsEarly
+picked (b ∷ bs) [] h = All-nil IsEarly
+picked (true ∷ bs) (x ∷ xs) h = All-cons IsEarly x (items_where_true bs xs) (All-head IsEarly x xs h) (picked bs xs (All-tail IsEarly x xs h))
+picked (false ∷ bs) (x ∷ xs) h = picked bs xs (All-tail IsEarly x xs h)
+
+-- the same of those that a list of answers picks
+pub early_picked : (answers : List Bool) (settings left : List Setting) → left ≡ items_where_true answers settings → AreEarly settings → AreEarly left
+early_picked answers settings left e early = rw e (picked answers settings early)
 
 -- a new one at an early clock
 pub early_push : (settings left : List Setting) (s : Setting) → left ≡ settings ++ s ∷ [] → AreEarly settings → s.base < 2 ^ 54 → AreEarly left

@@ -58,8 +58,10 @@ fn due_by_time_then_by_setting(rt: HostRuntime) -> Result<(), Fail> {
     assert_eq!(rt; timers.next_due(thread, |timer| timer.id == 2), Some(45));
     assert_eq!(rt; timers.kill(window, 1), Ok(()));
     assert_eq!(rt; timers.kill(window, 1), Err(Code::Win(87)));
-    timers.purge(window);
+    timers.purge(|w: Hwnd| -> bool { w == window });
     assert_eq!(rt; timers.next_due(thread, |_| true), None);
     assert_eq!(rt; timers.next_due(Thread(2), |_| true), Some(10));
+    timers.end(Thread(2));
+    assert!(rt; !timers.has(Hwnd(17), 3) && !timers.is_full(Thread(2)));
     Ok(())
 }

@@ -1,11 +1,12 @@
 //! All timers that are set.
 
-ghost use Rattle.std.specs.Prelude.{if◌then◌else◌, ◌≡◌, ◌↔◌, ◌≤◌, ◌<◌, ◌⊎◌, [], ◌∷◌, ◌++◌, length, Bool, true, IfErr, IfSome, OnOk, OnErr, vec_len};
+ghost use Rattle.std.specs.Prelude.{if◌then◌else◌, ◌≡◌, ◌==◌, ◌↔◌, ◌≤◌, ◌<◌, ◌⊎◌, ℕ, nat_le, [], ◌∷◌, ◌++◌, filter, length, not, Bool, true, IfErr, IfSome, OnOk, OnErr, vec_len};
 ghost use Rattle.std.specs.Vec.{vec_capacity};
 ghost use Rattle.std.specs.Fn.{FnReturnsAt};
 ghost use Rattle.win_num.specs.Clocks.{clock_limit};
+ghost use Rattle.win_num.specs.declared.message.Hwnd.{Hwnd};
 ghost use Rattle.timer_source.specs.declared.timer.Timer.{Timer};
-ghost use Rattle.timer_source.specs.Settings.{AreEarly, is_of, is_set, without, without_window, of_thread, setting_at, restarted, first_passing, with_timer, timer_of, is_before, first_due, next_due, Computes};
+ghost use Rattle.timer_source.specs.Settings.{AreEarly, is_of, is_set, without, has_no_room, of_thread, setting_at, restarted, first_passing, with_timer, timer_of, is_before, first_due, next_due, Computes};
 
 use crate::setting::Setting;
 use crate::timer::Timer;
@@ -54,11 +55,11 @@ impl Timers {
     pub fn set(&mut self, t: Thread, w: Hwnd, id: u64, ms: u64, clock: u64) -> Result<(), Fault>
         requires { clock < clock_limit }
         ensures ok { OnOk result (self.new ≡ without w id self.old ++ setting_at t w id ms clock ∷ []) }
-        ensures full { (result ≡ Err (Fault.Refused Code.Full)) ↔ (256 ≤ length (of_thread t (without w id self.old))) }
+        ensures full { (result ≡ Err (Fault.Refused Code.Full)) ↔ (has_no_room t w id self.old ≡ true) }
         ensures other { IfErr result (λ e. (e ≡ Fault.Refused Code.Full) ⊎ (e ≡ Fault.Memory)) }
         ensures err { OnErr result (self.new ≡ self.old) }
     {
-        if others_of(&self.settings, t, w, id) >= MOST {
+        if !self.has(w, id) && self.is_full(t) {
             return Err(Fault::Refused(Code::Full));
         }
         if self.settings.reserve(1).is_err() {
@@ -126,11 +127,33 @@ impl Timers {
         begin_anew(&mut self.settings, w, id, clock);
     }
 
-    /// Takes all timers of the window `w` out.
-    pub fn purge(&mut self, w: Hwnd)
-        ensures { self.new ≡ without_window w self.old }
+    /// Whether the window `w` has a timer `id`.
+    pub fn has(&self, w: Hwnd, id: u64) -> bool
+        ensures { result ≡ is_set w id self.now }
     {
-        take_out_all(&mut self.settings, w);
+        stands(&self.settings, w, id)
+    }
+
+    /// Whether thread `t` has as many timers as it may have, 256.
+    pub fn is_full(&self, t: Thread) -> bool
+        ensures { result ≡ nat_le 256 (length (of_thread t self.now)) }
+    {
+        count_of(&self.settings, t) >= MOST
+    }
+
+    /// Takes out the timers whose window goes: those for which `goes` answers true.
+    pub fn purge<F: Fn(Hwnd) -> bool>(&mut self, goes: F)
+        requires { F.IsAlwaysCallable goes }
+        ensures { (test : ℕ → Bool) → ((w : Hwnd) (b : Bool) → F.post goes w b → b ≡ test w.0) → self.new ≡ filter (λ s. not (test s.hwnd.0)) self.old }
+    {
+        self.settings.retain(|s| !goes(s.hwnd));
+    }
+
+    /// Takes out all timers of thread `t`.
+    pub fn end(&mut self, t: Thread)
+        ensures { self.new ≡ filter (λ s. not (s.thread.0 == t.0)) self.old }
+    {
+        take_those_of(&mut self.settings, t);
     }
 }
 
@@ -157,11 +180,11 @@ fn take_out(settings: &mut Vec<Setting>, w: Hwnd, id: u64)
     settings.retain(|s| !is_timer(s, w, id));
 }
 
-/// Takes the timers of the window `w` out.
-fn take_out_all(settings: &mut Vec<Setting>, w: Hwnd)
-    ensures { settings.new.items ≡ without_window w settings.old.items }
+/// Takes the timers of thread `t` out.
+fn take_those_of(settings: &mut Vec<Setting>, t: Thread)
+    ensures { settings.new.items ≡ filter (λ s. not (s.thread.0 == t.0)) settings.old.items }
 {
-    settings.retain(|s| s.hwnd != w);
+    settings.retain(|s| s.thread != t);
 }
 
 /// Puts the base of the timer `id` of the window `w` at the clock.
@@ -175,15 +198,11 @@ fn begin_anew(settings: &mut [Setting], w: Hwnd, id: u64, clock: u64)
     }
 }
 
-/// How many timers of thread `t` there are beside the timer `id` of the window `w`.
-fn others_of(settings: &[Setting], t: Thread, w: Hwnd, id: u64) -> usize
-    ensures { result ≡ length (of_thread t (without w id settings.now)) }
+/// How many timers of thread `t` there are.
+fn count_of(settings: &[Setting], t: Thread) -> usize
+    ensures { result ≡ length (of_thread t settings.now) }
 {
-    settings
-        .iter()
-        .filter(|s| !is_timer(s, w, id))
-        .filter(|s| s.thread == t)
-        .count()
+    settings.iter().filter(|s| s.thread == t).count()
 }
 
 /// The timer of thread `t` that passes and is due first, and of those the one that was set first.

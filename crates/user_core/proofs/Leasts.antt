@@ -1,26 +1,24 @@
 -- The least of some times and one more.
 use Rattle.std.proofs.Common.{◌≡◌, ℕ, List, [], ◌∷◌, ◌++◌, Option, Some, None, refl, ap, ◌∙◌, arith}
-use Rattle.std.proofs.lemmas.List.{append-nil}
-use Rattle.user_model.specs.Idle.{least_of, least_with, one_of}
+use Rattle.user_model.specs.Idle.{least_of, least_with}
 
-turned : (n m : ℕ) (o : Option ℕ) → least_with n (Some (least_with m o)) ≡ least_with m (Some (least_with n o))
-turned n m None = omega arith
-turned n m (Some k) = omega arith
+-- where some are, the lesser of their least and that of the others
+abbrev lesser_of : Option ℕ → Option ℕ → Option ℕ
+lesser_of None q = q
+lesser_of (Some n) q = Some (least_with n q)
 
--- one time more at the end
-least_last : (ns : List ℕ) (m : ℕ) → least_of (ns ++ m ∷ []) ≡ Some (least_with m (least_of ns))
-least_last [] m = refl
-least_last (n ∷ ns) m = ap (λ o. Some (least_with n o)) (least_last ns m) ∙ ap (λ k. Some k) (turned n m (least_of ns))
+passed : (n : ℕ) (p q : Option ℕ) → Some (least_with n (lesser_of p q)) ≡ lesser_of (Some (least_with n p)) q
+passed n None q = refl
+passed n (Some m) None = refl
+passed n (Some m) (Some k) = ap (λ l. Some l) (omega arith)
 
--- none, or one
-pub least_none : (ns : List ℕ) → least_of (ns ++ one_of None) ≡ least_of ns
-least_none ns = ap least_of (append-nil ns)
+-- the least of some times and of some more
+least_both : (ns ms : List ℕ) → least_of (ns ++ ms) ≡ lesser_of (least_of ns) (least_of ms)
+least_both [] ms = refl
+least_both (n ∷ ns) ms = ap (λ o. Some (least_with n o)) (least_both ns ms) ∙ passed n (least_of ns) (least_of ms)
 
-pub least_one : (ns : List ℕ) (m : ℕ) (o : Option ℕ) → least_of ns ≡ o → least_of (ns ++ one_of (Some m)) ≡ Some (least_with m o)
-least_one ns m o e = least_last ns m ∙ ap (λ p. Some (least_with m p)) e
+pub least_some : (ns ms : List ℕ) (n : ℕ) (q : Option ℕ) → least_of ns ≡ Some n → least_of ms ≡ q → least_of (ns ++ ms) ≡ Some (least_with n q)
+least_some ns ms n q e f = least_both ns ms ∙ ap (λ o. lesser_of o (least_of ms)) e ∙ ap (λ o. Some (least_with n o)) f
 
--- the one that there may be, where there was none
-pub least_only : (ns : List ℕ) (o : Option ℕ) → least_of ns ≡ None → least_of (ns ++ one_of o) ≡ o
-least_only [] None e = refl
-least_only [] (Some m) e = refl
-least_only (n ∷ ns) o e = cc
+pub least_none : (ns ms : List ℕ) (q : Option ℕ) → least_of ns ≡ None → least_of ms ≡ q → least_of (ns ++ ms) ≡ q
+least_none ns ms q e f = least_both ns ms ∙ ap (λ o. lesser_of o (least_of ms)) e ∙ f

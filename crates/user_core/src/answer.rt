@@ -10,6 +10,7 @@ ghost use Rattle.user_model.specs.Idle.{is_wait, is_idle, is_barred, first_busy,
 
 use crate::actor::{Actor, actor_of};
 use crate::clock::{advanced, sleep_until_answer, soonest, tick_answer};
+use crate::timers::{kill_timer_answer, set_timer_answer};
 use core_deliver::{
     admit, delivery_answer, is_delivery, is_drawing, is_retrieval, is_window_call, retrieval_answer,
 };
@@ -19,7 +20,7 @@ use core_window::window_answer;
 use user_model::{Answer, Call};
 use win_num::{Code, Thread};
 
-/// The answer of a call of time, or of the end of a thread, to a running thread, where its stack allows the
+/// The answer of a call of time or timers, or of the end of a thread, to a running thread, where its stack allows the
 /// call.
 fn row_answer(state: &CoreState, thread: u8, call: Call) -> Answer
     requires room { is_full state.now.past ≡ false }
@@ -30,6 +31,8 @@ fn row_answer(state: &CoreState, thread: u8, call: Call) -> Answer
     ensures { result ≡ row state.now.setup state.now.past thread call }
 {
     match call {
+        Call::SetTimer(w, id, _) => set_timer_answer(state, thread, w, id),
+        Call::KillTimer(w, id) => kill_timer_answer(state, thread, w, id),
         Call::Yield => Answer::Okay,
         Call::EndThread => Answer::Ended,
         Call::Clock => Answer::Value(state.time()),
@@ -39,7 +42,7 @@ fn row_answer(state: &CoreState, thread: u8, call: Call) -> Answer
     }
 }
 
-/// The answer of a call of time, or of the end of a thread, to an actor other than the clock.
+/// The answer of a call of time or timers, or of the end of a thread, to an actor other than the clock.
 fn own_answer(state: &CoreState, who: Thread, call: Call) -> Answer
     requires no_retrieval { is_retrieval call ≡ false }
     requires no_delivery { is_delivery call ≡ false }
@@ -153,7 +156,7 @@ fn clock_answer(state: &CoreState, call: Call) -> Answer
     }
 }
 
-/// What a call of time, or the end of a thread, answers.
+/// What a call of time or timers, or the end of a thread, answers.
 #[tactic(auto, unfolding(user_model::specs::Idle::reply))]
 pub fn answer(state: &CoreState, who: Thread, call: Call) -> Answer
     requires no_retrieval { is_retrieval call ≡ false }

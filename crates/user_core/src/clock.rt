@@ -1,7 +1,7 @@
 //! What the calls of time answer.
 
 ghost use Rattle.std.specs.Prelude.{◌≡◌, ◌++◌, ℕ, List, false};
-ghost use Rattle.user_model.specs.Idle.{advanced, least_of, one_of, soonest, tick_reply};
+ghost use Rattle.user_model.specs.Idle.{advanced, least_of, soonest, tick_reply};
 ghost use Rattle.user_model.specs.Past.{is_full};
 ghost use Rattle.user_model.specs.ReplyClock.{sleep_until_reply};
 
@@ -50,9 +50,9 @@ pub fn soonest(state: &CoreState) -> Option<u64>
     least
 }
 
-/// The least of some times and one more that there may be.
+/// The least of some times and of some more.
 fn lesser(first: Option<u64>, second: Option<u64>) -> Option<u64>
-    ensures { (times : List ℕ) → least_of times ≡ first → least_of (times ++ one_of second) ≡ result }
+    ensures { (times others : List ℕ) → least_of times ≡ first → least_of others ≡ second → least_of (times ++ others) ≡ result }
 {
     match (first, second) {
         (Some(a), Some(b)) => Some(a.min(b)),

@@ -68,6 +68,8 @@ changes_none past who call (Refused code) is = record {
   same_results = λ x. refl;
   same_unfinished = refl;
   same_ready = λ t. refl;
+  same_timers = refl;
+  same_bases = λ x. refl;
 }
 changes_none past who call _ is = absurd (false≢true is)
 

@@ -16,7 +16,7 @@ use Rattle.user_model.specs.declared.entry.Setup.{Setup}
 use Rattle.user_model.specs.Past.{Past, last_of, or_else}
 use Rattle.user_model.specs.Filters.{passes_window}
 use Rattle.user_model.specs.Looks.{place_of}
-use Rattle.user_model.specs.Next.{got_paint, next, next_posted, next_quit, next_ready}
+use Rattle.user_model.specs.Next.{got_paint, next, next_posted, next_quit, next_timer, next_ready}
 use Rattle.user_model.specs.Pixels.{corner_from, origin, origin_within, owner, point}
 use Rattle.user_model.specs.Windows.{live, parent_in, thread_of}
 use Rattle.user_model.specs.ZOrder.{siblings}
@@ -67,4 +67,4 @@ module _ (past : Past) (by : Thread) (asked : Call) (code : Code) where
   to_paint_kept setup t f = ap (find (wants_paint setup later t f)) (below_kept (length (live past)) 0) ∙ found_same (wants_paint setup later t f) (wants_paint setup past t f) (wants_kept setup t f) (painting_order past)
 
   pub next_kept : (setup : Setup) (t : ℕ) (f : Filter) → next setup later t f ≡ next setup past t f
-  next_kept setup t f = ap (λ (o : Option Hwnd). or_else (next_ready past t) (or_else (next_posted past t f) (or_else (next_quit past t) (option_map (got_paint past) o)))) (to_paint_kept setup t f)
+  next_kept setup t f = ap (λ (o : Option Hwnd). or_else (next_ready past t) (or_else (next_posted past t f) (or_else (next_quit past t) (or_else (option_map (got_paint past) o) (next_timer past t f))))) (to_paint_kept setup t f)

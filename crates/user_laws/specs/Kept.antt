@@ -18,6 +18,7 @@ use Rattle.user_model.specs.Posts.{posts, posted, quit}
 use Rattle.user_model.specs.Stacks.{stack}
 use Rattle.user_model.specs.Sends.{SentMsg, sends, is_entered, answer, unfinished, was_called_back}
 use Rattle.user_model.specs.Ready.{ready}
+use Rattle.user_model.specs.Timers.{WinTimer, base, timers}
 
 -- after the entry each value is the one before it
 pub record ChangesNothing (past : Past) (e : Entry) : Type 0 where
@@ -50,3 +51,5 @@ pub record ChangesNothing (past : Past) (e : Entry) : Type 0 where
   pub same_results : (x : SentMsg) → was_called_back (e ∷ past) x ≡ was_called_back past x
   pub same_unfinished : unfinished (e ∷ past) ≡ unfinished past
   pub same_ready : (t : ℕ) → ready (e ∷ past) t ≡ ready past t
+  pub same_timers : timers (e ∷ past) ≡ timers past
+  pub same_bases : (x : WinTimer) → base (e ∷ past) x ≡ base past x

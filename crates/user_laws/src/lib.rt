@@ -30,6 +30,7 @@ pub use stands::{
 };
 pub use times::{
     clock_has_a_bound, clock_never_goes_back, clock_wakes_a_thread, soonest_time_is_to_come,
+    timers_follow,
 };
 pub use user_core::SendStory;
 pub use words::{

@@ -12,7 +12,7 @@ use Rattle.win_num.specs.declared.send.Frame.{Frame}
 use Rattle.win_num.specs.declared.send.Frame.TheVariants.{Entered, Inside as InsideFrame}
 use Rattle.win_num.specs.declared.code.Code.{Code}
 use Rattle.win_num.specs.declared.code.Code.TheVariants.{NotNow}
-use Rattle.win_num.specs.declared.names.TheConstants.{WM_PAINT, WM_QUIT}
+use Rattle.win_num.specs.declared.names.TheConstants.{WM_PAINT, WM_QUIT, WM_TIMER}
 use Rattle.user_model.specs.declared.call.Call.{Call}
 use Rattle.user_model.specs.declared.call.Call.TheVariants.{Post, PostThread, Dispatch, Await, Leave, Unmake, Snap, EndThread}
 use Rattle.user_model.specs.declared.entry.Answer.{Answer}
@@ -31,6 +31,7 @@ use Rattle.user_model.specs.Sends.{SentMsg, Outcome, send, answer, unfinished}
 use Rattle.user_model.specs.Ready.{ReadyMsg, to_enter, to_call_back, ready_head}
 use Rattle.user_model.specs.Next.{next, next_ready, next_quit, result_of}
 use Rattle.user_model.specs.Painting.{to_paint}
+use Rattle.user_model.specs.Timers.{WinTimer, due}
 use Rattle.user_model.specs.Colours.{snapped}
 use Rattle.user_model.specs.Refusals.{is_no_message}
 use Rattle.user_model.specs.ReplyDelivery.{next_post_number, is_no_post_window}
@@ -84,6 +85,19 @@ pub record IsPaint (setup : Setup) (past : Past) (who : ℕ) (call : Call) (n : 
   pub is_first : to_paint setup past who pass ≡ Some of
   pub is_zero : n ≡ 0
   pub is_message : m ≡ message of.0 WM_PAINT 0 0 (clock past) (cursor past)
+
+-- WM_TIMER was retrieved: nothing is ready, no post passes, quit and painting don't come, and the timer is the first that is due
+pub record IsTimer (setup : Setup) (past : Past) (who : ℕ) (call : Call) (n : ℕ) (m : Msg) : Type 0 where
+  pub pass : Filter
+  pub is_call : retrieves call ≡ Some pass
+  pub is_unready : next_ready past who ≡ None
+  pub is_none : first_post past who pass ≡ None
+  pub no_quit : next_quit past who ≡ None
+  pub no_paint : to_paint setup past who pass ≡ None
+  pub of : WinTimer
+  pub is_first : due past who pass ≡ Some of
+  pub is_zero : n ≡ 0
+  pub is_message : m ≡ message of.hwnd WM_TIMER of.id 0 (clock past) (cursor past)
 
 -- a retrieval with the filter finds no next message
 abbrev pub NoneComes : Setup → Past → ℕ → Call → Type 0
@@ -221,6 +235,7 @@ Says setup past who call (answers.Done result cause) = IsDone past who call resu
 Says setup past who call (answers.Got origins.Posted n m) = IsTaken past who call n m
 Says setup past who call (answers.Got origins.Quit n m) = IsQuit past who call n m
 Says setup past who call (answers.Got origins.Paint n m) = IsPaint setup past who call n m
+Says setup past who call (answers.Got origins.Timer n m) = IsTimer setup past who call n m
 Says setup past who call (answers.Refused code) = IsProper call code
 
 -- the same as a fact of its own

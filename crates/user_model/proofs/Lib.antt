@@ -35,6 +35,9 @@ pub mod TellerLaws
 pub mod ThreadLaws
 pub mod TimeBounds
 pub mod TimeLaws
+pub mod TimerLaws
+pub mod TimerReplies
+pub mod TimerWindows
 pub mod WakeLaws
 pub mod WindowFacts
 pub mod WindowLaws

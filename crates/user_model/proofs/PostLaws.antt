@@ -237,6 +237,10 @@ posted-quit e past t n m is call = posted-same e past t (ap is_post is) (ap (λ 
 pub posted-paint : (e : Entry) (past : Past) (t n : ℕ) (m : Msg) → e.answer ≡ answers.Got origins.Paint n m → is_some (retrieves e.call) ≡ true → posted (e ∷ past) t ≡ posted past t
 posted-paint e past t n m is call = posted-same e past t (ap is_post is) (ap (λ a. removed_post a e.call) is) (ap is_end is) (retrieves_no_drop e.call call)
 
+-- and so does one that hands out WM_TIMER
+pub posted-timer : (e : Entry) (past : Past) (t n : ℕ) (m : Msg) → e.answer ≡ answers.Got origins.Timer n m → is_some (retrieves e.call) ≡ true → posted (e ∷ past) t ≡ posted past t
+posted-timer e past t n m is call = posted-same e past t (ap is_post is) (ap (λ a. removed_post a e.call) is) (ap is_end is) (retrieves_no_drop e.call call)
+
 -- a call that is answered okay and drops no window leaves all posts
 pub posted-okay : (e : Entry) (past : Past) (t : ℕ) → e.answer ≡ answers.Okay → is_drop e.call ≡ false → posted (e ∷ past) t ≡ posted past t
 posted-okay e past t is call = posted-same e past t (ap is_post is) (ap (λ a. removed_post a e.call) is) (ap is_end is) call

@@ -13,7 +13,7 @@ use Rattle.win_num.specs.declared.send.Frame.TheVariants.{Entered, Inside as Ins
 use Rattle.win_num.specs.declared.code.Code.{Code}
 use Rattle.win_num.specs.declared.code.Code.TheVariants.{Full}
 use Rattle.user_model.specs.declared.call.Call.{Call}
-use Rattle.user_model.specs.declared.call.Call.TheVariants.{Peek, Get, Post, PostThread, PostQuit, Dispatch, Send, SendTimeout, SendNotify, SendCallback, Await, Leave, Reply, InSend, Message, Register, Unregister, NewWindow, Doom, Unmake, Drop, Place, Show, Find, AwaitTitle, NextTop, WindowAt, IsWindow, Parent, Invalidate, Validate, UpdateRect, BeginPaint, EndPaint, Fill, Erase, Snap, EndThread, Clock, SleepUntil, Yield, Tick, Advance}
+use Rattle.user_model.specs.declared.call.Call.TheVariants.{Peek, Get, Post, PostThread, PostQuit, Dispatch, Send, SendTimeout, SendNotify, SendCallback, Await, Leave, Reply, InSend, Message, Register, Unregister, NewWindow, Doom, Unmake, Drop, Place, Show, Find, AwaitTitle, NextTop, WindowAt, IsWindow, Parent, Invalidate, Validate, UpdateRect, BeginPaint, EndPaint, Fill, Erase, Snap, SetTimer, KillTimer, EndThread, Clock, SleepUntil, Yield, Tick, Advance}
 use Rattle.user_model.specs.declared.entry.Answer.{Answer}
 use Rattle.user_model.specs.declared.entry.Answer.TheVariants as answers
 use Rattle.user_model.specs.declared.entry.Setup.{Setup}
@@ -30,8 +30,9 @@ use Rattle.user_model.specs.Posts.{PostedMsg, PostedQuit, posted, queue_of, firs
 use Rattle.user_model.specs.Stacks.{top, has_room, waits}
 use Rattle.user_model.specs.Sends.{SentMsg, Outcome, send, answer, unfinished}
 use Rattle.user_model.specs.Ready.{ReadyMsg, to_enter, to_call_back, ready_head}
-use Rattle.user_model.specs.Next.{next, next_ready, next_posted, next_quit, next_paint, run_for, got_posted, got_quit, got_paint, is_empty}
+use Rattle.user_model.specs.Next.{next, next_ready, next_posted, next_quit, next_paint, next_timer, run_for, got_posted, got_quit, got_paint, got_timer, is_empty}
 use Rattle.user_model.specs.Painting.{to_paint}
+use Rattle.user_model.specs.Timers.{WinTimer, due}
 use Rattle.user_model.specs.Colours.{snapped}
 use Rattle.user_model.specs.Refusals.{refuse, is_no_message, invalid_parameter, invalid_window_handle, access_denied, stack_overflow, not_enough_quota, invalid_thread_id}
 use Rattle.user_model.specs.ReplyDelivery.{next_post_number, is_no_post_window}
@@ -139,26 +140,30 @@ module _ (setup : Setup) (past : Past) (who : ℕ) (call : Call) where
   -- ---- a retrieval with the filter f, which answers d where nothing comes
 
   module _ (f : Filter) (is : retrieves call ≡ Some f) (serves : is_serving call ≡ true) (d : Answer) (nothing : NoneComes setup past who call → Said setup past who call d) where
-    none_comes : next_ready past who ≡ None → next_posted past who f ≡ None → next_quit past who ≡ None → next_paint setup past who f ≡ None → Said setup past who call d
-    none_comes h k l m = nothing (λ g same. subst (λ x. next setup past who x ≡ None) (by g same) (ap (λ o. or_else o (or_else (next_posted past who f) (or_else (next_quit past who) (next_paint setup past who f)))) h ∙ ap (λ o. or_else o (or_else (next_quit past who) (next_paint setup past who f))) k ∙ ap (λ o. or_else o (next_paint setup past who f)) l ∙ m))
+    none_comes : next_ready past who ≡ None → next_posted past who f ≡ None → next_quit past who ≡ None → next_paint setup past who f ≡ None → next_timer past who f ≡ None → Said setup past who call d
+    none_comes h k l m n = nothing (λ g same. subst (λ x. next setup past who x ≡ None) (by g same) (ap (λ o. or_else o (or_else (next_posted past who f) (or_else (next_quit past who) (or_else (next_paint setup past who f) (next_timer past who f))))) h ∙ ap (λ o. or_else o (or_else (next_quit past who) (or_else (next_paint setup past who f) (next_timer past who f)))) k ∙ ap (λ o. or_else o (or_else (next_paint setup past who f) (next_timer past who f))) l ∙ ap (λ o. or_else o (next_timer past who f)) m ∙ n))
       where
         by : (g : Filter) → retrieves call ≡ Some g → f ≡ g
         by g h = let e : Some f ≡ Some g = sym is ∙ h in cc
 
-    paint_said : next_ready past who ≡ None → first_post past who f ≡ None → next_quit past who ≡ None → (o : Option Hwnd) → to_paint setup past who f ≡ o → Said setup past who call (unwrap_or (option_map (got_paint past) o) d)
-    paint_said h k l (Some w) first = record { says = record { pass = f; is_call = is; is_unready = h; is_none = k; no_quit = l; of = w; is_first = first; is_zero = refl; is_message = refl } }
-    paint_said h k l None first = none_comes h (ap (option_map got_posted) k) l (ap (option_map (got_paint past)) first)
+    timer_said : next_ready past who ≡ None → first_post past who f ≡ None → next_quit past who ≡ None → to_paint setup past who f ≡ None → (o : Option WinTimer) → due past who f ≡ o → Said setup past who call (unwrap_or (option_map (got_timer past) o) d)
+    timer_said h k l m (Some x) first = record { says = record { pass = f; is_call = is; is_unready = h; is_none = k; no_quit = l; no_paint = m; of = x; is_first = first; is_zero = refl; is_message = refl } }
+    timer_said h k l m None first = none_comes h (ap (option_map got_posted) k) l (ap (option_map (got_paint past)) m) (ap (option_map (got_timer past)) first)
 
-    quit_said : next_ready past who ≡ None → first_post past who f ≡ None → (b : Bool) (q : Option PostedQuit) → is_empty (posted past who) ≡ b → quit past who ≡ q → Said setup past who call (unwrap_or (or_else (cond b (option_map (got_quit past) q) None) (next_paint setup past who f)) d)
+    paint_said : next_ready past who ≡ None → first_post past who f ≡ None → next_quit past who ≡ None → (o : Option Hwnd) → to_paint setup past who f ≡ o → Said setup past who call (unwrap_or (or_else (option_map (got_paint past) o) (next_timer past who f)) d)
+    paint_said h k l (Some w) first = record { says = record { pass = f; is_call = is; is_unready = h; is_none = k; no_quit = l; of = w; is_first = first; is_zero = refl; is_message = refl } }
+    paint_said h k l None first = timer_said h k l first (due past who f) refl
+
+    quit_said : next_ready past who ≡ None → first_post past who f ≡ None → (b : Bool) (q : Option PostedQuit) → is_empty (posted past who) ≡ b → quit past who ≡ q → Said setup past who call (unwrap_or (or_else (cond b (option_map (got_quit past) q) None) (or_else (next_paint setup past who f) (next_timer past who f))) d)
     quit_said h k true (Some x) empty stands = record { says = record { pass = f; is_call = is; is_unready = h; of = x; is_none = k; is_last = empty_is (posted past who) empty; stands = stands; is_zero = refl; is_message = refl } }
     quit_said h k true None empty stands = paint_said h k (ap (λ b. cond b (option_map (got_quit past) (quit past who)) None) empty ∙ ap (option_map (got_quit past)) stands) (to_paint setup past who f) refl
     quit_said h k false q empty stands = paint_said h k (ap (λ b. cond b (option_map (got_quit past) (quit past who)) None) empty) (to_paint setup past who f) refl
 
-    post_said : next_ready past who ≡ None → (o : Option PostedMsg) → first_post past who f ≡ o → Said setup past who call (unwrap_or (or_else (option_map got_posted o) (or_else (next_quit past who) (next_paint setup past who f))) d)
+    post_said : next_ready past who ≡ None → (o : Option PostedMsg) → first_post past who f ≡ o → Said setup past who call (unwrap_or (or_else (option_map got_posted o) (or_else (next_quit past who) (or_else (next_paint setup past who f) (next_timer past who f)))) d)
     post_said h (Some x) k = record { says = record { pass = f; is_call = is; is_unready = h; of = x; is_first = k; is_number = refl; is_message = refl } }
     post_said h None k = quit_said h k (is_empty (posted past who)) (quit past who) refl refl
 
-    next_said : (o : Option Answer) → next_ready past who ≡ o → Said setup past who call (unwrap_or (or_else o (or_else (next_posted past who f) (or_else (next_quit past who) (next_paint setup past who f)))) d)
+    next_said : (o : Option Answer) → next_ready past who ≡ o → Said setup past who call (unwrap_or (or_else o (or_else (next_posted past who f) (or_else (next_quit past who) (or_else (next_paint setup past who f) (next_timer past who f))))) d)
     next_said None h = post_said h (first_post past who f) refl
     next_said (Some a) h = ready_said serves a h
 
@@ -309,6 +314,8 @@ row_said setup past who (EndPaint w) = plainly setup past who (EndPaint w) (row 
 row_said setup past who (Fill w l t r b colour) = plainly setup past who (Fill w l t r b colour) (row setup past who (Fill w l t r b colour)) (search (plain_behind, plain))
 row_said setup past who (Erase w) = plainly setup past who (Erase w) (row setup past who (Erase w)) (search (plain_behind, plain))
 row_said setup past who Snap = behind setup past who Snap (nat_le 256 (length (snapped past))) Full (answers.Snap (suc (length (snapped past)))) refl (λ room. record { says = record { is_call = refl; is_next = refl } })
+row_said setup past who (SetTimer w id ms) = plainly setup past who (SetTimer w id ms) (row setup past who (SetTimer w id ms)) (search (plain_behind, plain))
+row_said setup past who (KillTimer w id) = plainly setup past who (KillTimer w id) (row setup past who (KillTimer w id)) (search (plain_behind, plain))
 row_said setup past who EndThread = record { says = refl }
 row_said setup past who Clock = record { says = tt }
 row_said setup past who (SleepUntil time) = let call = SleepUntil time in behind setup past who call _ invalid_parameter _ refl (λ n. woken_said setup past who call refl (nat_le time (clock past)))

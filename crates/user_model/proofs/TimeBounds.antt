@@ -1,6 +1,6 @@
 -- The clock is no later than its entries can move it, and so is each time that is waited for.
 use Rattle.std.proofs.Common.{◌≡◌, ℕ, zero, suc, ◌+◌, ◌*◌, ◌<◌, ◌≤◌, Bool, true, false, cond, eqb, List, [], ◌∷◌, length, Option, Some, None, refl, ap, subst, sym, ◌∙◌, arith}
-use Rattle.std.specs.Prelude.{◌||◌, find, nat_lt, nat_le, unwrap_or}
+use Rattle.std.specs.Prelude.{◌||◌, ◌&&◌, filter, find, map, max, min, nat_lt, nat_le, not, unwrap_or}
 use Rattle.std.specs.List.{AllByRecursion}
 use Rattle.std.proofs.lemmas.Bool.{false≢true, or_parts}
 use Rattle.std.proofs.lemmas.Bool.Decides.{nat_tests}
@@ -9,7 +9,7 @@ use Rattle.win_num.specs.declared.code.Code.TheVariants.{Full}
 use Rattle.win_num.specs.declared.send.Kind.{Kind}
 use Rattle.win_num.specs.declared.send.Kind.TheVariants.{Wait as WaitKind, Timeout as WithTimeout, Notify, Callback as WithCallback}
 use Rattle.user_model.specs.declared.call.Call.{Call}
-use Rattle.user_model.specs.declared.call.Call.TheVariants.{Send, SendTimeout, SendNotify, SendCallback, SleepUntil, Await, Tick, Advance}
+use Rattle.user_model.specs.declared.call.Call.TheVariants.{Get, Peek, Send, SendTimeout, SendNotify, SendCallback, SleepUntil, Await, SetTimer, Tick, Advance}
 use Rattle.user_model.specs.declared.entry.Answer.{Answer}
 use Rattle.user_model.specs.declared.entry.Answer.TheVariants as answers
 use Rattle.user_model.specs.declared.entry.Entry.{Entry}
@@ -18,6 +18,11 @@ use Rattle.user_model.specs.Past.{Past, is_full, is_refused, is_refusal}
 use Rattle.user_model.specs.Places.{clock, if_clock, time_told}
 use Rattle.user_model.specs.Threads.{from_each}
 use Rattle.user_model.specs.Sends.{SentMsg, send, sends, sends_by, sent_as}
+use Rattle.win_num.specs.declared.message.Filter.{Filter}
+use Rattle.user_model.specs.Filters.{filter_of}
+use Rattle.user_model.specs.Windows.{drops_window, thread_of}
+use Rattle.user_model.specs.Retrievals.{removed_timer}
+use Rattle.user_model.specs.Timers.{WinTimer, base, due_time, ends_timer, is_message_of, passes_timer, passing_timers, restarts, sets, timers, timers_of, timers_set}
 use Rattle.user_model.specs.Refusals.{refuse, invalid_parameter, is_no_message}
 use Rattle.user_model.specs.ReplyClock.{woken}
 use Rattle.user_model.specs.ReplySends.{deadline_in, waiting_send}
@@ -25,9 +30,10 @@ use Rattle.user_model.specs.Replies.{thread_reply}
 use Rattle.user_model.specs.Idle.{advanced, busy_or, clock_row, first_busy, is_wait, last_entry, least_of, least_with, one_of, reply, soonest, times_of, times_of_call, wake_times}
 use Rattle.user_model.specs.Legal.{IsLawful}
 use Rattle.user_model.proofs.ClockLaws.{clock-next, last_entry-next}
-use Rattle.user_model.proofs.ListLaws.{all_append, all_weaker}
+use Rattle.user_model.proofs.ListLaws.{all_append, all_filter, all_weaker}
 use Rattle.user_model.proofs.ReplyLaws.{by_row, by_call, not_refused}
 use Rattle.user_model.proofs.SendLaws.{sends-next, sends-refused}
+use Rattle.user_model.proofs.TimerLaws.{base-next, base-refused, timers-next, timers-refused}
 
 -- the latest time after so many entries
 abbrev latest : ℕ → ℕ
@@ -48,9 +54,15 @@ abbrev sleeps : Option Entry → List ℕ
 sleeps None = []
 sleeps (Some e) = cond (is_wait e.answer) (sleep_of e.call) []
 
+-- a timer's period is no longer than allowed, and began at a time from which the next entry can't move the clock less far
+record IsPeriodic (past : Past) (n : ℕ) (x : WinTimer) : Type 0 where
+  period : x.period ≤ 2147483647
+  begun : base past x + 2147483647 ≤ latest n
+
 record IsBounded (past : Past) : Type 0 where
   clock_low : clock past ≤ latest (length past)
   sends_low : AllByRecursion (IsTimed (length past)) (sends past)
+  timers_low : AllByRecursion (IsPeriodic past (length past)) (timers past)
   sleeps_low : (t : ℕ) → AllByRecursion (λ m. m ≤ latest (length past)) (sleeps (last_entry past t))
 
 later : (n m : ℕ) → m ≤ latest n → m ≤ latest (suc n)
@@ -90,9 +102,18 @@ due_low : (past : Past) (s : ℕ) (o : Option SentMsg) → IsBounded past → se
 due_low past s None b e = tt
 due_low past s (Some x) b e = (found_timed (length past) s (sends past) x b.sends_low e).due
 
+all_due : (past : Past) (xs : List WinTimer) → AllByRecursion (IsPeriodic past (length past)) xs → AllByRecursion (λ m. m ≤ latest (length past)) (map (due_time past) xs)
+all_due past [] h = tt
+all_due past (x ∷ xs) h = (omega (arith, h.0.period, h.0.begun), all_due past xs h.1)
+
+dues_low : (past : Past) (t : ℕ) (f : Filter) → IsBounded past → AllByRecursion (λ m. m ≤ latest (length past)) (map (due_time past) (passing_timers past t f))
+dues_low past t f b = all_due past (passing_timers past t f) (all_filter (IsPeriodic past (length past)) (passes_timer past f) (timers_of past t) (all_filter (IsPeriodic past (length past)) (λ x. eqb (thread_of past x.hwnd) t) (timers past) b.timers_low))
+
 call_low : (past : Past) (t : ℕ) (call : Call) → IsBounded past → AllByRecursion (λ m. m ≤ latest (length past)) (sleep_of call) → AllByRecursion (λ m. m ≤ latest (length past)) (times_of_call past t call)
 call_low past t (SleepUntil time) b h = h
 call_low past t (Await s) b h = due_low past s (send past s) b refl
+call_low past t (Get w min max) b h = dues_low past t (filter_of w min max) b
+call_low past t (Peek w min max flags) b h = dues_low past t (filter_of w min max) b
 call_low past t _ b h = tt
 
 entry_low : (past : Past) (t : ℕ) (o : Option Entry) → IsBounded past → AllByRecursion (λ m. m ≤ latest (length past)) (sleeps o) → AllByRecursion (λ m. m ≤ latest (length past)) (times_of past t o)
@@ -223,15 +244,62 @@ sleeps_step setup past e t h b = subst (λ o. AllByRecursion (λ m. m ≤ latest
     by true = own_low setup past e h b.clock_low
     by false = all_weaker (λ m. m ≤ latest (length past)) (λ m. m ≤ latest (suc (length past))) (later (length past)) (sleeps (last_entry past t)) (b.sleeps_low t)
 
+-- ---- timers
+
+-- a timer's period after an entry, where the clock was no later than it can be
+period_next : (e : Entry) (past : Past) (x : WinTimer) → clock past ≤ latest (length past) → IsPeriodic past (length past) x → IsPeriodic (e ∷ past) (suc (length past)) x
+period_next e past x low h = record { period = h.period; begun = by (is_refused e) refl }
+  where
+    told : (b : Bool) → restarts x.hwnd x.id e ≡ b → unwrap_or (cond b (Some (clock past)) None) (base past x) + 2147483647 ≤ latest (suc (length past))
+    told true is = omega (arith, low)
+    told false is = omega (arith, h.begun)
+
+    by : (b : Bool) → is_refused e ≡ b → base (e ∷ past) x + 2147483647 ≤ latest (suc (length past))
+    by true is = let same = base-refused e past x is in omega (arith, same, h.begun)
+    by false is = subst (λ n. n + 2147483647 ≤ latest (suc (length past))) (sym (base-next e past x is)) (told (restarts x.hwnd x.id e) refl)
+
+-- that of a timer that an entry sets
+period_set : (e : Entry) (past : Past) (call : Call) → e.call ≡ call → is_refused e ≡ false → clock past ≤ latest (length past) → AllByRecursion (IsPeriodic (e ∷ past) (suc (length past))) (timers_set call)
+period_set e past (SetTimer w id ms) is fine low = (record { period = least (max ms 10) 2147483647; begun = now }, tt)
+  where
+    least : (a b : ℕ) → min a b ≤ b
+    least a b = omega arith
+
+    same : (w id : ℕ) → (eqb w w && eqb id id) ≡ true
+    same w id = grind arith
+
+    sets_it : restarts w id e ≡ true
+    sets_it = ap (λ c. sets w id c || is_message_of w id (removed_timer e.answer c)) is ∙ ap (λ b. b || is_message_of w id (removed_timer e.answer (SetTimer w id ms))) (same w id)
+
+    now : base (e ∷ past) (record { hwnd = w; id = id; period = min (max ms 10) 2147483647 }) + 2147483647 ≤ latest (suc (length past))
+    now =
+        let told : base (e ∷ past) (record { hwnd = w; id = id; period = min (max ms 10) 2147483647 }) ≡ clock past = base-next e past (record { hwnd = w; id = id; period = min (max ms 10) 2147483647 }) fine ∙ ap (λ b. unwrap_or (cond b (Some (clock past)) None) (base past (record { hwnd = w; id = id; period = min (max ms 10) 2147483647 }))) sets_it in
+        omega (arith, told, low)
+period_set e past _ is fine low = tt
+
+timers_step : (e : Entry) (past : Past) → IsBounded past → AllByRecursion (IsPeriodic (e ∷ past) (suc (length past))) (timers (e ∷ past))
+timers_step e past b = by (is_refused e) refl
+  where
+    old : AllByRecursion (IsPeriodic (e ∷ past) (suc (length past))) (timers past)
+    old = all_weaker (IsPeriodic past (length past)) (IsPeriodic (e ∷ past) (suc (length past))) (λ x. period_next e past x b.clock_low) (timers past) b.timers_low
+
+    by : (c : Bool) → is_refused e ≡ c → AllByRecursion (IsPeriodic (e ∷ past) (suc (length past))) (timers (e ∷ past))
+    by true k = subst (AllByRecursion (IsPeriodic (e ∷ past) (suc (length past)))) (sym (timers-refused e past k)) old
+    by false k = subst (AllByRecursion (IsPeriodic (e ∷ past) (suc (length past)))) (sym (timers-next e past k))
+        (all_append (IsPeriodic (e ∷ past) (suc (length past))) (filter (λ x. not (ends_timer e.call x || drops_window e past x.hwnd)) (timers past)) (timers_set e.call)
+        (all_filter (IsPeriodic (e ∷ past) (suc (length past))) (λ x. not (ends_timer e.call x || drops_window e past x.hwnd)) (timers past) old)
+        (period_set e past e.call refl k b.clock_low))
+
 -- ---- every lawful past
 
 bounded : (setup : Setup) (past : Past) → IsLawful setup past → IsBounded past
-bounded setup [] h = record { clock_low = omega arith; sends_low = tt; sleeps_low = λ t. tt }
+bounded setup [] h = record { clock_low = omega arith; sends_low = tt; timers_low = tt; sleeps_low = λ t. tt }
 bounded setup (e ∷ past) h =
     let b = bounded setup past h.0 in
     record {
       clock_low = clock_step setup past e h b;
       sends_low = sends_step setup past e h b;
+      timers_low = timers_step e past b;
       sleeps_low = λ t. sleeps_step setup past e t h b;
     }
 

@@ -1,6 +1,6 @@
 -- Times: where all is quiet, the soonest time is to come; the clock never goes back.
 use Rattle.std.proofs.Common.{◌≡◌, ℕ, zero, suc, ◌+◌, ◌<◌, ◌≤◌, Bool, true, false, not, cond, eqb, List, [], ◌∷◌, Option, Some, None, refl, ap, ◌∙◌, sym, subst, arith}
-use Rattle.std.specs.Prelude.{◌&&◌, is_none, nat_lt, nat_le, unwrap_or}
+use Rattle.std.specs.Prelude.{◌&&◌, filter, is_none, map, nat_lt, nat_le, option_map, unwrap_or}
 use Rattle.std.specs.List.{AllByRecursion}
 use Rattle.std.proofs.lemmas.Bool.{false≢true, eqb-true}
 use Rattle.std.proofs.lemmas.Bool.Decides.{nat_tests}
@@ -8,7 +8,7 @@ use Rattle.win_num.specs.declared.send.Cause.TheVariants.{Timeout as ByTimeout}
 use Rattle.win_num.specs.declared.code.Code.{Code}
 use Rattle.win_num.specs.declared.code.Code.TheVariants.{NotNow, Full}
 use Rattle.user_model.specs.declared.call.Call.{Call}
-use Rattle.user_model.specs.declared.call.Call.TheVariants.{Await, SleepUntil, Tick, Advance}
+use Rattle.user_model.specs.declared.call.Call.TheVariants.{Get, Peek, Await, SleepUntil, Tick, Advance}
 use Rattle.user_model.specs.declared.entry.Entry.{Entry}
 use Rattle.user_model.specs.declared.entry.Answer.{Answer}
 use Rattle.user_model.specs.declared.entry.Answer.TheVariants as answers
@@ -18,6 +18,10 @@ use Rattle.user_model.specs.Places.{clock, if_clock, time_told, has_ended, is_en
 use Rattle.user_model.specs.Threads.{lowest, from_each, is_running}
 use Rattle.user_model.specs.Sends.{Outcome, answer}
 use Rattle.user_model.specs.Stacks.{top}
+use Rattle.win_num.specs.declared.message.Filter.{Filter}
+use Rattle.user_model.specs.Filters.{filter_of}
+use Rattle.user_model.specs.Timers.{WinTimer, due, due_time, is_due, passing_timers, soonest_timer}
+use Rattle.user_model.specs.Next.{got_timer, next, next_ready, next_posted, next_quit, next_paint, next_timer}
 use Rattle.user_model.specs.Refusals.{refuse, invalid_parameter}
 use Rattle.user_model.specs.ReplySends.{deadline, has_come, served}
 use Rattle.user_model.specs.ReplyClock.{woken}
@@ -27,6 +31,7 @@ use Rattle.user_model.specs.Legal.{IsLawful}
 use Rattle.user_model.proofs.ListLaws.{all_append}
 use Rattle.user_model.proofs.ClockLaws.{clock-next, last_entry-next}
 use Rattle.user_model.proofs.ReplyLaws.{by_row, running_lives}
+use Rattle.user_model.proofs.DeliveryReplies.{wait_told}
 use Rattle.user_model.proofs.ThreadLaws.{has_ended-same}
 
 above : (m k : ℕ) → nat_le m k ≡ false → k < m
@@ -80,6 +85,10 @@ waits_behind : (b : Bool) (code : Code) (a : Answer) → is_wait (refuse b code 
 waits_behind true code a h = absurd (false≢true h)
 waits_behind false code a h = h
 
+wait_is : (a : Answer) → is_wait a ≡ true → a ≡ answers.Wait
+wait_is answers.Wait h = refl
+wait_is _ h = absurd (false≢true h)
+
 woken_late : (b : Bool) → is_wait (woken b) ≡ true → b ≡ false
 woken_late true h = absurd (false≢true h)
 woken_late false h = refl
@@ -96,10 +105,38 @@ due_later : (c : ℕ) (o : Option ℕ) → has_come o c ≡ false → AllByRecur
 due_later c None h = tt
 due_later c (Some m) h = (above m c h, tt)
 
+-- where no passing timer is due, each is due later
+timers_later : (past : Past) (xs : List WinTimer) → soonest_timer past (filter (is_due past) xs) ≡ None → AllByRecursion (λ m. clock past < m) (map (due_time past) xs)
+timers_later past [] h = tt
+timers_later past (x ∷ xs) h = by (is_due past x) refl h (λ k. timers_later past xs k)
+  where
+    by : (b : Bool) → is_due past x ≡ b → soonest_timer past (cond b (x ∷ filter (is_due past) xs) (filter (is_due past) xs)) ≡ None → (soonest_timer past (filter (is_due past) xs) ≡ None → AllByRecursion (λ m. clock past < m) (map (due_time past) xs)) → AllByRecursion (λ m. clock past < m) (map (due_time past) (x ∷ xs))
+    by true is k rest = absurd cc
+    by false is k rest = (above (due_time past x) (clock past) is, rest k)
+
+none_mapped : {A B : Type 0} (f : A → B) (o : Option A) → option_map f o ≡ None → o ≡ None
+none_mapped f None h = refl
+none_mapped f (Some a) h = absurd cc
+
+second_none : {A : Type 0} (o p : Option A) → or_else o p ≡ None → p ≡ None
+second_none None p h = h
+second_none (Some a) p h = absurd cc
+
+-- where nothing comes for a filter, no timer that passes it is due
+none_due : (setup : Setup) (past : Past) (t : ℕ) (f : Filter) → next setup past t f ≡ None → AllByRecursion (λ m. clock past < m) (map (due_time past) (passing_timers past t f))
+none_due setup past t f h =
+    timers_later past (passing_timers past t f) (none_mapped (got_timer past) (due past t f)
+    (second_none (next_paint setup past t f) (next_timer past t f)
+    (second_none (next_quit past t) _
+    (second_none (next_posted past t f) _
+    (second_none (next_ready past t) _ h)))))
+
 -- the times of a call that waits are to come
 call_times : (setup : Setup) (past : Past) (t : ℕ) (call : Call) → is_wait (row setup past t call) ≡ true → AllByRecursion (λ m. clock past < m) (times_of_call past t call)
 call_times setup past t (SleepUntil time) h = (above time (clock past) (woken_late (nat_le time (clock past)) (waits_behind (nat_lt (clock past + 4294967295) time) invalid_parameter (woken (nat_le time (clock past))) h)), tt)
 call_times setup past t (Await s) h = due_later (clock past) (deadline past s) (await_wait past t s (answer past s) h)
+call_times setup past t (Get w min max) h = none_due setup past t (filter_of w min max) (wait_told setup past t (Get w min max) (wait_is (row setup past t (Get w min max)) h) (filter_of w min max) refl)
+call_times setup past t (Peek w min max flags) h = none_due setup past t (filter_of w min max) (wait_told setup past t (Peek w min max flags) (wait_is (row setup past t (Peek w min max flags)) h) (filter_of w min max) refl)
 call_times setup past t _ h = tt
 
 still_times : (setup : Setup) (past : Past) (t : ℕ) (o : Option Entry) → still_waits setup past t o ≡ true → AllByRecursion (λ m. clock past < m) (times_of past t o)
@@ -111,10 +148,6 @@ still_times setup past t (Some e) h = by (is_wait e.answer) h
     by false k = tt
 
 -- ---- ended threads
-
-wait_is : (a : Answer) → is_wait a ≡ true → a ≡ answers.Wait
-wait_is answers.Wait h = refl
-wait_is _ h = absurd (false≢true h)
 
 abbrev last_waits : Option Entry → Bool
 last_waits None = false

@@ -53,7 +53,7 @@ pub record IsOwn (setup : Setup) (past : Past) (who w : ℕ) : Type 0 where
   pub is_live : is_live past w ≡ true
   pub own : eqb (thread_of past w) who ≡ true
 
-own_told : (setup : Setup) (past : Past) (who w : ℕ) → is_running setup past who ≡ true → if_live past w (refuse (not (eqb (thread_of past w) who)) access_denied answers.Okay) ≡ answers.Okay → IsOwn setup past who w
+pub own_told : (setup : Setup) (past : Past) (who w : ℕ) → is_running setup past who ≡ true → if_live past w (refuse (not (eqb (thread_of past w) who)) access_denied answers.Okay) ≡ answers.Okay → IsOwn setup past who w
 own_told setup past who w running e =
     let live = not_refused (not (is_live past w)) invalid_window_handle _ answers.Okay refl e in
     let own = not_refused (not (eqb (thread_of past w) who)) access_denied answers.Okay answers.Okay refl live.1 in

@@ -6,7 +6,7 @@ use Rattle.win_num.specs.declared.send.Kind.{Kind}
 use Rattle.win_num.specs.declared.send.Kind.TheVariants.{Wait, Timeout as WithTimeout, Notify, Callback as WithCallback}
 use Rattle.win_num.specs.declared.names.TheConstants.{PM_REMOVE}
 use Rattle.user_model.specs.declared.call.Call.{Call}
-use Rattle.user_model.specs.declared.call.Call.TheVariants.{Post, PostThread, Peek, Get, PostQuit, Dispatch, Send, SendTimeout, SendNotify, SendCallback, Await, Leave, Reply, InSend, Message, Register, Unregister, NewWindow, Doom, Unmake, Drop, Place, Show, Find, AwaitTitle, NextTop, WindowAt, IsWindow, Parent, Invalidate, Validate, UpdateRect, BeginPaint, EndPaint, Fill, Erase, Snap, EndThread, Clock, SleepUntil, Yield, Tick, Advance}
+use Rattle.user_model.specs.declared.call.Call.TheVariants.{Post, PostThread, Peek, Get, PostQuit, Dispatch, Send, SendTimeout, SendNotify, SendCallback, Await, Leave, Reply, InSend, Message, Register, Unregister, NewWindow, Doom, Unmake, Drop, Place, Show, Find, AwaitTitle, NextTop, WindowAt, IsWindow, Parent, Invalidate, Validate, UpdateRect, BeginPaint, EndPaint, Fill, Erase, Snap, SetTimer, KillTimer, EndThread, Clock, SleepUntil, Yield, Tick, Advance}
 
 -- a message that a call posts: to the thread of a window, or for window 0 to the caller; or to a thread, without a window
 pub data Posting : Type 0 where
@@ -83,6 +83,8 @@ deed (EndPaint w) = doing_else
 deed (Fill w l t r b colour) = doing_else
 deed (Erase w) = doing_else
 deed Snap = doing_else
+deed (SetTimer w id ms) = doing_else
+deed (KillTimer w id) = doing_else
 deed EndThread = doing_else
 deed Clock = doing_else
 deed Yield = doing_else

@@ -1,5 +1,5 @@
 -- Idle threads, the soonest time, the answers of the clock, and the answer of any call.
-use Rattle.std.specs.Prelude.{if◌then◌else◌, ℕ, ◌==◌, ◌+◌, nat_lt, min, Bool, true, false, not, ◌||◌, List, [], ◌∷◌, Option, Some, None, is_none}
+use Rattle.std.specs.Prelude.{if◌then◌else◌, ℕ, ◌==◌, ◌+◌, nat_lt, min, Bool, true, false, not, ◌||◌, List, [], ◌∷◌, map, Option, Some, None, is_none}
 use Rattle.win_num.specs.declared.code.Code.TheVariants.{NotNow, Full}
 use Rattle.user_model.specs.declared.entry.Setup.{Setup}
 use Rattle.user_model.specs.declared.entry.Entry.{Entry}
@@ -8,8 +8,9 @@ use Rattle.user_model.specs.declared.entry.Answer.TheVariants.{Wait, Value, Stuc
 use Rattle.user_model.specs.declared.call.Call.{Call}
 use Rattle.user_model.specs.declared.call.Call.TheVariants.{Tick, Advance}
 use Rattle.user_model.specs.Past.{Past, is_full, first}
-use Rattle.user_model.specs.Deeds.{Deed, sleeping, awaiting, deed}
+use Rattle.user_model.specs.Deeds.{Deed, sleeping, awaiting, retrieving, deed}
 use Rattle.user_model.specs.Places.{clock, has_ended, mine}
+use Rattle.user_model.specs.Timers.{due_time, passing_timers}
 use Rattle.user_model.specs.Threads.{lowest, from_each}
 use Rattle.user_model.specs.Replies.{thread_reply}
 use Rattle.user_model.specs.ReplySends.{deadline}
@@ -50,10 +51,11 @@ abbrev pub one_of : Option ℕ → List ℕ
 one_of None = []
 one_of (Some n) = n ∷ []
 
--- the times that t waits for: a sleep's, or a timeout send's
+-- the times that t waits for: a sleep's, a timeout send's, or those at which timers are due that a retrieval lets pass
 abbrev pub times_as : Past → ℕ → Deed → List ℕ
 times_as past t (sleeping time) = time ∷ []
 times_as past t (awaiting s) = one_of (deadline past s)
+times_as past t (retrieving pass removes) = map (due_time past) (passing_timers past t pass)
 times_as past t _ = []
 
 -- the times that a call of t waits for

@@ -31,5 +31,6 @@ pub mod Stacks
 pub mod Stories
 pub mod Tellers
 pub mod Threads
+pub mod Timers
 pub mod Windows
 pub mod ZOrder

@@ -2,11 +2,11 @@
 use Rattle.std.specs.Prelude.{if◌then◌else◌, ℕ, Bool, true, false, List, [], ◌∷◌, Option, Some, None, option_map}
 use Rattle.win_num.specs.declared.message.Filter.{Filter}
 use Rattle.win_num.specs.declared.message.Hwnd.{Hwnd}
-use Rattle.win_num.specs.declared.names.TheConstants.{WM_PAINT, WM_QUIT}
+use Rattle.win_num.specs.declared.names.TheConstants.{WM_PAINT, WM_QUIT, WM_TIMER}
 use Rattle.user_model.specs.declared.entry.Setup.{Setup}
 use Rattle.user_model.specs.declared.entry.Answer.{Answer}
 use Rattle.user_model.specs.declared.entry.Answer.TheVariants.{Enter, Callback, Got}
-use Rattle.user_model.specs.declared.entry.Origin.TheVariants.{Posted, Quit, Paint}
+use Rattle.user_model.specs.declared.entry.Origin.TheVariants.{Posted, Quit, Paint, Timer}
 use Rattle.user_model.specs.Past.{Past, or_else}
 use Rattle.user_model.specs.Places.{clock, cursor}
 use Rattle.user_model.specs.Classes.{proc_of}
@@ -14,6 +14,7 @@ use Rattle.user_model.specs.Stacks.{has_room}
 use Rattle.user_model.specs.Sends.{Outcome, answer}
 use Rattle.user_model.specs.Ready.{ReadyMsg, to_enter, to_call_back, ready_head}
 use Rattle.user_model.specs.Painting.{to_paint}
+use Rattle.user_model.specs.Timers.{WinTimer, due}
 use Rattle.user_model.specs.Posts.{PostedMsg, PostedQuit, message, posted, first_post, quit}
 
 -- the result of a send, or 0
@@ -59,6 +60,14 @@ got_paint past w = Got Paint 0 (message w.0 WM_PAINT 0 0 (clock past) (cursor pa
 abbrev pub next_paint : Setup → Past → ℕ → Filter → Option Answer
 next_paint setup past t f = option_map (got_paint past) (to_paint setup past t f)
 
--- ready sends and results, then the first posted message that passes, then quit, then painting
+-- WM_TIMER of a timer, with the clock and the cursor of the retrieval
+abbrev pub got_timer : Past → WinTimer → Answer
+got_timer past x = Got Timer 0 (message x.hwnd WM_TIMER x.id 0 (clock past) (cursor past))
+
+-- WM_TIMER for the first due timer that passes
+abbrev pub next_timer : Past → ℕ → Filter → Option Answer
+next_timer past t f = option_map (got_timer past) (due past t f)
+
+-- ready sends and results, then the first posted message that passes, then quit, then painting, then timers
 abbrev pub next : Setup → Past → ℕ → Filter → Option Answer
-next setup past t f = or_else (next_ready past t) (or_else (next_posted past t f) (or_else (next_quit past t) (next_paint setup past t f)))
+next setup past t f = or_else (next_ready past t) (or_else (next_posted past t f) (or_else (next_quit past t) (or_else (next_paint setup past t f) (next_timer past t f))))

@@ -7,13 +7,13 @@ use Rattle.user_model.specs.declared.entry.Setup.{Setup}
 use Rattle.user_model.specs.declared.entry.Answer.{Answer}
 use Rattle.user_model.specs.declared.entry.Answer.TheVariants.{Okay, Ended, Refused}
 use Rattle.user_model.specs.declared.call.Call.{Call}
-use Rattle.user_model.specs.declared.call.Call.TheVariants.{Peek, Get, Post, PostThread, PostQuit, Dispatch, Send, SendTimeout, SendNotify, SendCallback, Await, Leave, Reply, InSend, Message, Register, Unregister, NewWindow, Doom, Unmake, Drop, Place, Show, Find, AwaitTitle, NextTop, WindowAt, IsWindow, Parent, Invalidate, Validate, UpdateRect, BeginPaint, EndPaint, Fill, Erase, Snap, EndThread, Clock, SleepUntil, Yield, Tick, Advance}
+use Rattle.user_model.specs.declared.call.Call.TheVariants.{Peek, Get, Post, PostThread, PostQuit, Dispatch, Send, SendTimeout, SendNotify, SendCallback, Await, Leave, Reply, InSend, Message, Register, Unregister, NewWindow, Doom, Unmake, Drop, Place, Show, Find, AwaitTitle, NextTop, WindowAt, IsWindow, Parent, Invalidate, Validate, UpdateRect, BeginPaint, EndPaint, Fill, Erase, Snap, SetTimer, KillTimer, EndThread, Clock, SleepUntil, Yield, Tick, Advance}
 use Rattle.user_model.specs.Past.{Past}
 use Rattle.user_model.specs.ReplyDelivery.{peek_reply, get_reply, post_reply, post_thread_reply}
 use Rattle.user_model.specs.ReplyWindows.{register_reply, unregister_reply, message_reply, new_window_reply, doom_reply, unmake_reply, drop_reply, place_reply, show_reply, find_reply, await_title_reply, next_top_reply, window_at_reply, is_window_reply, parent_reply}
 use Rattle.user_model.specs.ReplyDrawing.{invalidate_reply, validate_reply, update_rect_reply, begin_paint_reply, end_paint_reply, fill_reply, erase_reply, snap_reply}
 use Rattle.user_model.specs.ReplySends.{dispatch_reply, send_reply, send_timeout_reply, send_other_reply, await_reply, leave_reply, reply_reply, in_send_reply}
-use Rattle.user_model.specs.ReplyClock.{clock_reply, sleep_until_reply}
+use Rattle.user_model.specs.ReplyClock.{clock_reply, sleep_until_reply, set_timer_reply, kill_timer_reply}
 use Rattle.user_model.specs.Stacks.{top}
 use Rattle.user_model.specs.Refusals.{refuse}
 use Rattle.user_model.specs.Threads.{is_running}
@@ -57,6 +57,8 @@ row setup past who (EndPaint w) = end_paint_reply past who w
 row setup past who (Fill w l t r b colour) = fill_reply past who w l t r b colour
 row setup past who (Erase w) = erase_reply past who w
 row setup past who Snap = snap_reply past
+row setup past who (SetTimer w id ms) = set_timer_reply past who w id
+row setup past who (KillTimer w id) = kill_timer_reply past who w id
 row setup past who EndThread = Ended
 row setup past who Clock = clock_reply past
 row setup past who (SleepUntil time) = sleep_until_reply past time

@@ -1,14 +1,25 @@
--- The answers of a thread's calls on the clock.
-use Rattle.std.specs.Prelude.{ℕ, ◌+◌, nat_lt, nat_le, Bool, true, false}
+-- The answers of a thread's calls on the clock and on timers.
+use Rattle.std.specs.Prelude.{ℕ, ◌+◌, nat_lt, nat_le, Bool, true, false, ◌&&◌, length, is_none}
+use Rattle.win_num.specs.declared.code.Code.TheVariants.{Full}
 use Rattle.user_model.specs.declared.entry.Answer.{Answer}
 use Rattle.user_model.specs.declared.entry.Answer.TheVariants.{Okay, Wait, Value}
 use Rattle.user_model.specs.Past.{Past}
 use Rattle.user_model.specs.Places.{clock}
-use Rattle.user_model.specs.Refusals.{refuse, invalid_parameter}
+use Rattle.user_model.specs.Windows.{is_live}
+use Rattle.user_model.specs.Timers.{timer, timers_of}
+use Rattle.user_model.specs.Refusals.{refuse, if_own, invalid_parameter}
 
 -- the clock
 abbrev pub clock_reply : Past → Answer
 clock_reply past = Value (clock past)
+
+-- a timer is set: one more, where its thread has fewer than 256, or anew
+abbrev pub set_timer_reply : Past → ℕ → ℕ → ℕ → Answer
+set_timer_reply past who w id = if_own past who w (refuse (is_none (timer past w id) && nat_le 256 (length (timers_of past who))) Full Okay)
+
+-- a timer is taken back
+abbrev pub kill_timer_reply : Past → ℕ → ℕ → ℕ → Answer
+kill_timer_reply past who w id = refuse (is_live past w && is_none (timer past w id)) invalid_parameter (if_own past who w Okay)
 
 -- okay at the time, else to wait
 abbrev pub woken : Bool → Answer

@@ -1,10 +1,11 @@
 -- What a retrieval removed.
 use Rattle.std.specs.Prelude.{if◌then◌else◌, ℕ, ◌==◌, Bool, true, false, Option, Some, None}
+use Rattle.win_num.specs.declared.message.Msg.{Msg}
 use Rattle.user_model.specs.declared.call.Call.{Call}
 use Rattle.user_model.specs.declared.entry.Entry.{Entry}
 use Rattle.user_model.specs.declared.entry.Answer.{Answer}
 use Rattle.user_model.specs.declared.entry.Answer.TheVariants.{Got}
-use Rattle.user_model.specs.declared.entry.Origin.TheVariants.{Posted, Quit}
+use Rattle.user_model.specs.declared.entry.Origin.TheVariants.{Posted, Quit, Timer}
 use Rattle.user_model.specs.Deeds.{Deed, retrieving, deed}
 
 -- whether a retrieval removes
@@ -20,6 +21,11 @@ removes call = removes_in (deed call)
 abbrev pub removed_post : Answer → Call → Option ℕ
 removed_post (Got Posted n msg) call = if removes call then Some n else None
 removed_post _ call = None
+
+-- the message of a timer that an answer hands out and its call removes
+abbrev pub removed_timer : Answer → Call → Option Msg
+removed_timer (Got Timer n msg) call = if removes call then Some msg else None
+removed_timer _ call = None
 
 -- whether it is this number
 abbrev pub is_number : Option ℕ → ℕ → Bool

@@ -1,5 +1,10 @@
 //! The calls of the machine.
 
+ghost use Rattle.std.specs.Prelude.{◌≡◌};
+ghost use Rattle.user_model.specs.Retrievals.{removes};
+
+use win_num::names;
+
 /// A call of the machine, with its arguments in the order in which scripts and logs write them. Windows,
 /// threads and message numbers are 64-bit numbers as they were written, which no call narrows before it
 /// has tested them.
@@ -103,6 +108,11 @@ pub enum Call {
     Erase(u64),
     /// Keeps the colours of the screen as a frame.
     Snap,
+    /// Sets a timer of an own window: the window, the timer's id, and its period in milliseconds, where below 10 count as 10 and above
+    /// 2147483647 as that. A timer of the window with this id is replaced (Microsoft, SetTimer function).
+    SetTimer(u64, u64, u64),
+    /// Takes a timer back: its window and its id (Microsoft, KillTimer function).
+    KillTimer(u64, u64),
     /// Ends the thread that makes it, and drops its windows.
     EndThread,
     /// The virtual clock (Microsoft, GetTickCount64 function).
@@ -115,4 +125,18 @@ pub enum Call {
     Tick(u64),
     /// Lets the clock go on where every thread waits. Actor 0 alone makes it.
     Advance,
+}
+
+impl Call {
+    /// Whether the call removes what it retrieves: a get does, and a peek with bit 0 of its flags, PM_REMOVE (Microsoft, PeekMessage
+    /// function).
+    pub fn removes(&self) -> bool
+        ensures { result ≡ removes self.now }
+    {
+        match self {
+            Call::Get(..) => true,
+            Call::Peek(_, _, _, flags) => flags & names::PM_REMOVE == names::PM_REMOVE,
+            _ => false,
+        }
+    }
 }

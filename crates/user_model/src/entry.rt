@@ -14,6 +14,8 @@ pub enum Origin {
     Quit,
     /// A window with dirty pixels (Microsoft, WM_PAINT message).
     Paint,
+    /// A timer that is due (Microsoft, WM_TIMER message).
+    Timer,
 }
 
 /// What a call answers.

@@ -119,6 +119,7 @@ outer_in turn Nobody = None
 outer_in turn (One a) = Some (record turn { place = a; around = Nobody })
 outer_in turn (Two a b) = Some (record turn { place = a; around = One b })
 
+-- the same by the compounds that are around the turn
 abbrev pub outer : Turn → Option Turn
 outer turn = outer_in turn turn.around
 

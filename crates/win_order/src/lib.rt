@@ -15,6 +15,3 @@ mod top_level;
 pub use after::After;
 pub use order::Order;
 pub use top_level::TopLevel;
-
-#[cfg(test)]
-mod tests;

@@ -1,6 +1,7 @@
 use Rattle.std.proofs.Common.{◌<◌, length, ap, refl, sym, subst, ◌∙◌, arith}
+use Rattle.std.specs.List.{All}
 use Rattle.std.proofs.lemmas.Bool.Decides.{Decides-eqb}
-use Rattle.screen_owners.specs.Shares.{IsTaken}
+use Rattle.screen_owners.specs.Shares.{IsLeft, IsTaken}
 use Rattle.screen_owners.proofs.ShareLaws.{child_share, near_more, none_taken}
 use Rattle.screen_owners.proofs.shares.child_share.Goals as goal
 
@@ -22,4 +23,4 @@ returns-then-is_empty c =
 pub returns : goal.returns
 returns c =
     let takes = subst (λ cs. IsTaken c.args.parent.now.taken cs c.args.i c.in_ok-taken.taken) c.deref.ensures.value c.in_ok-taken.ensures in
-    (refl, child_share c.args.tree.now.live c.args.order.now c.args.tree.now.last c.args.screen.width c.args.screen.height c.requires.ordered c.requires.children c.args.parent.now _ c.args.i c.requires.parent c.requires.below c.requires.last takes c.corner_of-corner.ensures c.in_ok-covers.ensures)
+    (refl, child_share c.args.tree.now.live c.args.order.now c.args.tree.now.last c.args.screen.width c.args.screen.height c.requires.ordered c.requires.children c.args.parent.now _ c.args.i c.requires.parent c.requires.below c.requires.last takes c.corner_of-corner.ensures c.in_ok-covers.ensures (subst (λ cs. All (IsLeft c.in_ok-taken.taken cs) c.in_ok-lefts.lefts.items) c.deref-3.ensures.value c.in_ok-lefts.ensures))

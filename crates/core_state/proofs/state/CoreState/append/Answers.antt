@@ -1,4 +1,4 @@
-use Rattle.std.proofs.Common.{rules, ◌≡◌, false, ◌∷◌, [], ◌++◌, reverse, length, sym, ap, ◌∙◌, subst}
+use Rattle.std.proofs.Common.{rules, ◌≡◌, ◌<◌, false, ◌∷◌, [], ◌++◌, reverse, length, sym, ap, ◌∙◌, subst}
 use Rattle.std.proofs.lemmas.List.{length-reverse}
 use Rattle.user_model.specs.Past.{Past, is_full, place_after}
 use Rattle.user_model.specs.Places.{cursor}
@@ -9,7 +9,12 @@ use Rattle.send_state.specs.Stories.{EachStory, noted_answer, with_begun}
 use Rattle.send_state.specs.Tallies.{first_cause, first_of}
 use Rattle.display_state.specs.Displays.{IsDisplayAt}
 use Rattle.core_state.proofs.Appended.{growth_fits, leaving_fits, ranking_fits, sends_grow, sends_settle, settling_fits, stands_step, tally_step}
+use Rattle.win_num.specs.Clocks.{clock_limit}
+use Rattle.user_model.proofs.TimeBounds.{clock_small}
+use Rattle.timer_state.specs.Changes.{FitsAddedTimers}
+use Rattle.timer_state.proofs.TimerNeeds.{fits_adding, fits_following}
 use Rattle.core_state.proofs.DisplaySteps.{display_step}
+use Rattle.core_state.proofs.Timing.{still_fits, timers_step}
 use Rattle.core_state.proofs.SendCounts.{naming_fits}
 use Rattle.core_state.proofs.state.CoreState.append.Goals as goal
 
@@ -31,7 +36,7 @@ add_item-requires-clause-parts c =
     let e = c.args.entry in
     let s = c.self.inside in
     let past : Past = reverse s.history.items in
-    let kept : Parts = parts s.tree s.order s.display s.classes s.threads.items s.post_count s.time s.sends s.tally s.stories.items in
+    let kept : Parts = parts s.tree s.order s.display s.classes s.threads.items s.timers s.post_count s.time s.sends s.tally s.stories.items in
     let right : e.answer ≡ reply s.setup past e.who.0 e.call = subst (λ (v : Seen). e.answer ≡ reply v.setup v.past e.who.0 e.call) (sym c.self.view_is) c.requires.answer in
     let at : c.cursor.result ≡ cursor past = subst (λ (v : Seen). c.cursor.result ≡ cursor v.past) (sym c.self.view_is) c.cursor.ensures in
     growth_fits s.setup past kept c.cursor.result e c.self.invariant at right
@@ -50,12 +55,40 @@ add_item-requires-clause-drawing c =
       right = subst (λ (v : Seen). e.answer ≡ reply v.setup v.past e.who.0 e.call) (sym c.self.view_is) c.requires.answer;
     }
 
+pub add_item-requires-clause-timers : goal.add_item-requires-clause-timers
+add_item-requires-clause-timers c =
+    let e = c.args.entry in
+    let s = c.self.inside in
+    let past : Past = reverse s.history.items in
+    let right : e.answer ≡ reply s.setup past e.who.0 e.call = subst (λ (v : Seen). e.answer ≡ reply v.setup v.past e.who.0 e.call) (sym c.self.view_is) c.requires.answer in
+    subst (λ l. FitsAddedTimers s.tree.live e.who l e.answer e.call) (sym c.self.invariant.timers) (fits_adding s.setup past s.tree e.who e.answer e.call c.self.invariant.tree right)
+
+pub add_item-requires-clause-early : goal.add_item-requires-clause-early
+add_item-requires-clause-early c =
+    let s = c.self.inside in
+    let past : Past = reverse s.history.items in
+    subst (λ n. n < clock_limit) (sym c.self.invariant.clock) (clock_small s.setup past c.self.invariant.lawful c.self.invariant.short)
+
+pub follow_timers-requires-clause-fits : goal.follow_timers-requires-clause-fits
+follow_timers-requires-clause-fits c =
+    let e = c.args.entry in
+    let s = c.self.inside in
+    let past : Past = reverse s.history.items in
+    let right : e.answer ≡ reply s.setup past e.who.0 e.call = subst (λ (v : Seen). e.answer ≡ reply v.setup v.past e.who.0 e.call) (sym c.self.view_is) c.requires.answer in
+    still_fits s.tree c.add_item.new.tree e.who.0 e.answer e.call c.in_ok-add_item.ensures.tree (fits_following s.setup past s.tree e.who e.answer e.call c.self.invariant.tree right)
+
+pub follow_timers-requires-clause-early : goal.follow_timers-requires-clause-early
+follow_timers-requires-clause-early c =
+    let s = c.self.inside in
+    let past : Past = reverse s.history.items in
+    subst (λ n. n < clock_limit) (sym c.self.invariant.clock) (clock_small s.setup past c.self.invariant.lawful c.self.invariant.short)
+
 pub add_item-requires-clause-order : goal.add_item-requires-clause-order
 add_item-requires-clause-order c =
     let e = c.args.entry in
     let s = c.self.inside in
     let past : Past = reverse s.history.items in
-    let kept : Parts = parts s.tree s.order s.display s.classes s.threads.items s.post_count s.time s.sends s.tally s.stories.items in
+    let kept : Parts = parts s.tree s.order s.display s.classes s.threads.items s.timers s.post_count s.time s.sends s.tally s.stories.items in
     let right : e.answer ≡ reply s.setup past e.who.0 e.call = subst (λ (v : Seen). e.answer ≡ reply v.setup v.past e.who.0 e.call) (sym c.self.view_is) c.requires.answer in
     ranking_fits s.setup past kept e c.self.invariant right
 
@@ -64,7 +97,7 @@ take_effect-requires-clause-order c =
     let e = c.args.entry in
     let s = c.self.inside in
     let past : Past = reverse s.history.items in
-    let kept : Parts = parts s.tree s.order s.display s.classes s.threads.items s.post_count s.time s.sends s.tally s.stories.items in
+    let kept : Parts = parts s.tree s.order s.display s.classes s.threads.items s.timers s.post_count s.time s.sends s.tally s.stories.items in
     let right : e.answer ≡ reply s.setup past e.who.0 e.call = subst (λ (v : Seen). e.answer ≡ reply v.setup v.past e.who.0 e.call) (sym c.self.view_is) c.requires.answer in
     leaving_fits s.setup past kept e c.add_item.new.tree c.add_item.new.order c.self.invariant right c.in_ok-add_item.ensures.tree c.in_ok-add_item.ensures.order
 
@@ -73,7 +106,7 @@ add_item-requires-clause-sends c =
     let e = c.args.entry in
     let s = c.self.inside in
     let past : Past = reverse s.history.items in
-    let kept : Parts = parts s.tree s.order s.display s.classes s.threads.items s.post_count s.time s.sends s.tally s.stories.items in
+    let kept : Parts = parts s.tree s.order s.display s.classes s.threads.items s.timers s.post_count s.time s.sends s.tally s.stories.items in
     let room : is_full past ≡ false = subst (λ (v : Seen). is_full v.past ≡ false) (sym c.self.view_is) c.requires.room in
     let right : e.answer ≡ reply s.setup past e.who.0 e.call = subst (λ (v : Seen). e.answer ≡ reply v.setup v.past e.who.0 e.call) (sym c.self.view_is) c.requires.answer in
     let long : c.len.result ≡ length s.history.items = search rules in
@@ -84,7 +117,7 @@ settle_sends-lost-requires-clause-sends c =
     let e = c.args.entry in
     let s = c.self.inside in
     let past : Past = reverse s.history.items in
-    let kept : Parts = parts s.tree s.order s.display s.classes s.threads.items s.post_count s.time s.sends s.tally s.stories.items in
+    let kept : Parts = parts s.tree s.order s.display s.classes s.threads.items s.timers s.post_count s.time s.sends s.tally s.stories.items in
     let room : is_full past ≡ false = subst (λ (v : Seen). is_full v.past ≡ false) (sym c.self.view_is) c.requires.room in
     let right : e.answer ≡ reply s.setup past e.who.0 e.call = subst (λ (v : Seen). e.answer ≡ reply v.setup v.past e.who.0 e.call) (sym c.self.view_is) c.requires.answer in
     let long : c.len.result ≡ length s.history.items = search rules in
@@ -95,7 +128,7 @@ take_effect-requires-clause-parts c =
     let e = c.args.entry in
     let s = c.self.inside in
     let past : Past = reverse s.history.items in
-    let kept : Parts = parts s.tree s.order s.display s.classes s.threads.items s.post_count s.time s.sends s.tally s.stories.items in
+    let kept : Parts = parts s.tree s.order s.display s.classes s.threads.items s.timers s.post_count s.time s.sends s.tally s.stories.items in
     let right : e.answer ≡ reply s.setup past e.who.0 e.call = subst (λ (v : Seen). e.answer ≡ reply v.setup v.past e.who.0 e.call) (sym c.self.view_is) c.requires.answer in
     settling_fits s.setup past kept e c.add_item.new.classes c.add_item.new.tree c.add_item.new.threads.items c.self.invariant right c.in_ok-add_item.ensures.classes c.in_ok-add_item.ensures.tree c.in_ok-add_item.ensures.threads.same_length
 
@@ -104,7 +137,7 @@ invariant_of-self-2 c =
     let e = c.args.entry in
     let s = c.self.inside in
     let past : Past = reverse s.history.items in
-    let kept : Parts = parts s.tree s.order s.display s.classes s.threads.items s.post_count s.time s.sends s.tally s.stories.items in
+    let kept : Parts = parts s.tree s.order s.display s.classes s.threads.items s.timers s.post_count s.time s.sends s.tally s.stories.items in
     let room : is_full past ≡ false = subst (λ (v : Seen). is_full v.past ≡ false) (sym c.self.view_is) c.requires.room in
     let right : e.answer ≡ reply s.setup past e.who.0 e.call = subst (λ (v : Seen). e.answer ≡ reply v.setup v.past e.who.0 e.call) (sym c.self.view_is) c.requires.answer in
     let pushed : c.push.new.self.items ≡ s.history.items ++ e ∷ [] = search rules in
@@ -119,15 +152,16 @@ invariant_of-self-2 c =
     let noted = subst (λ q. EachStory (noted_answer e.answer q c.len.result) told.between c.settle_sends-lost.new.stories.items) c.named_send-named.ensures told.after in
     let at : c.cursor.result ≡ cursor past = subst (λ (v : Seen). c.cursor.result ≡ cursor v.past) (sym c.self.view_is) c.cursor.ensures in
     let seen : IsDisplayAt s.setup (e ∷ past) c.take_over.new.self = display_step s.setup past s.tree s.order s.classes e s.display c.add_item.new.display c.take_over.new.self c.in_ok-change.change c.self.invariant.lawful c.self.invariant.tree c.self.invariant.order c.self.invariant.classes right c.self.invariant.display c.in_ok-change.ensures.windows c.in_ok-change.ensures.drawing grown.drawn grown.display c.take_over.ensures in
-    let now = stands_step s.setup past kept c.cursor.result e c.add_item.new.classes c.take_effect.new.classes c.add_item.new.tree c.take_effect.new.tree c.add_item.new.order c.take_effect.new.order c.take_over.new.self c.add_item.new.threads.items c.take_effect.new.threads.items c.note_entry.new.threads.items c.add_item.new.sends c.settle_sends-lost.new.sends c.first_cause-first.result c.settle_sends-lost.result c.with-self-inside.result (with_begun e.answer c.make_room.new.stories.items) told.between c.settle_sends-lost.new.stories.items c.len.result room right c.self.invariant at grown.classes settled.classes grown.tree settled.tree grown.order settled.order seen grown.threads settled.threads c.note_entry.ensures grown.sends c.settle_sends-lost.ensures.sends here first c.settle_sends-lost.ensures.lost c.with-self-inside.ensures begun told.before noted in
-    subst (λ (h : Past). Stands s.setup h (parts c.take_effect.new.tree c.take_effect.new.order c.take_over.new.self c.take_effect.new.classes c.note_entry.new.threads.items c.count_after-self-inside.result c.time_after-self-inside.result c.settle_sends-lost.new.sends c.with-self-inside.result c.settle_sends-lost.new.stories.items)) newest (search (rules, now))
+    let timed = timers_step s.setup past kept e c.add_item.new.tree c.add_item.new.timers c.follow_timers.new.timers c.self.invariant right grown.tree grown.timers c.follow_timers.ensures in
+    let now = stands_step s.setup past kept c.cursor.result e c.add_item.new.classes c.take_effect.new.classes c.add_item.new.tree c.take_effect.new.tree c.add_item.new.order c.take_effect.new.order c.take_over.new.self c.add_item.new.threads.items c.take_effect.new.threads.items c.note_entry.new.threads.items c.follow_timers.new.timers c.add_item.new.sends c.settle_sends-lost.new.sends c.first_cause-first.result c.settle_sends-lost.result c.with-self-inside.result (with_begun e.answer c.make_room.new.stories.items) told.between c.settle_sends-lost.new.stories.items c.len.result room right c.self.invariant at grown.classes settled.classes grown.tree settled.tree grown.order settled.order seen grown.threads settled.threads c.note_entry.ensures timed grown.sends c.settle_sends-lost.ensures.sends here first c.settle_sends-lost.ensures.lost c.with-self-inside.ensures begun told.before noted in
+    subst (λ (h : Past). Stands s.setup h (parts c.take_effect.new.tree c.take_effect.new.order c.take_over.new.self c.take_effect.new.classes c.note_entry.new.threads.items c.follow_timers.new.timers c.count_after-self-inside.result c.time_after-self-inside.result c.settle_sends-lost.new.sends c.with-self-inside.result c.settle_sends-lost.new.stories.items)) newest (search (rules, now))
 
 pub with-self-inside-requires : goal.with-self-inside-requires
 with-self-inside-requires c =
     let e = c.args.entry in
     let s = c.self.inside in
     let past : Past = reverse s.history.items in
-    let kept : Parts = parts s.tree s.order s.display s.classes s.threads.items s.post_count s.time s.sends s.tally s.stories.items in
+    let kept : Parts = parts s.tree s.order s.display s.classes s.threads.items s.timers s.post_count s.time s.sends s.tally s.stories.items in
     let right : e.answer ≡ reply s.setup past e.who.0 e.call = subst (λ (v : Seen). e.answer ≡ reply v.setup v.past e.who.0 e.call) (sym c.self.view_is) c.requires.answer in
     let long : c.len.result ≡ length s.history.items = search rules in
     let here : c.len.result ≡ place_after past = long ∙ sym (length-reverse s.history.items) in

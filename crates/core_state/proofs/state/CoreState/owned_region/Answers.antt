@@ -1,6 +1,5 @@
-use Rattle.std.proofs.Common.{◌≡◌, eqb, reverse, ap, ◌∙◌}
+use Rattle.std.proofs.Common.{eqb, reverse, ap, ◌∙◌}
 use Rattle.std.specs.Prelude.{◌&&◌, option_copied}
-use Rattle.win_num.specs.declared.shapes.Point.{Point}
 use Rattle.win_num.specs.PixelSets.{has_pixel}
 use Rattle.user_model.specs.Past.{Past}
 use Rattle.user_model.specs.Pixels.{owner, screen}
