@@ -23,6 +23,7 @@ plain_row names.Stuck = row (codes "stuck") []
 plain_row names.Gone = row (codes "gone") []
 plain_row names.Value = row (codes "value") (fields.Number ∷ [])
 plain_row names.Window = row (codes "window") (fields.Window ∷ [])
+plain_row names.Was = row (codes "was") (fields.Window ∷ [])
 plain_row names.Tell = row (codes "tell") (fields.Window ∷ [])
 plain_row names.Last = row (codes "last") (fields.Window ∷ [])
 plain_row names.Advanced = row (codes "advanced") (fields.Number ∷ [])
@@ -31,7 +32,7 @@ plain_row names.Refused = row (codes "refused") (fields.Code ∷ [])
 
 -- all of them
 abbrev pub plain_answers : List AnswerName
-plain_answers = groups.Plain names.Okay ∷ groups.Plain names.Ended ∷ groups.Plain names.Nothing ∷ groups.Plain names.Wait ∷ groups.Plain names.Stuck ∷ groups.Plain names.Gone ∷ groups.Plain names.Value ∷ groups.Plain names.Window ∷ groups.Plain names.Tell ∷ groups.Plain names.Last ∷ groups.Plain names.Advanced ∷ groups.Plain names.Busy ∷ groups.Plain names.Refused ∷ []
+plain_answers = groups.Plain names.Okay ∷ groups.Plain names.Ended ∷ groups.Plain names.Nothing ∷ groups.Plain names.Wait ∷ groups.Plain names.Stuck ∷ groups.Plain names.Gone ∷ groups.Plain names.Value ∷ groups.Plain names.Window ∷ groups.Plain names.Was ∷ groups.Plain names.Tell ∷ groups.Plain names.Last ∷ groups.Plain names.Advanced ∷ groups.Plain names.Busy ∷ groups.Plain names.Refused ∷ []
 
 -- such an answer taken apart; an answer of another group is not
 abbrev pub split_plain : Answer → Option Split
@@ -43,6 +44,7 @@ split_plain answers.Stuck = split (groups.Plain names.Stuck) []
 split_plain answers.Gone = split (groups.Plain names.Gone) []
 split_plain (answers.Value value) = split (groups.Plain names.Value) (values.Number value ∷ [])
 split_plain (answers.Window window) = split (groups.Plain names.Window) (values.Window window ∷ [])
+split_plain (answers.Was window) = split (groups.Plain names.Was) (values.Window window ∷ [])
 split_plain (answers.Tell window) = split (groups.Plain names.Tell) (values.Window window ∷ [])
 split_plain (answers.Last window) = split (groups.Plain names.Last) (values.Window window ∷ [])
 split_plain (answers.Advanced time) = split (groups.Plain names.Advanced) (values.Number time ∷ [])
@@ -60,6 +62,7 @@ made_plain names.Stuck vs = answers.Stuck
 made_plain names.Gone vs = answers.Gone
 made_plain names.Value vs = answers.Value (number_at vs 0)
 made_plain names.Window vs = answers.Window (window_at vs 0)
+made_plain names.Was vs = answers.Was (window_at vs 0)
 made_plain names.Tell vs = answers.Tell (window_at vs 0)
 made_plain names.Last vs = answers.Last (window_at vs 0)
 made_plain names.Advanced vs = answers.Advanced (number_at vs 0)

@@ -22,6 +22,7 @@ pub enum PlainAnswer {
     Gone,
     Value,
     Window,
+    Was,
     Tell,
     Last,
     Advanced,
@@ -30,7 +31,7 @@ pub enum PlainAnswer {
 }
 
 /// These forms.
-pub static PLAIN_ANSWERS: [AnswerName; 13] = [
+pub static PLAIN_ANSWERS: [AnswerName; 14] = [
     Plain(PlainAnswer::Okay),
     Plain(PlainAnswer::Ended),
     Plain(PlainAnswer::Nothing),
@@ -39,6 +40,7 @@ pub static PLAIN_ANSWERS: [AnswerName; 13] = [
     Plain(PlainAnswer::Gone),
     Plain(PlainAnswer::Value),
     Plain(PlainAnswer::Window),
+    Plain(PlainAnswer::Was),
     Plain(PlainAnswer::Tell),
     Plain(PlainAnswer::Last),
     Plain(PlainAnswer::Advanced),
@@ -59,6 +61,7 @@ pub fn plain_form(name: PlainAnswer) -> Form
         PlainAnswer::Gone => row_of(b"gone", &[]),
         PlainAnswer::Value => row_of(b"value", &[Field::Number]),
         PlainAnswer::Window => row_of(b"window", &[Field::Window]),
+        PlainAnswer::Was => row_of(b"was", &[Field::Window]),
         PlainAnswer::Tell => row_of(b"tell", &[Field::Window]),
         PlainAnswer::Last => row_of(b"last", &[Field::Window]),
         PlainAnswer::Advanced => row_of(b"advanced", &[Field::Number]),
@@ -80,6 +83,7 @@ pub fn split_plain(answer: Answer) -> Option<SplitAnswer>
         Answer::Gone => split_of(Plain(PlainAnswer::Gone), &[]),
         Answer::Value(value) => split_of(Plain(PlainAnswer::Value), &[Value::Number(value)]),
         Answer::Window(window) => split_of(Plain(PlainAnswer::Window), &[Value::Window(window)]),
+        Answer::Was(window) => split_of(Plain(PlainAnswer::Was), &[Value::Window(window)]),
         Answer::Tell(window) => split_of(Plain(PlainAnswer::Tell), &[Value::Window(window)]),
         Answer::Last(window) => split_of(Plain(PlainAnswer::Last), &[Value::Window(window)]),
         Answer::Advanced(time) => split_of(Plain(PlainAnswer::Advanced), &[Value::Number(time)]),
@@ -102,6 +106,7 @@ pub fn made_plain(name: PlainAnswer, values: &[Value]) -> Answer
         PlainAnswer::Gone => Answer::Gone,
         PlainAnswer::Value => Answer::Value(number_at(values, 0)),
         PlainAnswer::Window => Answer::Window(window_at(values, 0)),
+        PlainAnswer::Was => Answer::Was(window_at(values, 0)),
         PlainAnswer::Tell => Answer::Tell(window_at(values, 0)),
         PlainAnswer::Last => Answer::Last(window_at(values, 0)),
         PlainAnswer::Advanced => Answer::Advanced(number_at(values, 0)),

@@ -53,6 +53,7 @@ fn answers_again(rt: HostRuntime) -> Result<(), Fail> {
             b"painting",
         ),
         (Answer::Snap(5), b"snap"),
+        (Answer::Was(Hwnd(0)), b"was"),
         (Answer::Inside(SendId(3), 4), b"inside"),
         (Answer::Refused(Code::Full), b"refused"),
     ] {

@@ -13,6 +13,7 @@ use Rattle.call_table.specs.declared.calls.CallName.TheVariants as groups
 use Rattle.call_table.specs.declared.clock.ClockCall.TheVariants as clock
 use Rattle.call_table.specs.declared.delivery.DeliveryCall.TheVariants as delivery
 use Rattle.call_table.specs.declared.drawing.DrawingCall.TheVariants as drawing
+use Rattle.call_table.specs.declared.input.InputCall.TheVariants as input
 use Rattle.call_table.specs.declared.lookups.LookupCall.TheVariants as lookups
 use Rattle.call_table.specs.declared.registrations.RegistrationCall.TheVariants as registrations
 use Rattle.call_table.specs.declared.replies.ReplyCall.TheVariants as replies
@@ -38,6 +39,7 @@ made_name (groups.Reply replies.Reply) vs = refl
 made_name (groups.Registration registrations.Message) vs = refl
 made_name (groups.Window windows.Doom) vs = refl
 made_name (groups.Lookup lookups.Find) vs = refl
+made_name (groups.Input input.SetFocus) vs = refl
 made_name (groups.Drawing drawing.Validate) vs = refl
 made_name (groups.Clock clock.Clock) vs = refl
 made_name name vs = refl
@@ -57,6 +59,7 @@ named_again (groups.Reply replies.Reply) = refl
 named_again (groups.Registration registrations.Message) = refl
 named_again (groups.Window windows.Doom) = refl
 named_again (groups.Lookup lookups.Find) = refl
+named_again (groups.Input input.SetFocus) = refl
 named_again (groups.Drawing drawing.Validate) = refl
 named_again (groups.Clock clock.Clock) = refl
 named_again n = refl

@@ -15,6 +15,7 @@ use Rattle.call_table.specs.Replies.{reply_row, reply_calls, split_reply, made_r
 use Rattle.call_table.specs.Registrations.{registration_row, registration_calls, split_registration, made_registration}
 use Rattle.call_table.specs.Windows.{window_row, window_calls, split_window, made_window}
 use Rattle.call_table.specs.Lookups.{lookup_row, lookup_calls, split_lookup, made_lookup}
+use Rattle.call_table.specs.Input.{input_row, input_calls, split_input, made_input}
 use Rattle.call_table.specs.Drawing.{drawing_row, drawing_calls, split_drawing, made_drawing}
 use Rattle.call_table.specs.Clock.{clock_row, clock_calls, split_clock, made_clock}
 
@@ -26,12 +27,13 @@ call_row (groups.Reply n) = reply_row n
 call_row (groups.Registration n) = registration_row n
 call_row (groups.Window n) = window_row n
 call_row (groups.Lookup n) = lookup_row n
+call_row (groups.Input n) = input_row n
 call_row (groups.Drawing n) = drawing_row n
 call_row (groups.Clock n) = clock_row n
 
 -- all of them
 abbrev pub all_calls : List CallName
-all_calls = delivery_calls ++ (send_calls ++ (reply_calls ++ (registration_calls ++ (window_calls ++ (lookup_calls ++ (drawing_calls ++ clock_calls))))))
+all_calls = delivery_calls ++ (send_calls ++ (reply_calls ++ (registration_calls ++ (window_calls ++ (lookup_calls ++ (input_calls ++ (drawing_calls ++ clock_calls)))))))
 
 -- the one with this word
 unfoldable pub call_named : List ℕ → Option CallName
@@ -44,7 +46,7 @@ first_found o (p ∷ ps) = first_found (option_or o p) ps
 
 -- a call taken apart by the group that has it; each call is of one
 abbrev pub found_split : Call → Option Split
-found_split c = first_found (split_delivery c) (split_send c ∷ split_reply c ∷ split_registration c ∷ split_window c ∷ split_lookup c ∷ split_drawing c ∷ split_clock c ∷ [])
+found_split c = first_found (split_delivery c) (split_send c ∷ split_reply c ∷ split_registration c ∷ split_window c ∷ split_lookup c ∷ split_input c ∷ split_drawing c ∷ split_clock c ∷ [])
 
 abbrev pub split_or_none : Option Split → Split
 split_or_none (Some s) = s
@@ -66,6 +68,7 @@ made_call (groups.Reply n) vs = made_reply n vs
 made_call (groups.Registration n) vs = made_registration n vs
 made_call (groups.Window n) vs = made_window n vs
 made_call (groups.Lookup n) vs = made_lookup n vs
+made_call (groups.Input n) vs = made_input n vs
 made_call (groups.Drawing n) vs = made_drawing n vs
 made_call (groups.Clock n) vs = made_clock n vs
 

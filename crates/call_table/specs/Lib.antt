@@ -2,6 +2,7 @@ pub mod Calls
 pub mod Clock
 pub mod Delivery
 pub mod Drawing
+pub mod Input
 pub mod Lookups
 pub mod Registrations
 pub mod Replies

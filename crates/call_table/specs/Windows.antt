@@ -21,10 +21,11 @@ window_row names.Unmake = row (codes "unmake") (fields.Number ∷ [])
 window_row names.Drop = row (codes "drop") (fields.Number ∷ [])
 window_row names.Place = row (codes "place") (fields.Number ∷ fields.Signed ∷ fields.Signed ∷ fields.Signed ∷ fields.Signed ∷ fields.Signed ∷ fields.Number ∷ [])
 window_row names.Show = row (codes "show") (fields.Number ∷ fields.Number ∷ [])
+window_row names.Enable = row (codes "enable") (fields.Number ∷ fields.Number ∷ [])
 
 -- all of them
 abbrev pub window_calls : List CallName
-window_calls = groups.Window names.NewWindow ∷ groups.Window names.Doom ∷ groups.Window names.Unmake ∷ groups.Window names.Drop ∷ groups.Window names.Place ∷ groups.Window names.Show ∷ []
+window_calls = groups.Window names.NewWindow ∷ groups.Window names.Doom ∷ groups.Window names.Unmake ∷ groups.Window names.Drop ∷ groups.Window names.Place ∷ groups.Window names.Show ∷ groups.Window names.Enable ∷ []
 
 -- such a call taken apart; a call of another group is not
 abbrev pub split_window : Call → Option Split
@@ -34,6 +35,7 @@ split_window (calls.Unmake window) = split (groups.Window names.Unmake) (values.
 split_window (calls.Drop window) = split (groups.Window names.Drop) (values.Number window ∷ [])
 split_window (calls.Place window after left top right bottom flags) = split (groups.Window names.Place) (values.Number window ∷ values.Signed after ∷ values.Signed left ∷ values.Signed top ∷ values.Signed right ∷ values.Signed bottom ∷ values.Number flags ∷ [])
 split_window (calls.Show window on) = split (groups.Window names.Show) (values.Number window ∷ values.Number on ∷ [])
+split_window (calls.Enable window on) = split (groups.Window names.Enable) (values.Number window ∷ values.Number on ∷ [])
 split_window c = None
 
 -- the call of this name, of the values at its places
@@ -44,3 +46,4 @@ made_window names.Unmake vs = calls.Unmake (number_at vs 0)
 made_window names.Drop vs = calls.Drop (number_at vs 0)
 made_window names.Place vs = calls.Place (number_at vs 0) (signed_at vs 1) (signed_at vs 2) (signed_at vs 3) (signed_at vs 4) (signed_at vs 5) (number_at vs 6)
 made_window names.Show vs = calls.Show (number_at vs 0) (number_at vs 1)
+made_window names.Enable vs = calls.Enable (number_at vs 0) (number_at vs 1)

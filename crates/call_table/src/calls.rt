@@ -13,6 +13,7 @@ ghost use Rattle.call_table.specs.Splits.{read_split};
 use crate::clock::{CLOCK_CALLS, ClockCall, clock_form, made_clock, split_clock};
 use crate::delivery::{DELIVERY_CALLS, DeliveryCall, delivery_form, made_delivery, split_delivery};
 use crate::drawing::{DRAWING_CALLS, DrawingCall, drawing_form, made_drawing, split_drawing};
+use crate::input::{INPUT_CALLS, InputCall, input_form, made_input, split_input};
 use crate::lookups::{LOOKUP_CALLS, LookupCall, lookup_form, made_lookup, split_lookup};
 use crate::registrations::{
     REGISTRATION_CALLS, RegistrationCall, made_registration, registration_form, split_registration,
@@ -39,6 +40,8 @@ pub enum CallName {
     Window(WindowCall),
     /// It looks for a window.
     Lookup(LookupCall),
+    /// It is about focus, active window, capture or attached threads.
+    Input(InputCall),
     /// It is about pixels that are to be painted, or their colours.
     Drawing(DrawingCall),
     /// It is about time, or ends a thread.
@@ -56,6 +59,7 @@ pub fn call_form(name: CallName) -> Form
         CallName::Registration(name) => registration_form(name),
         CallName::Window(name) => window_form(name),
         CallName::Lookup(name) => lookup_form(name),
+        CallName::Input(name) => input_form(name),
         CallName::Drawing(name) => drawing_form(name),
         CallName::Clock(name) => clock_form(name),
     }
@@ -96,6 +100,7 @@ pub fn call_named(word: &[u8]) -> Option<CallName>
     let found = or_in(found, &REGISTRATION_CALLS, word);
     let found = or_in(found, &WINDOW_CALLS, word);
     let found = or_in(found, &LOOKUP_CALLS, word);
+    let found = or_in(found, &INPUT_CALLS, word);
     let found = or_in(found, &DRAWING_CALLS, word);
     or_in(found, &CLOCK_CALLS, word)
 }
@@ -120,6 +125,9 @@ fn found_split(call: Call) -> Option<SplitCall>
         return Some(split);
     }
     if let Some(split) = split_lookup(call) {
+        return Some(split);
+    }
+    if let Some(split) = split_input(call) {
         return Some(split);
     }
     if let Some(split) = split_drawing(call) {
@@ -166,6 +174,7 @@ fn made_call(name: CallName, values: &[Value]) -> Call
         CallName::Registration(name) => made_registration(name, values),
         CallName::Window(name) => made_window(name, values),
         CallName::Lookup(name) => made_lookup(name, values),
+        CallName::Input(name) => made_input(name, values),
         CallName::Drawing(name) => made_drawing(name, values),
         CallName::Clock(name) => made_clock(name, values),
     }

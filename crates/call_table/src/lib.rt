@@ -9,6 +9,7 @@ mod calls;
 mod clock;
 mod delivery;
 mod drawing;
+mod input;
 mod lookups;
 mod registrations;
 mod replies;
@@ -22,6 +23,7 @@ pub use calls::{
 pub use clock::ClockCall;
 pub use delivery::DeliveryCall;
 pub use drawing::DrawingCall;
+pub use input::InputCall;
 pub use lookups::LookupCall;
 pub use registrations::RegistrationCall;
 pub use replies::ReplyCall;

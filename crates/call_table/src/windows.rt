@@ -21,16 +21,18 @@ pub enum WindowCall {
     Drop,
     Place,
     Show,
+    Enable,
 }
 
 /// These calls.
-pub static WINDOW_CALLS: [CallName; 6] = [
+pub static WINDOW_CALLS: [CallName; 7] = [
     Window(WindowCall::NewWindow),
     Window(WindowCall::Doom),
     Window(WindowCall::Unmake),
     Window(WindowCall::Drop),
     Window(WindowCall::Place),
     Window(WindowCall::Show),
+    Window(WindowCall::Enable),
 ];
 
 /// The word of a call of this group, and the kinds of its fields.
@@ -52,6 +54,7 @@ pub fn window_form(name: WindowCall) -> Form
             &[Number, Signed, Signed, Signed, Signed, Signed, Number],
         ),
         WindowCall::Show => row_of(b"show", &[Number, Number]),
+        WindowCall::Enable => row_of(b"enable", &[Number, Number]),
     }
 }
 
@@ -91,6 +94,7 @@ pub fn split_window(call: Call) -> Option<SplitCall>
             ],
         ),
         Call::Show(window, on) => split_numbers(Window(WindowCall::Show), &[window, on]),
+        Call::Enable(window, on) => split_numbers(Window(WindowCall::Enable), &[window, on]),
         _ => None,
     }
 }
@@ -125,5 +129,6 @@ pub fn made_window(name: WindowCall, values: &[Value]) -> Call
             number_at(values, 6),
         ),
         WindowCall::Show => Call::Show(numbers[0], numbers[1]),
+        WindowCall::Enable => Call::Enable(numbers[0], numbers[1]),
     }
 }

@@ -1,12 +1,12 @@
 -- Which layer answers a call.
 use Rattle.std.specs.Prelude.{Bool, true, false}
 use Rattle.user_model.specs.declared.call.Call.{Call}
-use Rattle.user_model.specs.declared.call.Call.TheVariants.{Peek, Get, Post, PostThread, PostQuit, Dispatch, Send, SendTimeout, SendNotify, SendCallback, Await, Leave, Reply, InSend, Message, Register, Unregister, NewWindow, Doom, Unmake, Drop, Place, Show, Find, AwaitTitle, NextTop, WindowAt, IsWindow, Parent, Invalidate, Validate, UpdateRect, BeginPaint, EndPaint, Fill, Erase, Snap, SetTimer, KillTimer, EndThread, Clock, SleepUntil, Yield, Tick, Advance}
+use Rattle.user_model.specs.declared.call.Call.TheVariants.{Peek, Get, Post, PostThread, PostQuit, Dispatch, Send, SendTimeout, SendNotify, SendCallback, Await, Leave, Reply, InSend, Message, Register, Unregister, NewWindow, Doom, Unmake, Drop, Place, Show, Enable, Find, AwaitTitle, NextTop, WindowAt, IsWindow, Parent, SetFocus, SetActive, SetCapture, ReleaseCapture, GetFocus, GetActive, GetCapture, Attach, Detach, Invalidate, Validate, UpdateRect, BeginPaint, EndPaint, Fill, Erase, Snap, SetTimer, KillTimer, EndThread, Clock, SleepUntil, Yield, Tick, Advance}
 use Rattle.core_deliver.specs.declared.groups.Group.{Group}
 use Rattle.core_deliver.specs.declared.groups.Group.TheVariants.{Retrieval, Delivery, Window, Drawing, Other}
 
 -- the group of each call: it asks for a message; it posts, sends, hands a message to a procedure, is made inside or after a send,
--- or registers a message; it is about classes or windows; it is about dirty pixels, painting, colours or frames; or it is about time or timers, or ends a thread
+-- or registers a message; it is about classes or windows, focus, active window, capture or attached threads; it is about dirty pixels, painting, colours or frames; or it is about time or timers, or ends a thread
 abbrev pub group_of : Call → Group
 group_of (Peek w min max flags) = Retrieval
 group_of (Get w min max) = Retrieval
@@ -31,12 +31,22 @@ group_of (Unmake w) = Window
 group_of (Drop w) = Window
 group_of (Place w after l t r b flags) = Window
 group_of (Show w on) = Window
+group_of (Enable w on) = Window
 group_of (Find title) = Window
 group_of (AwaitTitle title) = Window
 group_of (NextTop w) = Window
 group_of (WindowAt x y) = Window
 group_of (IsWindow w) = Window
 group_of (Parent w) = Window
+group_of (SetFocus w) = Window
+group_of (SetActive w) = Window
+group_of (SetCapture w) = Window
+group_of ReleaseCapture = Window
+group_of GetFocus = Window
+group_of GetActive = Window
+group_of GetCapture = Window
+group_of (Attach t u) = Window
+group_of (Detach t u) = Window
 group_of (Invalidate w l t r b erase) = Drawing
 group_of (Validate w l t r b) = Drawing
 group_of (UpdateRect w) = Drawing

@@ -12,7 +12,7 @@ pub enum Group {
     Retrieval,
     /// It posts, dispatches, sends, is made inside or after a send, or registers a message.
     Delivery,
-    /// It is about classes or windows, and `core_window` answers it.
+    /// It is about classes or windows, focus, active window, capture or attached threads, and `core_window` answers it.
     Window,
     /// It is about dirty pixels, painting, colours and frames, and `core_draw` answers it.
     Drawing,
@@ -47,12 +47,22 @@ fn group_of(call: Call) -> Group
         | Call::Drop(..)
         | Call::Place(..)
         | Call::Show(..)
+        | Call::Enable(..)
         | Call::Find(..)
         | Call::AwaitTitle(..)
         | Call::NextTop(..)
         | Call::WindowAt(..)
         | Call::IsWindow(..)
-        | Call::Parent(..) => Group::Window,
+        | Call::Parent(..)
+        | Call::SetFocus(..)
+        | Call::SetActive(..)
+        | Call::SetCapture(..)
+        | Call::ReleaseCapture
+        | Call::GetFocus
+        | Call::GetActive
+        | Call::GetCapture
+        | Call::Attach(..)
+        | Call::Detach(..) => Group::Window,
         Call::Invalidate(..)
         | Call::Validate(..)
         | Call::UpdateRect(..)

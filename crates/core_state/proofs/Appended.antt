@@ -54,6 +54,7 @@ use Rattle.window_state.proofs.TreeSteps.{tree_after}
 use Rattle.display_state.specs.Displays.{Shown, IsDisplayAt}
 use Rattle.timer_source.specs.declared.setting.Setting.{Setting}
 use Rattle.timer_state.specs.TimerLists.{timers_at}
+use Rattle.group_state.specs.GroupTables.{Kept, IsGroupsAt}
 
 -- ---- what a change needs
 
@@ -167,7 +168,7 @@ tally_step setup past p e place lost tree sends st right here made begun counted
     tally_fits past p.tally lost st.tally st.short (subst (λ n. n ≤ 1024) (sym same) (losses_few setup past e p.sends p.tree.live (st.lawful, right) st.sends st.tree.windows))
 
 -- the parts that were brought up to date stand for the past with the entry
-pub stands_step : (setup : Setup) (past : Past) (p : Parts) (point : Point) (e : Entry) (classes1 classes2 : ClassTable) (tree1 tree2 : Windows) (order1 order2 : Layers) (display2 : Shown) (threads1 threads2 threads3 : List ThreadView) (timers2 : List Setting) (sends1 sends2 : SendParts) (first : Option Cause) (lost : ℕ) (tally : Tally) (stories1 stories2 stories3 : List SendStory) (place : ℕ)
+pub stands_step : (setup : Setup) (past : Past) (p : Parts) (point : Point) (e : Entry) (classes1 classes2 : ClassTable) (tree1 tree2 : Windows) (order1 order2 : Layers) (display2 : Shown) (threads1 threads2 threads3 : List ThreadView) (timers2 : List Setting) (groups2 : Kept) (sends1 sends2 : SendParts) (first : Option Cause) (lost : ℕ) (tally : Tally) (stories1 stories2 stories3 : List SendStory) (place : ℕ)
     → is_full past ≡ false → e.answer ≡ reply setup past e.who.0 e.call → Stands setup past p → point ≡ cursor past
     → classes1 ≡ added_classes e.answer e.call p.classes → classes2 ≡ affected_classes e.answer e.call classes1
     → IsAddedBy e.who.0 e.answer e.call p.tree tree1 → IsAffected e.who.0 e.answer e.call tree1 tree2
@@ -176,11 +177,12 @@ pub stands_step : (setup : Setup) (past : Past) (p : Parts) (point : Point) (e :
     → EachBy (λ t. changed t (effect_in tree1.live e.who.0 e.answer e.call)) threads1 threads2
     → EachBy (λ t. noted t e) threads2 threads3
     → timers2 ≡ timers_at (e ∷ past)
+    → IsGroupsAt setup (e ∷ past) groups2
     → sends1 ≡ added_sends p.tree.live p.time place e.who e.answer e.call p.sends → sends2 ≡ affected_sends tree1.live place e.who.0 e.answer e.call sends1 → place ≡ place_after past
     → first ≡ first_cause p.sends e.who.0 e.answer e.call → lost ≡ losses_by tree1.live place e.who.0 e.answer e.call sends1 → tally ≡ tallied e.answer first lost p.tally
     → stories1 ≡ with_begun e.answer p.stories → EachStory (noted_losses tree1.live place e.who.0 e.answer e.call sends1) stories1 stories2 → EachStory (noted_answer e.answer (named_send p.sends e.who.0 e.answer e.call) place) stories2 stories3
-    → Stands setup (e ∷ past) (parts tree2 order2 display2 classes2 threads3 timers2 (count_kept e.answer p.post_count) (time_kept e p.time) sends2 tally stories3)
-stands_step setup past p point e classes1 classes2 tree1 tree2 order1 order2 display2 threads1 threads2 threads3 timers2 sends1 sends2 cause lost tally stories1 stories2 stories3 place room right st at grown settled made given ranked left_order seen first second note timed begun left here named counted noted_tally story_more story_losses story_answers = record {
+    → Stands setup (e ∷ past) (parts tree2 order2 display2 classes2 threads3 timers2 groups2 (count_kept e.answer p.post_count) (time_kept e p.time) sends2 tally stories3)
+stands_step setup past p point e classes1 classes2 tree1 tree2 order1 order2 display2 threads1 threads2 threads3 timers2 groups2 sends1 sends2 cause lost tally stories1 stories2 stories3 place room right st at grown settled made given ranked left_order seen first second note timed grouped begun left here named counted noted_tally story_more story_losses story_answers = record {
   lawful = (st.lawful, right);
   short = grind (arith, nat_tests, room);
   tree = tree_after setup past e p.tree tree1 tree2 st.lawful st.tree right made given;
@@ -198,6 +200,7 @@ stands_step setup past p point e classes1 classes2 tree1 tree2 order1 order2 dis
         ∙ thread_step setup past p point e tree1 (i + 1) st at right made;
   };
   timers = timed;
+  groups = grouped;
   posts = ap (count_kept e.answer) st.posts ∙ count_kept-next setup past e right;
   clock = ap (time_kept e) st.clock ∙ time_kept-next e past;
   sends = subst (PartsStand setup (e ∷ past)) (sym (left ∙ same_sends p.tree tree1 p.time place e sends1 made ∙ ap (affected_sends p.tree.live place e.who.0 e.answer e.call) begun))

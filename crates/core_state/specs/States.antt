@@ -21,6 +21,7 @@ use Rattle.win_order.specs.Layers.{Layers}
 use Rattle.window_state.specs.Orders.{IsOrderAt}
 use Rattle.window_state.specs.Trees.{IsTreeAt}
 use Rattle.display_state.specs.Displays.{Shown, IsDisplayAt}
+use Rattle.group_state.specs.GroupTables.{Kept, IsGroupsAt}
 
 -- its setup and its past
 pub record Seen : Type 0 where
@@ -35,6 +36,7 @@ pub record Parts : Type 0 where
   pub classes : ClassTable
   pub threads : List ThreadView
   pub timers : List Setting
+  pub groups : Kept
   pub post_count : ℕ
   pub time : ℕ
   pub sends : SendParts
@@ -42,8 +44,8 @@ pub record Parts : Type 0 where
   pub stories : List SendStory
 
 -- the parts from their values
-abbrev pub parts : Windows → Layers → Shown → ClassTable → List ThreadView → List Setting → ℕ → ℕ → SendParts → Tally → List SendStory → Parts
-parts tree order display classes threads timers post_count time sends tally stories = record { tree = tree; order = order; display = display; classes = classes; threads = threads; timers = timers; post_count = post_count; time = time; sends = sends; tally = tally; stories = stories }
+abbrev pub parts : Windows → Layers → Shown → ClassTable → List ThreadView → List Setting → Kept → ℕ → ℕ → SendParts → Tally → List SendStory → Parts
+parts tree order display classes threads timers groups post_count time sends tally stories = record { tree = tree; order = order; display = display; classes = classes; threads = threads; timers = timers; groups = groups; post_count = post_count; time = time; sends = sends; tally = tally; stories = stories }
 
 -- each thread's part is what the past says of the thread
 pub record EachThread (past : Past) (threads : List ThreadView) : Type 0 where
@@ -60,6 +62,7 @@ pub record Stands (setup : Setup) (past : Past) (p : Parts) : Type 0 where
   pub count : length p.threads ≡ setup.threads
   pub each : EachThread past p.threads
   pub timers : p.timers ≡ timers_at past
+  pub groups : IsGroupsAt setup past p.groups
   pub posts : p.post_count ≡ length (posts past)
   pub clock : p.time ≡ clock past
   pub sends : PartsStand setup past p.sends

@@ -19,7 +19,10 @@ ghost use Rattle.send_state.specs.Standing.{as_told, row_of};
 ghost use Rattle.user_model.specs.Stories.{send_story};
 ghost use Rattle.core_state.specs.Frames.{IsOnTop, wait_end};
 ghost use Rattle.user_model.specs.Windows.{live, window, is_live, parent_in, thread_of, up, next_top};
-ghost use Rattle.user_model.specs.Looks.{look, placed, is_shown};
+ghost use Rattle.user_model.specs.Looks.{look, placed, is_disabled, is_shown};
+ghost use Rattle.user_model.specs.Focus.{foreground, value_of};
+ghost use Rattle.user_model.specs.Groups.{are_attached, is_in_group};
+ghost use Rattle.group_state.specs.GroupTables.{named};
 ghost use Rattle.user_model.specs.ZOrder.{titled};
 ghost use Rattle.user_model.specs.Colours.{frame_of, snapped};
 ghost use Rattle.user_model.specs.Dirty.{dirty_pixels, must_erase};
@@ -43,6 +46,7 @@ use crate::change::{add_item, take_effect};
 use crate::sendings::settle_sends;
 use band_region::Region;
 use display_state::Display;
+use group_state::{GroupState, Slot};
 use screen_state::UpdateBox;
 use send_state::{SendRow, SendState, Tally, first_cause, named_send};
 use std::alloc::{AllocError, Global};
@@ -57,8 +61,8 @@ use win_num::{Cause, Filter, Frame, Hwnd, Msg, Point, SendId, Thread};
 use win_order::Order;
 use win_tree::Tree;
 use window_state::{
-    Placing, is_shown, owner_at, parent_of, placing_changes, step_told, thread_of, titled, up,
-    window_or_none,
+    Placing, is_disabled, is_shown, owner_at, parent_of, placing_changes, step_told, thread_of,
+    titled, up, window_or_none,
 };
 
 /// The history so far, and parts that answer in short time what the definitions say of it.
@@ -76,6 +80,8 @@ pub struct CoreState {
     /// What is kept of each thread, from thread 1 on.
     threads: Vec<ThreadState>,
     timers: Timers,
+    /// Attached threads, focus, active windows and captures.
+    groups: GroupState,
     /// How many posts there were.
     post_count: u32,
     /// Milliseconds of the virtual clock.
@@ -94,7 +100,7 @@ impl Model for CoreState {
 
     ghost view = { λ s. record { setup = s.setup; past = reverse s.history.items } };
 
-    ghost invariant = { λ s. Stands s.setup (reverse s.history.items) (parts s.tree s.order s.display s.classes s.threads.items s.timers s.post_count s.time s.sends s.tally s.stories.items) };
+    ghost invariant = { λ s. Stands s.setup (reverse s.history.items) (parts s.tree s.order s.display s.classes s.threads.items s.timers s.groups s.post_count s.time s.sends s.tally s.stories.items) };
 }
 
 impl CoreState {
@@ -112,6 +118,7 @@ impl CoreState {
             classes: Classes::new(alloc),
             threads: fresh_threads(alloc, setup.threads)?,
             timers: Timers::new(alloc),
+            groups: GroupState::new(alloc, setup.threads)?,
             post_count: 0,
             time: 0,
             sends: SendState::new(alloc, setup.threads)?,
@@ -496,6 +503,51 @@ impl CoreState {
         }
     }
 
+    /// Whether it is a live window with WS_DISABLED.
+    pub fn is_disabled(&self, w: u64) -> bool
+        ensures { result ≡ (is_live self.now.past w && is_disabled self.now.past w) }
+    {
+        match self.tree.find(w) {
+            Some(window) => is_disabled(&self.tree, window),
+            None => false,
+        }
+    }
+
+    /// The focus, the active window or the capture of a thread's group, or 0.
+    pub fn shared_window(&self, thread: u8, slot: Slot) -> Hwnd
+        requires some { 0 < thread }
+        requires known { thread ≤ self.now.setup.threads }
+        ensures { result.0 ≡ value_of self.now.past thread (named slot) }
+    {
+        self.groups.value(&self.tree, Thread(thread), slot)
+    }
+
+    /// Whether it is a live window of a thread of this one's group.
+    pub fn is_of_group(&self, thread: u8, w: u64) -> bool
+        requires some { 0 < thread }
+        requires known { thread ≤ self.now.setup.threads }
+        ensures { result ≡ (is_live self.now.past w && is_in_group self.now.past thread (thread_of self.now.past w)) }
+    {
+        match self.tree.find(w) {
+            Some(window) => self.groups.is_of_group(&self.tree, Thread(thread), window),
+            None => false,
+        }
+    }
+
+    /// Whether two threads are attached to each other.
+    pub fn are_attached(&self, t: u64, u: u64) -> bool
+        ensures { result ≡ are_attached self.now.past t u }
+    {
+        self.groups.are_attached(t, u)
+    }
+
+    /// The foreground thread, or 0.
+    pub fn foreground(&self) -> u8
+        ensures { result ≡ foreground self.now.past }
+    {
+        self.groups.foreground()
+    }
+
     /// What a placing of a live window would change: 1 its corner, 2 its size, 4 whether it is shown.
     pub fn placing_changes(&self, w: u64, placing: Placing) -> u64
         requires live { is_live self.now.past w ≡ true }
@@ -711,6 +763,7 @@ impl CoreState {
             entry,
         );
         follow_timers(&mut self.timers, &self.tree, entry, stamp.time);
+        self.groups.follow(entry, stamp.place);
         take_effect(
             &mut self.classes,
             &mut self.tree,

@@ -1,27 +1,35 @@
-//! The calls on classes and windows: what each answers, and its entry.
+//! The calls on classes, windows and groups of attached threads: what each answers, and its entry.
 
-ghost use Rattle.std.specs.Prelude.{◌≡◌, true, false, IfOk, OnOk, OnErr};
+ghost use Rattle.std.specs.Prelude.{◌≡◌, ◌<◌, ◌≤◌, true, false, IfOk, OnOk, OnErr};
 ghost use Rattle.core_deliver.specs.Groups.{is_window_call};
+ghost use Rattle.core_window.specs.Lookups.{IsLookup};
 ghost use Rattle.user_model.specs.Idle.{reply};
 ghost use Rattle.user_model.specs.Machines.{after};
 ghost use Rattle.user_model.specs.Past.{is_full};
 ghost use Rattle.user_model.specs.Replies.{row};
 
+use crate::groups::{
+    attach_answer, detach_answer, set_active_answer, set_capture_answer, set_focus_answer,
+    value_answer, was_answer,
+};
 use crate::windows::{
-    NewWindow, await_title_answer, doom_answer, drop_answer, find_answer, is_window_answer,
-    new_window_answer, next_top_answer, parent_answer, place_answer, register_answer, show_answer,
-    unmake_answer, unregister_answer, window_at_answer,
+    NewWindow, await_title_answer, doom_answer, drop_answer, enable_answer, find_answer,
+    is_window_answer, new_window_answer, next_top_answer, parent_answer, place_answer,
+    register_answer, show_answer, unmake_answer, unregister_answer, window_at_answer,
 };
 use core_deliver::{admit, enter};
 use core_state::{CoreState, Edges, Placing};
+use input_state::Slot;
 use std::alloc::AllocError;
 use user_model::{Answer, Call};
 use win_num::Thread;
 
-/// The answer of a call on classes or windows to a running thread, where its stack allows it.
+/// The answer of a call on classes, windows or groups to a running thread, where its stack allows it.
 fn window_row(state: &CoreState, thread: u8, call: Call) -> Answer
     requires group { is_window_call call ≡ true }
     requires room { is_full state.now.past ≡ false }
+    requires some { 0 < thread }
+    requires known { thread ≤ state.now.setup.threads }
     ensures { result ≡ row state.now.setup state.now.past thread call }
 {
     match call {
@@ -52,12 +60,35 @@ fn window_row(state: &CoreState, thread: u8, call: Call) -> Answer
             )
         }
         Call::Show(w, on) => show_answer(state, w, on),
+        Call::Enable(w, on) => enable_answer(state, w, on),
+        _ => lookup_row(state, thread, call),
+    }
+}
+
+/// The answer of a call that looks for windows, or of one on focus, active window, capture or attached threads.
+fn lookup_row(state: &CoreState, thread: u8, call: Call) -> Answer
+    requires group { is_window_call call ≡ true }
+    requires looks { IsLookup call }
+    requires some { 0 < thread }
+    requires known { thread ≤ state.now.setup.threads }
+    ensures { result ≡ row state.now.setup state.now.past thread call }
+{
+    match call {
         Call::Find(title) => find_answer(state, title),
         Call::AwaitTitle(title) => await_title_answer(state, title),
         Call::NextTop(w) => next_top_answer(state, w),
         Call::WindowAt(x, y) => window_at_answer(state, x, y),
         Call::IsWindow(w) => is_window_answer(state, w),
         Call::Parent(w) => parent_answer(state, w),
+        Call::SetFocus(w) => set_focus_answer(state, thread, w),
+        Call::SetActive(w) => set_active_answer(state, thread, w),
+        Call::SetCapture(w) => set_capture_answer(state, thread, w),
+        Call::ReleaseCapture => was_answer(state, thread, Slot::Capture),
+        Call::GetFocus => value_answer(state, thread, Slot::Focus),
+        Call::GetActive => value_answer(state, thread, Slot::Active),
+        Call::GetCapture => value_answer(state, thread, Slot::Capture),
+        Call::Attach(t, u) => attach_answer(state, t, u),
+        Call::Detach(t, u) => detach_answer(state, t, u),
         _ => unreachable!(),
     }
 }

@@ -2,7 +2,7 @@
 
 ghost use Rattle.std.specs.Prelude.{◌≡◌, false};
 ghost use Rattle.user_model.specs.Past.{is_full};
-ghost use Rattle.user_model.specs.ReplyWindows.{await_title_reply, doom_reply, drop_reply, find_reply, is_no_parent, is_no_placing, is_no_style, is_order, is_sibling, is_window_reply, new_window_reply, next_top_reply, parent_reply, place_reply, register_reply, show_reply, unmake_reply, unregister_reply, window_at_reply, window_if_room};
+ghost use Rattle.user_model.specs.ReplyWindows.{await_title_reply, doom_reply, drop_reply, enable_reply, find_reply, is_no_parent, is_no_placing, is_no_style, is_order, is_sibling, is_window_reply, new_window_reply, next_top_reply, parent_reply, place_reply, register_reply, show_reply, unmake_reply, unregister_reply, window_at_reply, window_if_room};
 ghost use Rattle.user_model.specs.Windows.{has_flag};
 
 use crate::codes::{
@@ -236,6 +236,19 @@ pub fn show_answer(state: &CoreState, w: u64, on: u64) -> Answer
         return Answer::Refused(INVALID_WINDOW_HANDLE);
     }
     Answer::Value(u64::from(state.is_shown(w)))
+}
+
+/// The answer where a window is to be enabled or disabled: 1 where it was disabled, else 0.
+pub fn enable_answer(state: &CoreState, w: u64, on: u64) -> Answer
+    ensures { result ≡ enable_reply state.now.past w on }
+{
+    if on > 1 {
+        return Answer::Refused(INVALID_PARAMETER);
+    }
+    if !state.is_live(w) {
+        return Answer::Refused(INVALID_WINDOW_HANDLE);
+    }
+    Answer::Value(u64::from(state.is_disabled(w)))
 }
 
 /// The highest top-level window of a title, or 0.

@@ -21,7 +21,7 @@ use Rattle.user_model.specs.Refusals.{if_own, access_denied, invalid_parameter, 
 use Rattle.user_model.proofs.ColourLaws.{bare_is_0, colour-next, colour-refused, snapped-next}
 use Rattle.user_model.proofs.PastLaws.{first_way}
 use Rattle.user_model.proofs.ReplyLaws.{by_call, not_false, not_refused}
-use Rattle.user_model.proofs.WindowLooks.{look-same}
+use Rattle.user_model.proofs.WindowLooks.{shape-same}
 use Rattle.window_state.proofs.OrderSteps.{live_rest, order_of, order_rest}
 use Rattle.screen_state.specs.Shown.{changes_owners}
 use Rattle.screen_state.specs.Screens.{draws}
@@ -126,7 +126,7 @@ module _ (setup : Setup) (past : Past) (e : Entry) (lawful : IsLawful setup past
   owner_stays p =
       let order = order_of setup past lawful in
       let rests = no_order e.call e.answer leaves in
-      owner_same past e (live_rest setup past e right rests) (λ w. look-same e past w (no_look e.call e.answer leaves)) (λ q. sym ((order_rest setup past e order.0 order.1 right rests).lists q) ∙ (order.1).lists q) setup p
+      owner_same past e (live_rest setup past e right rests) (λ w. shape-same e past w (no_look e.call e.answer leaves)) (λ q. sym ((order_rest setup past e order.0 order.1 right rests).lists q) ∙ (order.1).lists q) setup p
 
   -- the colour that it gives an owned pixel
   pub recoloured : (p : Point) (paint : Bool) (k : ℕ) → paints_in setup p e.call past ≡ cond paint (Some k) None → (paint ≡ true → eqb (owner setup past p).0 0 ≡ false) → colour setup (e ∷ past) p ≡ cond paint k (colour setup past p)

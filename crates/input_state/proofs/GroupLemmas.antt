@@ -6,7 +6,7 @@ use Rattle.std.proofs.lemmas.Bool.{cases_eq, cases_lt}
 use Rattle.std.proofs.lemmas.Bool.Decides.{nat_tests}
 use Rattle.std.proofs.lemmas.Nat.Bits.{bit_at-zero, bit_at-lt, bit_at_or}
 use Rattle.std.proofs.lemmas.List.{get_or-set_same, get_or-set_other}
-use Rattle.input_state.specs.Groups.{has_bit, link_at, is_pair, Joins, Reaches, here, step, IsClosure, IsMutual, SetsPair}
+use Rattle.input_state.specs.Groups.{has_bit, link_at, is_pair, Joins, Reaches, here, step, IsClosure, IsMutual, SetsPair, EndsLinks}
 
 -- more steps reach more
 pub reaches_map : {P Q : ℕ → ℕ → Type 0} (wider : (u v : ℕ) → P u v → Q u v) {t u : ℕ} → Reaches P t u → Reaches Q t u
@@ -185,6 +185,17 @@ swapped true true true true = refl
 pub mutual_pair : (old new : List ℕ) (a b bit : ℕ) → SetsPair old new a b bit → IsMutual old → IsMutual new
 mutual_pair old new a b bit sets both_ways u v lu lv =
     sets u v lu lv ∙ ap (λ p. cond p bit (link_at old u v)) (swapped (u == a) (v == b) (u == b) (v == a)) ∙ ap (λ x. cond (is_pair a b v u) bit x) (both_ways u v lu lv) ∙ sym (sets v u lv lu)
+
+-- and so does the end of a thread
+pub mutual_end : (old new : List ℕ) (t : ℕ) → EndsLinks old new t → IsMutual old → IsMutual new
+mutual_end old new t ends both_ways u v lu lv =
+    ends u v lu lv ∙ ap (λ x. cond ((u == t) || (v == t)) 0 x) (both_ways u v lu lv) ∙ ap (λ p. cond p 0 (link_at old v u)) (either_end (u == t) (v == t)) ∙ sym (ends v u lv lu)
+  where
+    either_end : (p q : Bool) → (p || q) ≡ (q || p)
+    either_end true true = refl
+    either_end true false = refl
+    either_end false true = refl
+    either_end false false = refl
 
 -- no links are mutual
 pub mutual_none : (links : List ℕ) → ((t : ℕ) → t < 16 → get_or links t 0 ≡ 0) → IsMutual links

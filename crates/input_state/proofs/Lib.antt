@@ -1,1 +1,1 @@
-mod GroupLemmas
+pub mod GroupLemmas

@@ -33,6 +33,10 @@ pub data Reaches (joins : ℕ → ℕ → Type 0) : ℕ → ℕ → Type 0 where
 abbrev pub IsClosure : (ℕ → ℕ → Type 0) → List ℕ → Type 0
 IsClosure joins groups = (t u : ℕ) → t < 16 → u < 16 → (bit_at (slice_index groups t) u ≡ 1) ↔ Reaches joins t u
 
+-- the links of a thread undone, and all others as they were
+abbrev pub EndsLinks : List ℕ → List ℕ → ℕ → Type 0
+EndsLinks old new t = (u v : ℕ) → u < 16 → v < 16 → link_at new u v ≡ (if (u == t) || (v == t) then 0 else link_at old u v)
+
 -- who is joined to whom is so in both directions
 abbrev pub IsMutual : List ℕ → Type 0
 IsMutual links = (u v : ℕ) → u < 16 → v < 16 → link_at links u v ≡ link_at links v u

@@ -1,8 +1,8 @@
 //! Groups of attached threads.
 
-ghost use Rattle.std.specs.Prelude.{◌≡◌, ◌≢◌, ◌↔◌, ℕ, ◌<◌, ◌⊎◌, slice_index};
+ghost use Rattle.std.specs.Prelude.{if◌then◌else◌, ◌≡◌, ◌≢◌, ◌↔◌, ℕ, ◌<◌, ◌==◌, ◌||◌, ◌⊎◌, slice_index};
 ghost use Rattle.std.specs.Int.{bit_at};
-ghost use Rattle.input_state.specs.Groups.{Joins, IsClosure, SetsPair};
+ghost use Rattle.input_state.specs.Groups.{Joins, IsClosure, SetsPair, EndsLinks, link_at};
 
 use crate::masks::{has, with_member, without_member};
 
@@ -78,4 +78,28 @@ pub fn without_pair(links: &[u16; 16], a: usize, b: usize) -> [u16; 16]
     new[a] = without_member(new[a], b);
     new[b] = without_member(new[b], a);
     new
+}
+
+/// The links without those of a thread.
+pub fn without_thread(links: &[u16; 16], t: usize) -> [u16; 16]
+    requires { t < 16 }
+    ensures { EndsLinks links.now result t }
+{
+    let mut new = [0; 16];
+    for u in 0..16 {
+        new[u] = row_without(links, u, t);
+    }
+    new
+}
+
+/// Whom a thread is joined to without another thread, or nobody where it is that one.
+fn row_without(links: &[u16; 16], u: usize, t: usize) -> u16
+    requires row { u < 16 }
+    requires thread { t < 16 }
+    ensures { (v : ℕ) → v < 16 → bit_at result v ≡ (if (u == t) || (v == t) then 0 else link_at links.now u v) }
+{
+    if u == t {
+        return 0;
+    }
+    without_member(links[u], t)
 }

@@ -12,4 +12,5 @@ mod table;
 #[cfg(test)]
 mod tests;
 
+pub use masks::is_member;
 pub use state::{InputState, Slot};

@@ -3,10 +3,10 @@
 ghost use Rattle.std.specs.Prelude.{if◌then◌else◌, ◌≡◌, ◌↔◌, ℕ, ◌≤◌, ◌<◌, ◌+◌, ◌||◌, ◌==◌, IfErr, OnOk, OnErr, List};
 ghost use Rattle.std.specs.Int.{bit_at};
 ghost use Rattle.win_num.specs.declared.message.Thread.{Thread};
-ghost use Rattle.input_state.specs.Groups.{has_link, Joins, Reaches, IsMutual, SetsPair};
+ghost use Rattle.input_state.specs.Groups.{has_link, Joins, Reaches, IsMutual, SetsPair, EndsLinks};
 ghost use Rattle.input_state.specs.State.{State, row_number, group_of, window_of, is_down, with_window, with_key, fresh, with_links};
 
-use crate::groups::{groups_of, with_pair, without_pair};
+use crate::groups::{groups_of, with_pair, without_pair, without_thread};
 use crate::masks::has;
 use crate::table::latest;
 use std::marker::Model;
@@ -134,6 +134,26 @@ impl InputState {
         self.groups = groups_of(&links);
         self.links = links;
         Ok(())
+    }
+
+    /// Undoes all attachments of a thread.
+    pub fn end(&mut self, t: Thread)
+        requires { (1 ≤ t.0) × (t.0 ≤ self.old.threads) }
+        ensures links { EndsLinks self.old.links self.new.links t.0 }
+        ensures rest { self.new ≡ with_links self.old self.new.links self.new.groups }
+    {
+        let links = without_thread(&self.links, usize::from(t.0));
+        self.groups = groups_of(&links);
+        self.links = links;
+    }
+
+    /// Whether the two threads are attached to each other.
+    pub fn is_attached(&self, a: Thread, b: Thread) -> bool
+        requires first { a.0 < 16 }
+        requires second { b.0 < 16 }
+        ensures { result ≡ has_link self.now.links a.0 b.0 }
+    {
+        has(self.links[usize::from(a.0)], usize::from(b.0))
     }
 
     /// The threads that attachments reach from `t`, itself among them: bit u for thread u.

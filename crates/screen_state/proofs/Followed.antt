@@ -21,7 +21,7 @@ use Rattle.user_model.specs.Past.{Past}
 use Rattle.user_model.specs.Idle.{reply}
 use Rattle.user_model.specs.Legal.{IsLawful}
 use Rattle.user_model.specs.Pixels.{owner, screen}
-use Rattle.user_model.proofs.WindowLooks.{changes_look, look-same}
+use Rattle.user_model.proofs.WindowLooks.{changes_shape, shape-same}
 use Rattle.window_state.specs.Orders.{IsOrderAt}
 use Rattle.window_state.specs.Trees.{IsTreeAt}
 use Rattle.window_state.proofs.LookSteps.{fits_looking}
@@ -79,7 +79,7 @@ no_order (calls.Drop w) answers.Okay h = h
 no_order (calls.Place w after l t r b flags) (answers.Value v) h = h
 no_order call a h = refl
 
-pub no_look : (call : Call) (a : Answer) → changes_owners call a ≡ false → changes_look call a ≡ false
+pub no_look : (call : Call) (a : Answer) → changes_owners call a ≡ false → changes_shape call a ≡ false
 no_look (calls.NewWindow name title parent style ex l t r b) (answers.Window w) h = h
 no_look (calls.Place w after l t r b flags) (answers.Value v) h = h
 no_look (calls.Show w on) (answers.Value v) h = h
@@ -123,7 +123,7 @@ kept_follow setup t z e os keeps past lawful tree order right was w p = by (chan
     same : changes_owners e.call e.answer ≡ false → owner setup (e ∷ past) p ≡ owner setup past p
     same h =
         let rests = no_order e.call e.answer h in
-        owner_same past e (live_rest setup past e right rests) (λ v. look-same e past v (no_look e.call e.answer h)) (λ q. sym ((order_rest setup past e z order right rests).lists q) ∙ order.lists q) setup p
+        owner_same past e (live_rest setup past e right rests) (λ v. shape-same e past v (no_look e.call e.answer h)) (λ q. sym ((order_rest setup past e z order right rests).lists q) ∙ order.lists q) setup p
 
     quiet : changes_owners e.call e.answer ≡ true → has_pixel (screen setup) p ≡ true → (owner setup past p).0 ≡ (owner setup (e ∷ past) p).0
     quiet h on =

@@ -6,7 +6,7 @@ use Rattle.win_num.specs.declared.message.Hwnd.{Hwnd}
 use Rattle.win_num.specs.declared.message.Thread.{Thread}
 use Rattle.win_num.specs.declared.names.TheConstants.{WS_VISIBLE}
 use Rattle.win_num.specs.declared.shapes.Point.{Point}
-use Rattle.win_num.specs.PixelSets.{has_pixel}
+use Rattle.win_num.specs.PixelSets.{Box, has_pixel}
 use Rattle.user_model.specs.declared.call.Call.{Call}
 use Rattle.user_model.specs.declared.call.Call.TheVariants as calls
 use Rattle.user_model.specs.declared.entry.Answer.{Answer}
@@ -22,15 +22,15 @@ use Rattle.user_model.specs.Pixels.{covers, origin, owner, screen, shifted}
 use Rattle.user_model.proofs.Forests.{IsRising, find_filter}
 use Rattle.user_model.proofs.LiveWindows.{live-new, made_by-other, new_window, sound}
 use Rattle.user_model.proofs.WindowLaws.{live-next, live-refused}
-use Rattle.user_model.proofs.WindowLooks.{changes_look, look-new, look-other, look-same}
+use Rattle.user_model.proofs.WindowLooks.{SameShape, changes_shape, look-new, look-other, same_shape, shape-same}
 use Rattle.window_state.proofs.PixelLaws.{owner_has, pixel_owned, top_has}
 use Rattle.window_state.proofs.Standings.{found_out, parent_found}
 use Rattle.screen_state.specs.Shown.{shows}
 
--- each top-level window that is shown was there before, and looks as it did
+-- each top-level window that is shown was there before, and shown at the same place
 pub record WasThere (past : Past) (e : Entry) (v : ℕ) (x : Window) : Type 0 where
   pub before : window past v ≡ Some x
-  pub looks : look (e ∷ past) v ≡ look past v
+  pub looks : SameShape (look (e ∷ past) v) (look past v)
 
 abbrev pub ShowsNone : Past → Entry → Type 0
 ShowsNone past e = (v : ℕ) (x : Window) → window (e ∷ past) v ≡ Some x → is_shown (e ∷ past) v ≡ true → WasThere past e v x
@@ -44,7 +44,8 @@ covered : (past : Past) (e : Entry) (p : Point) (v : Hwnd) (x : Window) → wind
 covered past e p v x found top was =
     let now : parent_in (live (e ∷ past)) v.0 ≡ 0 = parent_found (e ∷ past) v.0 x found ∙ top in
     let then : parent_in (live past) v.0 ≡ 0 = parent_found past v.0 x was.before ∙ top in
-    ap (λ (l : Look). has_flag l.style WS_VISIBLE && has_pixel (shifted (origin (e ∷ past) (parent_in (live (e ∷ past)) v.0)) l.place) p) was.looks
+    ap (λ s. s && has_pixel (shifted (origin (e ∷ past) (parent_in (live (e ∷ past)) v.0)) (look (e ∷ past) v.0).place) p) was.looks.shown
+    ∙ ap (λ (b : Box). has_flag (look past v.0).style WS_VISIBLE && has_pixel (shifted (origin (e ∷ past) (parent_in (live (e ∷ past)) v.0)) b) p) was.looks.place
     ∙ ap (λ n. has_flag (look past v.0).style WS_VISIBLE && has_pixel (shifted (origin (e ∷ past) n) (look past v.0).place) p) now
     ∙ sym (ap (λ n. has_flag (look past v.0).style WS_VISIBLE && has_pixel (shifted (origin past n) (look past v.0).place) p) then)
 
@@ -95,14 +96,14 @@ find_last : (ws : List Window) (n : Window) (v : ℕ) → eqb n.number v ≡ fal
 find_last [] n v other = ap (λ b. cond b (Some n) None) other
 find_last (y ∷ ws) n v other = ap (λ o. cond (eqb y.number v) (Some y) o) (find_last ws n v other)
 
-no_new : (who : ℕ) (call : Call) (a : Answer) (ws : List Window) → changes_look call a ≡ false → made_by who a call ws ≡ []
+no_new : (who : ℕ) (call : Call) (a : Answer) (ws : List Window) → changes_shape call a ≡ false → made_by who a call ws ≡ []
 no_new who (calls.NewWindow name title parent style ex l t r b) (answers.Window w) ws h = absurd (true≢false h)
 no_new who (calls.NewWindow name title parent style ex l t r b) _ ws h = refl
 no_new who call a ws h = made_by-other who a call ws refl
 
--- an entry that leaves how windows look
-leaves_looks : (setup : Setup) (past : Past) (e : Entry) → IsLawful setup past → changes_look e.call e.answer ≡ false → ShowsNone past e
-leaves_looks setup past e lawful h v x found shown = record { before = by (is_refused e) refl; looks = look-same e past v h }
+-- an entry that leaves where windows are shown
+leaves_looks : (setup : Setup) (past : Past) (e : Entry) → IsLawful setup past → changes_shape e.call e.answer ≡ false → ShowsNone past e
+leaves_looks setup past e lawful h v x found shown = record { before = by (is_refused e) refl; looks = shape-same e past v h }
   where
     by : (b : Bool) → is_refused e ≡ b → window past v ≡ Some x
     by true refused = ap (λ (ws : List Window). find_window ws v) (sym (live-refused e past refused)) ∙ found
@@ -124,7 +125,7 @@ hides_new past who name title parent style ex l t r b w hidden v x found shown =
       before =
           sym (find_last (live past) (new_window who name title parent style ex l t r b w (live past)) v other)
           ∙ (ap (λ (ws : List Window). find_window ws v) (sym (live-new past who name title parent style ex l t r b w)) ∙ found);
-      looks = look-other past who name title parent style ex l t r b w v other;
+      looks = same_shape (look (e ∷ past) v) (look past v) (look-other past who name title parent style ex l t r b w v other);
     }
 
 shows_by : (setup : Setup) (past : Past) (who : Thread) (call : Call) (a : Answer) → IsLawful setup past → shows call a ≡ false → ShowsNone past (entry_of who call a)

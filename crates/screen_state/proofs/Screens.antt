@@ -25,7 +25,7 @@ use Rattle.user_model.specs.Painting.{is_painting}
 use Rattle.user_model.proofs.ColourLaws.{session-next, session-refused}
 use Rattle.user_model.proofs.DirtyLaws.{dirty-next, dirty-refused, flag-next, flag-refused, painting-next, painting-refused}
 use Rattle.user_model.proofs.WindowFacts.{live_within}
-use Rattle.user_model.proofs.WindowLooks.{look-same}
+use Rattle.user_model.proofs.WindowLooks.{shape-same}
 use Rattle.window_state.specs.Orders.{IsOrderAt}
 use Rattle.window_state.proofs.OrderSteps.{live_rest, order_rest}
 use Rattle.screen_owners.specs.declared.owners.Owned.{Owned}
@@ -205,11 +205,11 @@ still setup past e z order right h = record { owned = owned; hidden = hidden }
     lives = live_rest setup past e right (no_order e.call e.answer h)
 
     owned : (w : ℕ) (p : Point) → owns setup (e ∷ past) w p ≡ owns setup past w p
-    owned w p = ap (λ (v : Hwnd). not (eqb w 0) && eqb v.0 w) (owner_same past e lives (λ v. look-same e past v (no_look e.call e.answer h)) (λ q. sym ((order_rest setup past e z order right (no_order e.call e.answer h)).lists q) ∙ order.lists q) setup p)
+    owned w p = ap (λ (v : Hwnd). not (eqb w 0) && eqb v.0 w) (owner_same past e lives (λ v. shape-same e past v (no_look e.call e.answer h)) (λ q. sym ((order_rest setup past e z order right (no_order e.call e.answer h)).lists q) ∙ order.lists q) setup p)
 
     unmoved : (w : ℕ) → moves e past w ≡ false
     unmoved w =
-        ap (λ b. not (same_box b (box_of past w))) (box_same past e lives (λ v. look-same e past v (no_look e.call e.answer h)) (λ q. sym ((order_rest setup past e z order right (no_order e.call e.answer h)).lists q) ∙ order.lists q) w)
+        ap (λ b. not (same_box b (box_of past w))) (box_same past e lives (λ v. shape-same e past v (no_look e.call e.answer h)) (λ q. sym ((order_rest setup past e z order right (no_order e.call e.answer h)).lists q) ∙ order.lists q) w)
         ∙ ap not (same_box-self (box_of past w))
 
     hidden : (w : ℕ) (p : Point) → exposes setup e past w p ≡ false

@@ -26,7 +26,7 @@ use Rattle.user_model.proofs.KeptWindows.{window-kept}
 use Rattle.user_model.proofs.LiveWindows.{makes, sound}
 use Rattle.user_model.proofs.WindowFacts.{live_under, live_window, live_within}
 use Rattle.user_model.proofs.WindowLaws.{live-next, live-refused}
-use Rattle.user_model.proofs.WindowLooks.{look-other, look-same}
+use Rattle.user_model.proofs.WindowLooks.{look-other, look-same, shape-same}
 use Rattle.window_state.specs.Boxes.{AreMoved}
 use Rattle.window_state.proofs.BoxLaws.{IsKnown, are_moved}
 use Rattle.window_state.proofs.Standings.{found_out, parent_found}
@@ -96,7 +96,7 @@ place_by setup past who (calls.Show w on) a v lawful other lives = by (is_refuse
     by : (c : Bool) → (elim c as (λ q. Look) [ true ↦ look past v | false ↦ set_look w v a (shown_look (eqb on 1) (look past v)) (look past v) ]).place ≡ place_of past v
     by true = refl
     by false = set_place w v a (eqb on 1) (look past v)
-place_by setup past who call a v lawful other lives = ap (λ (k : Look). k.place) (look-same (entry_of who call a) past v refl)
+place_by setup past who call a v lawful other lives = (shape-same (entry_of who call a) past v refl).place
 
 -- ---- no window that stays moves
 

@@ -7,6 +7,7 @@ use Rattle.call_table.specs.declared.calls.CallName.TheVariants as groups
 use Rattle.call_table.specs.declared.clock.ClockCall.TheVariants as clock
 use Rattle.call_table.specs.declared.delivery.DeliveryCall.TheVariants as delivery
 use Rattle.call_table.specs.declared.drawing.DrawingCall.TheVariants as drawing
+use Rattle.call_table.specs.declared.input.InputCall.TheVariants as input
 use Rattle.call_table.specs.declared.lookups.LookupCall.TheVariants as lookups
 use Rattle.call_table.specs.declared.registrations.RegistrationCall.TheVariants as registrations
 use Rattle.call_table.specs.declared.replies.ReplyCall.TheVariants as replies
@@ -117,6 +118,7 @@ module _ (ps : List Part) (h : AllByRecursion IsPart ps) where
   statement_made_fits (groups.Reply replies.Reply) = search (o, tt)
   statement_made_fits (groups.Registration registrations.Message) = search (o, tt)
   statement_made_fits (groups.Lookup lookups.Find) = search (o, tt)
+  statement_made_fits (groups.Input input.Attach) = search (o, tt)
   statement_made_fits (groups.Drawing drawing.Validate) = search (o, tt)
   statement_made_fits (groups.Clock clock.Clock) = search (o, tt)
   statement_made_fits n = search (o, tt)

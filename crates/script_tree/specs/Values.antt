@@ -5,9 +5,9 @@ use Rattle.win_num.specs.declared.message.Msg.{Msg}
 use Rattle.win_num.specs.Codes.{number_of}
 use Rattle.name_table.specs.Constants.{constant_values}
 use Rattle.user_model.specs.declared.call.Call.{Call}
-use Rattle.user_model.specs.declared.call.Call.TheVariants.{Peek, Get, Post, PostThread, PostQuit, Dispatch, Send, SendTimeout, SendNotify, SendCallback, Reply, InSend, Message as MessageCall, Register, Unregister, NewWindow, Find, AwaitTitle, NextTop, WindowAt, IsWindow, Parent, Invalidate, Validate, UpdateRect, EndPaint, Fill, Snap, SetTimer, KillTimer, Clock, Yield}
+use Rattle.user_model.specs.declared.call.Call.TheVariants.{Peek, Get, Post, PostThread, PostQuit, Dispatch, Send, SendTimeout, SendNotify, SendCallback, Reply, InSend, Message as MessageCall, Register, Unregister, NewWindow, Find, AwaitTitle, NextTop, WindowAt, IsWindow, Parent, GetFocus, GetActive, GetCapture, Attach, Detach, Invalidate, Validate, UpdateRect, EndPaint, Fill, Snap, SetTimer, KillTimer, Clock, Yield}
 use Rattle.user_model.specs.declared.entry.Answer.{Answer}
-use Rattle.user_model.specs.declared.entry.Answer.TheVariants.{Okay, Ended, Nothing, Wait, Stuck, Gone, Value, Window as WindowAnswer, Posted, Called, Inside, Begun, Left, Tell, Last, Advanced, Busy, Update, Painting, Snap as SnapAnswer, Enter, Callback, Done, Got, Refused}
+use Rattle.user_model.specs.declared.entry.Answer.TheVariants.{Okay, Ended, Nothing, Wait, Stuck, Gone, Value, Window as WindowAnswer, Was, Posted, Called, Inside, Begun, Left, Tell, Last, Advanced, Busy, Update, Painting, Snap as SnapAnswer, Enter, Callback, Done, Got, Refused}
 use Rattle.win_num.specs.declared.send.Cause.{Cause}
 use Rattle.win_num.specs.declared.send.Cause.TheVariants.{Loss, Timeout}
 use Rattle.script_tree.specs.declared.operand.Letter.{Letter}
@@ -22,7 +22,7 @@ use Rattle.script_tree.specs.declared.operand.Comparison.{Comparison}
 use Rattle.script_tree.specs.declared.operand.Comparison.TheVariants.{Equal, Different, Below}
 use Rattle.script_tree.specs.declared.operand.Test.{Test}
 use Rattle.script_tree.specs.declared.statement.CallStatement.{CallStatement}
-use Rattle.script_tree.specs.declared.statement.CallStatement.TheVariants.{Peek as PeekStatement, Get as GetStatement, Post as PostStatement, PostThread as PostThreadStatement, PostQuit as PostQuitStatement, Dispatch as DispatchStatement, Send as SendStatement, SendTimeout as SendTimeoutStatement, SendNotify as SendNotifyStatement, SendCallback as SendCallbackStatement, Reply as ReplyStatement, InSend as InSendStatement, Message as MessageStatement, Register as RegisterStatement, Unregister as UnregisterStatement, IsWindow as IsWindowStatement, Parent as ParentStatement, NextTop as NextTopStatement, Find as FindStatement, AwaitTitle as AwaitTitleStatement, WindowAt as WindowAtStatement, Invalidate as InvalidateStatement, Validate as ValidateStatement, UpdateRect as UpdateRectStatement, EndPaint as EndPaintStatement, Fill as FillStatement, Snap as SnapStatement, SetTimer as SetTimerStatement, KillTimer as KillTimerStatement, Clock as ClockStatement, Yield as YieldStatement}
+use Rattle.script_tree.specs.declared.statement.CallStatement.TheVariants.{Peek as PeekStatement, Get as GetStatement, Post as PostStatement, PostThread as PostThreadStatement, PostQuit as PostQuitStatement, Dispatch as DispatchStatement, Send as SendStatement, SendTimeout as SendTimeoutStatement, SendNotify as SendNotifyStatement, SendCallback as SendCallbackStatement, Reply as ReplyStatement, InSend as InSendStatement, Message as MessageStatement, Register as RegisterStatement, Unregister as UnregisterStatement, IsWindow as IsWindowStatement, Parent as ParentStatement, NextTop as NextTopStatement, Find as FindStatement, AwaitTitle as AwaitTitleStatement, WindowAt as WindowAtStatement, GetFocus as GetFocusStatement, GetActive as GetActiveStatement, GetCapture as GetCaptureStatement, Attach as AttachStatement, Detach as DetachStatement, Invalidate as InvalidateStatement, Validate as ValidateStatement, UpdateRect as UpdateRectStatement, EndPaint as EndPaintStatement, Fill as FillStatement, Snap as SnapStatement, SetTimer as SetTimerStatement, KillTimer as KillTimerStatement, Clock as ClockStatement, Yield as YieldStatement}
 use Rattle.script_tree.specs.declared.statement.Creation.{Creation}
 use Rattle.script_tree.specs.declared.variables.Letters.{Letters}
 use Rattle.script_tree.specs.declared.variables.Parameters.{Parameters}
@@ -110,6 +110,11 @@ call_of (NextTopStatement w) v = NextTop (value_of w v)
 call_of (FindStatement title) v = Find title
 call_of (AwaitTitleStatement title) v = AwaitTitle title
 call_of (WindowAtStatement x y) v = WindowAt (edge_of x v) (edge_of y v)
+call_of GetFocusStatement v = GetFocus
+call_of GetActiveStatement v = GetActive
+call_of GetCaptureStatement v = GetCapture
+call_of (AttachStatement t u) v = Attach (value_of t v) (value_of u v)
+call_of (DetachStatement t u) v = Detach (value_of t v) (value_of u v)
 call_of (InvalidateStatement w l t r b erase) v = Invalidate (value_of w v) (edge_of l v) (edge_of t v) (edge_of r v) (edge_of b v) (value_of erase v)
 call_of (ValidateStatement w l t r b) v = Validate (value_of w v) (edge_of l v) (edge_of t v) (edge_of r v) (edge_of b v)
 call_of (UpdateRectStatement w) v = UpdateRect (value_of w v)
@@ -136,7 +141,16 @@ IsRectangle (ValidateStatement w l t r b) = Unit {0}
 IsRectangle (FillStatement w l t r b colour) = Unit {0}
 IsRectangle _ = ⊥
 
--- a statement with two operands at most
+-- a statement about focus, active window, capture or attached threads
+abbrev pub IsOfInput : CallStatement → Type 0
+IsOfInput GetFocusStatement = Unit {0}
+IsOfInput GetActiveStatement = Unit {0}
+IsOfInput GetCaptureStatement = Unit {0}
+IsOfInput (AttachStatement t u) = Unit {0}
+IsOfInput (DetachStatement t u) = Unit {0}
+IsOfInput _ = ⊥
+
+-- a statement with three operands at most
 abbrev pub IsShort : CallStatement → Type 0
 IsShort (PeekStatement w min max flags) = ⊥
 IsShort (GetStatement w min max) = ⊥
@@ -228,6 +242,7 @@ settled v call (Refused code) x = resulting v (refused_result call) (number_of c
 settled v call (Done result cause) x = resulting v result (cause_number cause)
 settled v call (Value n) x = resulting v n 0
 settled v call (WindowAnswer w) x = resulting v w.0 0
+settled v call (Was w) x = resulting v w.0 0
 settled v call (Update kind l t r b) x = resulting v kind 0
 settled v call (Got origin number msg) x = resulting v (if msg.number == 18 then 0 else 1) 0
 settled v call Nothing x = resulting v 0 0

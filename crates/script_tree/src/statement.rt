@@ -49,6 +49,16 @@ pub enum CallStatement {
     AwaitTitle(u32),
     /// `window_at X Y`; a value from 2^63 on is a number below 0, by two's complement (Microsoft, WindowFromPoint function).
     WindowAt(Operand, Operand),
+    /// `get_focus` (Microsoft, GetFocus function).
+    GetFocus,
+    /// `get_active` (Microsoft, GetActiveWindow function).
+    GetActive,
+    /// `get_capture` (Microsoft, GetCapture function).
+    GetCapture,
+    /// `attach T U` (Microsoft, AttachThreadInput function).
+    Attach(Operand, Operand),
+    /// `detach T U` (Microsoft, AttachThreadInput function).
+    Detach(Operand, Operand),
     /// `invalidate W L T R B ERASE`; an edge from 2^63 on is a number below 0, by two's complement (Microsoft,
     /// InvalidateRect function).
     Invalidate(Operand, Operand, Operand, Operand, Operand, Operand),
@@ -103,7 +113,7 @@ pub enum Statement {
     IfElse(Test, Vec<Statement>, Vec<Statement>),
     /// `while A CMP B`, its body, `end`
     While(Test, Vec<Statement>),
-    /// `return A`: ends its procedure with this result. In the body of a thread it ends that body.
+    /// `return A`: ends its procedure with this result. It stands in procedures alone: a text with one in a thread is refused.
     Return(Operand),
     /// A statement that makes a call.
     Call(CallStatement),
@@ -113,6 +123,6 @@ pub enum Statement {
     Create(Creation),
     /// `destroy W` (Microsoft, DestroyWindow function).
     Destroy(Operand),
-    /// `default`, with the message of the procedure (Microsoft, DefWindowProc function).
+    /// `default`, with the message of the procedure (Microsoft, DefWindowProc function). In procedures alone.
     Default,
 }

@@ -1,7 +1,7 @@
 //! The values of operands and tests, and the calls of statements.
 
 ghost use Rattle.std.specs.Prelude.{◌≡◌};
-ghost use Rattle.script_tree.specs.Values.{value_of, edge_of, computed, compared, holds as holds_of, call_of, creation_call, dispatch_of, IsSend, IsRectangle, IsShort};
+ghost use Rattle.script_tree.specs.Values.{value_of, edge_of, computed, compared, holds as holds_of, call_of, creation_call, dispatch_of, IsSend, IsRectangle, IsOfInput, IsShort};
 
 use crate::operand::{Comparison, Operand, Operator, Test};
 use crate::statement::{CallStatement, Creation};
@@ -238,6 +238,24 @@ impl CallStatement {
             }
             CallStatement::Clock => Call::Clock,
             CallStatement::Yield => Call::Yield,
+            _ => self.input_call(variables),
+        }
+    }
+
+    fn input_call(&self, variables: &Variables) -> Call
+        requires { IsOfInput self.now }
+        ensures { result ≡ call_of self.now variables.now }
+    {
+        match self {
+            CallStatement::GetFocus => Call::GetFocus,
+            CallStatement::GetActive => Call::GetActive,
+            CallStatement::GetCapture => Call::GetCapture,
+            CallStatement::Attach(thread, other) => {
+                Call::Attach(thread.value(variables), other.value(variables))
+            }
+            CallStatement::Detach(thread, other) => {
+                Call::Detach(thread.value(variables), other.value(variables))
+            }
             _ => unreachable!(),
         }
     }

@@ -159,7 +159,7 @@ impl Variables {
             Answer::Refused(code) => (refused(call), code.number()),
             Answer::Done { result, cause } => (*result, error_of(*cause)),
             Answer::Value(number) => (*number, 0),
-            Answer::Window(window) => (u64::from(window.0), 0),
+            Answer::Window(window) | Answer::Was(window) => (u64::from(window.0), 0),
             Answer::Update { kind, .. } => (u64::from(*kind), 0),
             Answer::Got { msg, .. } => (u64::from(msg.number != names::WM_QUIT), 0),
             Answer::Nothing => (0, 0),

@@ -1,6 +1,7 @@
 pub mod Clock
 pub mod Delivery
 pub mod Drawing
+pub mod Input
 pub mod Lookups
 pub mod Parts
 pub mod Places

@@ -12,6 +12,7 @@ use Rattle.statement_table.specs.Sends.{split_send, made_send}
 use Rattle.statement_table.specs.Replies.{split_reply, made_reply}
 use Rattle.statement_table.specs.Registrations.{split_registration, made_registration}
 use Rattle.statement_table.specs.Lookups.{split_lookup, made_lookup}
+use Rattle.statement_table.specs.Input.{split_input, made_input}
 use Rattle.statement_table.specs.Drawing.{split_drawing, made_drawing}
 use Rattle.statement_table.specs.Clock.{split_clock, made_clock}
 
@@ -22,7 +23,7 @@ first_found o (p ∷ ps) = first_found (option_or o p) ps
 
 -- a statement taken apart by the group that has it; each statement is of one
 abbrev pub found_split : CallStatement → Option Split
-found_split c = first_found (split_delivery c) (split_send c ∷ split_reply c ∷ split_registration c ∷ split_lookup c ∷ split_drawing c ∷ split_clock c ∷ [])
+found_split c = first_found (split_delivery c) (split_send c ∷ split_reply c ∷ split_registration c ∷ split_lookup c ∷ split_input c ∷ split_drawing c ∷ split_clock c ∷ [])
 
 abbrev pub split_or_none : Option Split → Split
 split_or_none (Some s) = s
@@ -44,5 +45,6 @@ made_statement (groups.Reply n) ps = made_reply n ps
 made_statement (groups.Registration n) ps = made_registration n ps
 made_statement (groups.Window n) ps = None
 made_statement (groups.Lookup n) ps = made_lookup n ps
+made_statement (groups.Input n) ps = made_input n ps
 made_statement (groups.Drawing n) ps = made_drawing n ps
 made_statement (groups.Clock n) ps = made_clock n ps

@@ -8,6 +8,7 @@
 mod clock;
 mod delivery;
 mod drawing;
+mod input;
 mod lookups;
 mod part;
 mod parts;

@@ -10,6 +10,7 @@ ghost use Rattle.statement_table.specs.Statements.{found_split, statement_name, 
 use crate::clock::{made_clock, split_clock};
 use crate::delivery::{made_delivery, split_delivery};
 use crate::drawing::{made_drawing, split_drawing};
+use crate::input::{made_input, split_input};
 use crate::lookups::{made_lookup, split_lookup};
 use crate::part::{Part, Parts};
 use crate::registrations::{made_registration, split_registration};
@@ -36,6 +37,9 @@ fn found_split(call: CallStatement) -> Option<SplitStatement>
         return Some(split);
     }
     if let Some(split) = split_lookup(call) {
+        return Some(split);
+    }
+    if let Some(split) = split_input(call) {
         return Some(split);
     }
     if let Some(split) = split_drawing(call) {
@@ -81,6 +85,7 @@ fn made_statement(name: CallName, parts: &[Part]) -> Option<CallStatement>
         CallName::Registration(name) => made_registration(name, parts),
         CallName::Window(_) => None,
         CallName::Lookup(name) => made_lookup(name, parts),
+        CallName::Input(name) => made_input(name, parts),
         CallName::Drawing(name) => made_drawing(name, parts),
         CallName::Clock(name) => made_clock(name, parts),
     }

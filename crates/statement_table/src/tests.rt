@@ -1,7 +1,7 @@
 //! Each public call, at statements of each kind of part.
 
 use super::*;
-use call_table::{CallName, ClockCall, DrawingCall, LookupCall, WindowCall};
+use call_table::{CallName, ClockCall, DrawingCall, InputCall, LookupCall, WindowCall};
 use script_tree::{CallStatement, Comparison, Letter, Operand, Operator};
 use std::test::Fail;
 
@@ -15,6 +15,8 @@ fn statements_again(rt: HostRuntime) -> Result<(), Fail> {
         (CallStatement::Reply(h), 1),
         (CallStatement::Register(1, 2, h), 3),
         (CallStatement::WindowAt(h, one), 2),
+        (CallStatement::GetFocus, 0),
+        (CallStatement::Attach(one, h), 2),
         (CallStatement::Invalidate(one, h, one, h, one, h), 6),
         (CallStatement::Validate(one, h, one, h, one), 5),
         (CallStatement::UpdateRect(h), 1),
@@ -42,11 +44,13 @@ fn calls_of_no_statement(rt: HostRuntime) -> Result<(), Fail> {
     let tick = CallName::Clock(ClockCall::Tick);
     let begin = CallName::Drawing(DrawingCall::BeginPaint);
     let erase = CallName::Drawing(DrawingCall::Erase);
+    let focus = CallName::Input(InputCall::SetFocus);
     let parent = CallName::Lookup(LookupCall::Parent);
     assert_eq!(rt; statement_of_parts(doom, &one).is_none(), true);
     assert_eq!(rt; statement_of_parts(tick, &one).is_none(), true);
     assert_eq!(rt; statement_of_parts(begin, &one).is_none(), true);
     assert_eq!(rt; statement_of_parts(erase, &one).is_none(), true);
+    assert_eq!(rt; statement_of_parts(focus, &one).is_none(), true);
     assert_eq!(rt; statement_of_parts(parent, &one).is_none(), false);
     assert_eq!(rt; field_places(doom).len(), 1);
     Ok(())

@@ -2,18 +2,68 @@
 use Rattle.std.proofs.Common.{◌≡◌, ◌&&◌, filter, ℕ, ◌+◌, ◌<◌, ◌≤◌, ◌^◌, take, drop, ◌==◌, Bool, true, false, not, cond, List, [], ◌∷◌, ◌++◌, length, get_or, set, Option, Some, None, refl, ap, sym, ◌∙◌, arith}
 use Rattle.std.specs.List.{items_where_true}
 use Rattle.std.proofs.lemmas.List.Elements.{filter-append, All-cons, All-filter, All-head, All-map, All-nil, All-push, All-tail, All-weaker}
-use Rattle.std.proofs.lemmas.List.{append-nil, append_assoc, drop_all, take_all, length-map, length-take-le, drop_more, take_more, get_or_at, set_at, map-append}
+use Rattle.std.proofs.lemmas.List.{append-nil, append_assoc, drop_all, take_all, length-append, length-map, length-take-le, drop_more, take_more, get_or_at, set_at, map-append}
+use Rattle.std.proofs.lemmas.Bool.{eqb-true, false≢true}
 use Rattle.std.proofs.lemmas.Bool.Decides.{nat_tests}
+use Rattle.std.specs.Prelude.{nat_le, ◌||◌}
 use Rattle.std.specs.Option.{option_map}
 use Rattle.win_num.specs.declared.message.Hwnd.{Hwnd}
 use Rattle.win_num.specs.declared.message.Thread.{Thread}
 use Rattle.timer_source.specs.declared.setting.Setting.{Setting}
 use Rattle.timer_source.specs.declared.timer.Timer.{Timer}
-use Rattle.timer_source.specs.Settings.{AreEarly, is_of, without, anew, restarted, sooner, soonest, timer_of, passing, first_passing, or_timer, with_timer}
+use Rattle.timer_source.specs.Settings.{AreEarly, is_of, is_set_for, of_thread, has_no_room, without, without_window, anew, restarted, sooner, soonest, timer_of, passing, first_passing, or_timer, with_timer}
 
 -- what is taken out leaves early settings
 pub early_without : (w : Hwnd) (id : ℕ) (settings left : List Setting) → left ≡ without w id settings → AreEarly settings → AreEarly left
 early_without w id settings left e early = rw e (All-filter (λ s. not (is_of w id s)) (λ s. s.base < 2 ^ 54) settings early)
+
+-- the same of a window's
+pub early_without_window : (w : Hwnd) (settings left : List Setting) → left ≡ without_window w settings → AreEarly settings → AreEarly left
+early_without_window w settings left e early = rw e (All-filter (λ s. not (s.hwnd.0 == w.0)) (λ s. s.base < 2 ^ 54) settings early)
+
+-- what is taken out leaves a thread no more
+no_more : (u : Thread) (w : Hwnd) (id : ℕ) (settings : List Setting) → length (of_thread u (without w id settings)) ≤ length (of_thread u settings)
+no_more u w id [] = omega arith
+no_more u w id (s ∷ settings) =
+    let rest : length (of_thread u (without w id settings)) ≤ length (of_thread u settings) = no_more u w id settings in
+    elim (is_of w id s) as (λ b. length (of_thread u (cond (not b) (s ∷ without w id settings) (without w id settings))) ≤ length (of_thread u (s ∷ settings))) [
+      | true ↦ elim (s.thread.0 == u.0) as (λ o. length (of_thread u (without w id settings)) ≤ length (cond o (s ∷ of_thread u settings) (of_thread u settings))) [ true ↦ omega (arith, rest) | false ↦ rest ]
+      | false ↦ elim (s.thread.0 == u.0) as (λ o. length (cond o (s ∷ of_thread u (without w id settings)) (of_thread u (without w id settings))) ≤ length (cond o (s ∷ of_thread u settings) (of_thread u settings))) [ true ↦ omega (arith, rest) | false ↦ rest ]
+    ]
+
+-- and one less, where it was its own
+one_less : (u : Thread) (w : Hwnd) (id : ℕ) (settings : List Setting) → is_set_for u w id settings ≡ true → length (of_thread u (without w id settings)) < length (of_thread u settings)
+one_less u w id [] h = absurd (false≢true h)
+one_less u w id (s ∷ settings) h = by (s.thread.0 == u.0) (is_of w id s) refl refl (one_less u w id settings) h
+  where
+    by : (o b : Bool) → (s.thread.0 == u.0) ≡ o → is_of w id s ≡ b → (is_set_for u w id settings ≡ true → length (of_thread u (without w id settings)) < length (of_thread u settings)) → ((o && b) || is_set_for u w id settings) ≡ true → length (of_thread u (without w id (s ∷ settings))) < length (of_thread u (s ∷ settings))
+    by true true eo eb less k = rw (eb, eo) (let rest = no_more u w id settings in omega (arith, rest))
+    by true false eo eb less k = rw (eb, eo) (let rest = less k in omega (arith, rest))
+    by false true eo eb less k = rw (eb, eo) (less k)
+    by false false eo eb less k = rw (eb, eo) (less k)
+
+-- a thread has at most 256 timers and room for this one, so it has room once the old one is out
+room_left : (t : Thread) (w : Hwnd) (id : ℕ) (settings : List Setting) → has_no_room t w id settings ≡ false → length (of_thread t settings) ≤ 256 → length (of_thread t (without w id settings)) < 256
+room_left t w id settings room few = by (is_set_for t w id settings) refl room
+  where
+    below : (n : ℕ) → nat_le 256 n ≡ false → n < 256
+    below n h = grind (arith, nat_tests, h)
+
+    by : (b : Bool) → is_set_for t w id settings ≡ b → (not b && nat_le 256 (length (of_thread t settings))) ≡ false → length (of_thread t (without w id settings)) < 256
+    by true is k = let less = one_less t w id settings is in omega (arith, less, few)
+    by false is k = let less = below (length (of_thread t settings)) k in let rest = no_more t w id settings in omega (arith, less, rest)
+
+-- where every thread had at most 256 timers, it has no more once one is set for which there is room
+pub few_set : (t u : Thread) (w : Hwnd) (id : ℕ) (settings left : List Setting) (s : Setting) → left ≡ without w id settings ++ s ∷ [] → s.thread ≡ t → has_no_room t w id settings ≡ false → length (of_thread u settings) ≤ 256 → length (of_thread u left) ≤ 256
+few_set t u w id settings left s e own room few = rw (e, filter-append (λ r. r.thread.0 == u.0) (without w id settings) (s ∷ [])) (by (s.thread.0 == u.0) refl)
+  where
+    by : (o : Bool) → (s.thread.0 == u.0) ≡ o → length (of_thread u (without w id settings) ++ cond o (s ∷ []) []) ≤ 256
+    by true eo =
+        let same : t.0 ≡ u.0 = sym (ap (λ (r : Thread). r.0) own) ∙ eqb-true s.thread.0 u.0 eo in
+        let left : length (of_thread u (without w id settings)) < 256 = room_left u w id settings (sym (ap (λ n. has_no_room (record { 0 = n }) w id settings) same) ∙ room) few in
+        let longer = length-append (of_thread u (without w id settings)) (s ∷ []) in
+        omega (arith, left, longer)
+    by false eo = rw (append-nil (of_thread u (without w id settings))) (let rest = no_more u w id settings in omega (arith, rest, few))
 
 -- the same of those that fail a test
 pub early_kept : (stays : Setting → Bool) (settings left : List Setting) → left ≡ filter stays settings → AreEarly settings → AreEarly left

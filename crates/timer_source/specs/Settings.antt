@@ -22,13 +22,21 @@ is_set w id settings = list_any (is_of w id) settings
 abbrev pub without : Hwnd → ℕ → List Setting → List Setting
 without w id settings = filter (λ s. not (is_of w id s)) settings
 
+-- the settings but those of the window
+abbrev pub without_window : Hwnd → List Setting → List Setting
+without_window w settings = filter (λ s. not (s.hwnd.0 == w.0)) settings
+
 -- those of a thread
 abbrev pub of_thread : Thread → List Setting → List Setting
 of_thread t settings = filter (λ s. s.thread.0 == t.0) settings
 
--- whether the window has no timer with this id, and the thread has 256 timers
+-- whether the thread has the timer of the window with this id
+abbrev pub is_set_for : Thread → Hwnd → ℕ → List Setting → Bool
+is_set_for t w id settings = list_any (λ s. (s.thread.0 == t.0) && is_of w id s) settings
+
+-- whether the thread has 256 timers, and that of the window with this id is none of them
 abbrev pub has_no_room : Thread → Hwnd → ℕ → List Setting → Bool
-has_no_room t w id settings = not (is_set w id settings) && nat_le 256 (length (of_thread t settings))
+has_no_room t w id settings = not (is_set_for t w id settings) && nat_le 256 (length (of_thread t settings))
 
 -- milliseconds as a period: below 10 they count as 10, above 2147483647 as that
 abbrev pub period_of : ℕ → ℕ

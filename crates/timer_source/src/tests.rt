@@ -21,6 +21,11 @@ fn two_hundred_and_fifty_seven_ids(rt: HostRuntime) -> Result<(), Fail> {
         Ok(()),
         "another thread"
     );
+    assert_eq!(rt;
+        timers.set(Thread(1), Hwnd(17), 256, 10, 0),
+        full,
+        "no timer of another thread moves in"
+    );
     Ok(())
 }
 
@@ -58,8 +63,15 @@ fn due_by_time_then_by_setting(rt: HostRuntime) -> Result<(), Fail> {
     assert_eq!(rt; timers.next_due(thread, |timer| timer.id == 2), Some(45));
     assert_eq!(rt; timers.kill(window, 1), Ok(()));
     assert_eq!(rt; timers.kill(window, 1), Err(Code::Win(87)));
-    timers.purge(|w: Hwnd| -> bool { w == window });
+    timers.purge(Hwnd(17));
+    assert_eq!(rt; timers.next_due(Thread(2), |_| true), None);
+    assert_eq!(rt; timers.next_due(thread, |_| true), Some(45));
+    timers.purge_those(|w: Hwnd| -> bool { w == window });
     assert_eq!(rt; timers.next_due(thread, |_| true), None);
+    timers
+        .set(Thread(2), Hwnd(17), 3, 10, 0)
+        .ok()
+        .ok_or("room")?;
     assert_eq!(rt; timers.next_due(Thread(2), |_| true), Some(10));
     timers.end(Thread(2));
     assert!(rt; !timers.has(Hwnd(17), 3) && !timers.is_full(Thread(2)));

@@ -5,8 +5,9 @@ ghost use Rattle.std.specs.Vec.{vec_capacity};
 ghost use Rattle.std.specs.Fn.{FnReturnsAt};
 ghost use Rattle.win_num.specs.Clocks.{clock_limit};
 ghost use Rattle.win_num.specs.declared.message.Hwnd.{Hwnd};
+ghost use Rattle.win_num.specs.declared.message.Thread.{Thread};
 ghost use Rattle.timer_source.specs.declared.timer.Timer.{Timer};
-ghost use Rattle.timer_source.specs.Settings.{AreEarly, is_of, is_set, without, has_no_room, of_thread, setting_at, restarted, first_passing, with_timer, timer_of, is_before, first_due, next_due, Computes};
+ghost use Rattle.timer_source.specs.Settings.{AreEarly, is_of, is_set, is_set_for, without, without_window, has_no_room, of_thread, setting_at, restarted, first_passing, with_timer, timer_of, is_before, first_due, next_due, Computes};
 
 use crate::setting::Setting;
 use crate::timer::Timer;
@@ -50,16 +51,18 @@ impl Timers {
 
     /// Sets the timer `id` of the window `w` of thread `t` at the clock, which is below 2 to the 54th.
     /// Milliseconds below 10 count as 10, and above 2147483647 as that. A timer of the window with this
-    /// id is replaced, and the new one is as new. `Full` comes exactly where it replaces none and the
-    /// thread has 256 timers (Microsoft, SetTimer function; the limit is this project's own).
+    /// id is replaced, of whichever thread it was, and the new one is as new. `Full` comes exactly where
+    /// thread `t` has 256 timers and this is none of them (Microsoft, SetTimer function; the limit is this
+    /// project's own).
     pub fn set(&mut self, t: Thread, w: Hwnd, id: u64, ms: u64, clock: u64) -> Result<(), Fault>
         requires { clock < clock_limit }
         ensures ok { OnOk result (self.new ≡ without w id self.old ++ setting_at t w id ms clock ∷ []) }
         ensures full { (result ≡ Err (Fault.Refused Code.Full)) ↔ (has_no_room t w id self.old ≡ true) }
+        ensures few { (u : Thread) → length (of_thread u self.old) ≤ 256 → length (of_thread u self.new) ≤ 256 }
         ensures other { IfErr result (λ e. (e ≡ Fault.Refused Code.Full) ⊎ (e ≡ Fault.Memory)) }
         ensures err { OnErr result (self.new ≡ self.old) }
     {
-        if !self.has(w, id) && self.is_full(t) {
+        if !stands_for(&self.settings, t, w, id) && self.is_full(t) {
             return Err(Fault::Refused(Code::Full));
         }
         if self.settings.reserve(1).is_err() {
@@ -141,8 +144,15 @@ impl Timers {
         count_of(&self.settings, t) >= MOST
     }
 
-    /// Takes out the timers whose window goes: those for which `goes` answers true.
-    pub fn purge<F: Fn(Hwnd) -> bool>(&mut self, goes: F)
+    /// Takes all timers of the window `w` out.
+    pub fn purge(&mut self, w: Hwnd)
+        ensures { self.new ≡ without_window w self.old }
+    {
+        take_out_all(&mut self.settings, w);
+    }
+
+    /// Takes out the timers of all windows that go, in one pass: those for which `goes` answers true.
+    pub fn purge_those<F: Fn(Hwnd) -> bool>(&mut self, goes: F)
         requires { F.IsAlwaysCallable goes }
         ensures { (test : ℕ → Bool) → ((w : Hwnd) (b : Bool) → F.post goes w b → b ≡ test w.0) → self.new ≡ filter (λ s. not (test s.hwnd.0)) self.old }
     {
@@ -171,6 +181,13 @@ fn stands(settings: &[Setting], w: Hwnd, id: u64) -> bool
     settings.iter().any(|s| is_timer(s, w, id))
 }
 
+/// Whether thread `t` has the timer `id` of the window `w`.
+fn stands_for(settings: &[Setting], t: Thread, w: Hwnd, id: u64) -> bool
+    ensures { result ≡ is_set_for t w id settings.now }
+{
+    settings.iter().any(|s| s.thread == t && is_timer(s, w, id))
+}
+
 /// Takes the timer `id` of the window `w` out, and gives no room back.
 fn take_out(settings: &mut Vec<Setting>, w: Hwnd, id: u64)
     ensures items { settings.new.items ≡ without w id settings.old.items }
@@ -178,6 +195,13 @@ fn take_out(settings: &mut Vec<Setting>, w: Hwnd, id: u64)
     ensures room { vec_capacity settings.new ≡ vec_capacity settings.old }
 {
     settings.retain(|s| !is_timer(s, w, id));
+}
+
+/// Takes the timers of the window `w` out.
+fn take_out_all(settings: &mut Vec<Setting>, w: Hwnd)
+    ensures { settings.new.items ≡ without_window w settings.old.items }
+{
+    settings.retain(|s| s.hwnd != w);
 }
 
 /// Takes the timers of thread `t` out.

@@ -1,15 +1,16 @@
 -- Timers as they are kept, in lists.
-use Rattle.std.proofs.Common.{◌≡◌, ℕ, suc, Bool, true, false, not, cond, eqb, ◌+◌, ◌∷◌, ◌++◌, List, [], length, Option, Some, None, Ok, Err, refl, ap, subst, sym, ◌∙◌, arith}
-use Rattle.std.specs.Prelude.{◌&&◌, ◌||◌, filter, find, map, is_some, option_map}
+use Rattle.std.proofs.Common.{◌≡◌, ℕ, suc, Bool, true, false, not, cond, eqb, ◌∷◌, ◌++◌, List, [], length, Some, Ok, Err, refl, ap, subst, sym, ◌∙◌, arith}
+use Rattle.std.specs.Prelude.{◌&&◌, ◌||◌, filter, find, map, is_some}
 use Rattle.std.specs.Prelude.{Result, OnOk, OnErr}
 use Rattle.win_num.specs.declared.code.Code.{Code}
 use Rattle.win_num.specs.declared.code.Code.TheVariants.{Win}
-use Rattle.std.specs.List.{AllByRecursion, list_any}
+use Rattle.std.specs.List.{AllByRecursion}
+use Rattle.std.proofs.lemmas.Bool.{eqb-true}
 use Rattle.std.proofs.lemmas.Bool.Decides.{nat_tests}
 use Rattle.win_num.specs.declared.message.Hwnd.{Hwnd}
 use Rattle.win_num.specs.declared.message.Thread.{Thread}
 use Rattle.timer_source.specs.declared.setting.Setting.{Setting}
-use Rattle.timer_source.specs.Settings.{is_of, is_set, of_thread, without}
+use Rattle.timer_source.specs.Settings.{is_of, is_set, is_set_for, of_thread, without}
 use Rattle.user_model.specs.Past.{Past}
 use Rattle.user_model.specs.Windows.{thread_of}
 use Rattle.user_model.specs.Timers.{WinTimer, is_timer}
@@ -42,12 +43,32 @@ nothing_behind (x ∷ xs) = ap (λ ys. x ∷ ys) (nothing_behind xs)
 pub swapped : (a b c d : ℕ) → (eqb a b && eqb c d) ≡ (eqb b a && eqb d c)
 swapped a b c d = grind (arith, nat_tests)
 
+and_false : (b : Bool) → (b && false) ≡ false
+and_false true = refl
+and_false false = refl
+
 -- the timer of a window with an id, among those that are kept
 pub is_set-kept : (past : Past) (w : Hwnd) (id : ℕ) (xs : List WinTimer) → is_set w id (map (kept past) xs) ≡ is_some (find (is_timer w.0 id) xs)
 is_set-kept past w id [] = refl
 is_set-kept past w id (x ∷ xs) = pick (is_timer w.0 id x) (is_set-kept past w id xs)
   where
     pick : (b : Bool) → is_set w id (map (kept past) xs) ≡ is_some (find (is_timer w.0 id) xs) → (b || is_set w id (map (kept past) xs)) ≡ is_some (cond b (Some x) (find (is_timer w.0 id) xs))
+    pick true rest = refl
+    pick false rest = rest
+
+-- where the window is of a thread, its timer is one of that thread's
+pub is_set_for-kept : (past : Past) (t : Thread) (w : Hwnd) (id : ℕ) (xs : List WinTimer) → eqb (thread_of past w.0) t.0 ≡ true → is_set_for t w id (map (kept past) xs) ≡ is_some (find (is_timer w.0 id) xs)
+is_set_for-kept past t w id [] own = refl
+is_set_for-kept past t w id (x ∷ xs) own = ap (λ b. b || is_set_for t w id (map (kept past) xs)) (one x) ∙ pick (is_timer w.0 id x) (is_set_for-kept past t w id xs own)
+  where
+    one : (x : WinTimer) → (eqb (thread_of past x.hwnd) t.0 && is_timer w.0 id x) ≡ is_timer w.0 id x
+    one x = by (eqb x.hwnd w.0) refl
+      where
+        by : (b : Bool) → eqb x.hwnd w.0 ≡ b → (eqb (thread_of past x.hwnd) t.0 && (b && eqb x.id id)) ≡ (b && eqb x.id id)
+        by true same = ap (λ b. b && eqb x.id id) (ap (λ h. eqb (thread_of past h) t.0) (eqb-true x.hwnd w.0 same) ∙ own)
+        by false same = and_false (eqb (thread_of past x.hwnd) t.0)
+
+    pick : (b : Bool) → is_set_for t w id (map (kept past) xs) ≡ is_some (find (is_timer w.0 id) xs) → (b || is_set_for t w id (map (kept past) xs)) ≡ is_some (cond b (Some x) (find (is_timer w.0 id) xs))
     pick true rest = refl
     pick false rest = rest
 

@@ -1,7 +1,6 @@
 -- What is looked up in the timers that are kept is what the past says.
-use Rattle.std.proofs.Common.{◌≡◌, ℕ, Bool, true, false, not, cond, eqb, ◌+◌, ◌∷◌, List, [], length, Option, Some, None, refl, ap, sym, ◌∙◌, arith}
-use Rattle.std.specs.Prelude.{◌&&◌, ◌||◌, filter, find, map, min, nat_le, is_some, option_map, unwrap_or}
-use Rattle.std.specs.List.{AllByRecursion}
+use Rattle.std.proofs.Common.{◌≡◌, ℕ, Bool, true, false, cond, eqb, ◌∷◌, List, [], length, Option, Some, None, refl, ap, sym, ◌∙◌, arith}
+use Rattle.std.specs.Prelude.{◌&&◌, ◌||◌, filter, map, min, nat_le, is_some, option_map}
 use Rattle.std.proofs.lemmas.Bool.{false≢true, eqb-true}
 use Rattle.std.proofs.lemmas.Bool.Decides.{nat_tests}
 use Rattle.win_num.specs.Numbers.{passes_range}
@@ -9,17 +8,15 @@ use Rattle.win_num.specs.declared.message.Filter.{Filter}
 use Rattle.win_num.specs.declared.message.Hwnd.{Hwnd}
 use Rattle.win_num.specs.declared.message.Thread.{Thread}
 use Rattle.win_num.specs.declared.names.TheConstants.{NO_WINDOW, WM_TIMER}
-use Rattle.win_rows.specs.Windows as rows
 use Rattle.win_rows.specs.Windows.{Windows}
 use Rattle.win_tree.specs.Kin as kept_kin
-use Rattle.timer_source.specs.declared.setting.Setting.{Setting}
 use Rattle.timer_source.specs.declared.timer.Timer.{Timer}
 use Rattle.timer_source.specs.Settings as settings
 use Rattle.timer_source.specs.Settings.{first_due, first_passing, is_set, next_due, of_thread, timer_of}
 use Rattle.user_model.specs.declared.entry.Setup.{Setup}
 use Rattle.user_model.specs.Past.{Past}
 use Rattle.user_model.specs.Places.{clock}
-use Rattle.user_model.specs.Windows.{Window, live, find_window, is_live, is_below, thread_of}
+use Rattle.user_model.specs.Windows.{find_window, is_live, is_below, thread_of}
 use Rattle.user_model.specs.Filters.{passes_window}
 use Rattle.user_model.specs.Timers.{WinTimer, due, due_time, is_due, is_timer, passes_timer, passing_timers, sooner, soonest_timer, timer, timers, timers_of}
 use Rattle.user_model.specs.Idle.{least_of, least_with}

@@ -1,10 +1,9 @@
 -- The timers that are kept after an entry are those of the past with the entry.
-use Rattle.std.proofs.Common.{◌≡◌, ℕ, Bool, true, false, not, cond, eqb, ◌+◌, ◌∷◌, ◌++◌, List, [], Option, Some, None, refl, ap, sym, ◌∙◌, arith}
+use Rattle.std.proofs.Common.{◌≡◌, ℕ, Bool, true, false, not, cond, eqb, ◌∷◌, ◌++◌, List, [], Option, Some, None, refl, ap, sym, ◌∙◌, arith}
 use Rattle.std.proofs.lemmas.Bool.Decides.{nat_tests}
-use Rattle.std.specs.Prelude.{◌&&◌, ◌||◌, filter, find, map, max, min, is_some, option_map, unwrap_or}
+use Rattle.std.specs.Prelude.{◌&&◌, ◌||◌, filter, map, max, min, is_some, option_map, unwrap_or}
 use Rattle.std.specs.List.{AllByRecursion}
 use Rattle.std.proofs.lemmas.Bool.{false≢true, eqb-true}
-use Rattle.win_num.specs.declared.message.Hwnd.{Hwnd}
 use Rattle.win_num.specs.declared.message.Msg.{Msg}
 use Rattle.win_num.specs.declared.message.Thread.{Thread}
 use Rattle.win_rows.specs.declared.window.Window.{Window as KeptWindow}
@@ -12,34 +11,33 @@ use Rattle.win_rows.specs.Windows as rows
 use Rattle.win_rows.specs.Windows.{Windows}
 use Rattle.win_tree.specs.Kin as kept_kin
 use Rattle.timer_source.specs.declared.setting.Setting.{Setting}
-use Rattle.timer_source.specs.Settings.{anew, is_of, restarted, setting_at, without}
+use Rattle.timer_source.specs.Settings.{anew, is_of, restarted, setting_at}
 use Rattle.user_model.specs.declared.call.Call.{Call}
 use Rattle.user_model.specs.declared.call.Call.TheVariants as calls
 use Rattle.user_model.specs.declared.entry.Answer.{Answer}
 use Rattle.user_model.specs.declared.entry.Answer.TheVariants as answers
-use Rattle.user_model.specs.declared.entry.Origin.{Origin}
 use Rattle.user_model.specs.declared.entry.Origin.TheVariants as origins
 use Rattle.user_model.specs.declared.entry.Entry.{Entry}
 use Rattle.user_model.specs.declared.entry.Setup.{Setup}
 use Rattle.user_model.specs.Past.{Past, is_refused, is_refusal}
 use Rattle.user_model.specs.Places.{clock, is_end}
-use Rattle.user_model.specs.Windows.{Window, live, window, find_window, is_live, is_kin, thread_of, drops, drops_kin, drops_window}
+use Rattle.user_model.specs.Windows.{Window, live, find_window, is_live, is_kin, thread_of, drops, drops_kin, drops_window}
 use Rattle.user_model.specs.Retrievals.{removes, removed_timer}
 use Rattle.user_model.specs.Timers.{WinTimer, is_timer, timers, timers_set, ends_timer, base, is_message_of, restarts, sets}
 use Rattle.user_model.specs.Idle.{reply}
 use Rattle.user_model.specs.Legal.{IsLawful}
-use Rattle.user_model.proofs.KeptWindows.{not_true, or_neither}
-use Rattle.user_model.proofs.ListLaws.{filter_agree, filter_every}
+use Rattle.user_model.proofs.KeptWindows.{or_neither}
+use Rattle.user_model.proofs.ListLaws.{filter_every}
 use Rattle.user_model.proofs.TimerLaws.{timers-next, timers-refused, base-next, base-refused}
 use Rattle.user_model.proofs.TimerReplies.{set_okay, set_told, kill_okay}
-use Rattle.user_model.proofs.TimerWindows.{IsLeft, left_alone, none_dropped, set_left, thread_stays, timers_live}
+use Rattle.user_model.proofs.TimerWindows.{left_alone, none_dropped, set_left, thread_stays, timers_live}
 use Rattle.user_model.proofs.WindowFacts.{live_window}
 use Rattle.user_model.proofs.WindowLaws.{live-refused}
 use Rattle.user_model.proofs.WindowReplies.{drop_okay}
 use Rattle.window_state.specs.Trees.{IsTreeAt}
 use Rattle.window_state.proofs.Bridges.{kin_made, live_made}
 use Rattle.window_state.proofs.TreeFacts.{found_passes}
-use Rattle.timer_state.specs.Changes.{added_timers, followed, goes_with, kept_of, restarted_by, set_by}
+use Rattle.timer_state.specs.Changes.{added_timers, followed, goes_with, kept_of, set_by}
 use Rattle.timer_state.specs.TimerLists.{kept, timers_at}
 use Rattle.timer_state.proofs.Kept.{filter_mapped, map_agree, map_joined, map_twice, nothing_behind, swapped}
 

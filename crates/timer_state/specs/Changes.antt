@@ -1,6 +1,5 @@
 -- What an entry does to the timers that are kept.
-use Rattle.std.specs.Prelude.{◌≡◌, ℕ, ◌==◌, ◌||◌, ◌&&◌, ◌<◌, nat_lt, if◌then◌else◌, Bool, true, false, not, List, [], ◌∷◌, ◌++◌, filter, length, IsTrue}
-use Rattle.win_num.specs.declared.message.Hwnd.{Hwnd}
+use Rattle.std.specs.Prelude.{◌≡◌, ℕ, ◌==◌, ◌||◌, ◌&&◌, if◌then◌else◌, Bool, false, not, List, [], ◌∷◌, ◌++◌, filter, IsTrue}
 use Rattle.win_num.specs.declared.message.Msg.{Msg}
 use Rattle.win_num.specs.declared.message.Thread.{Thread}
 use Rattle.win_rows.specs.declared.window.Window.{Window}

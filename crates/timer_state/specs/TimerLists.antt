@@ -1,5 +1,5 @@
 -- The timers that a past has, as they are kept.
-use Rattle.std.specs.Prelude.{◌≡◌, ℕ, List, map}
+use Rattle.std.specs.Prelude.{List, map}
 use Rattle.timer_source.specs.declared.setting.Setting.{Setting}
 use Rattle.timer_source.specs.declared.timer.Timer.{Timer}
 use Rattle.user_model.specs.Past.{Past}

@@ -73,7 +73,7 @@ fn purge_kin(timers: &mut Timers, tree: &Tree, window: Hwnd)
     let goes = |w: Hwnd| -> bool
         ensures { result ≡ goes_with tree.entry.now.live window.0 w.0 }
     { tree.row(w).is_some() && tree.is_kin(window, w) };
-    timers.purge(goes);
+    timers.purge_those(goes);
 }
 
 /// Begins the period of a timer anew, whose message a retrieval handed out and removes.

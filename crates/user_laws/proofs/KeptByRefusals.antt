@@ -70,6 +70,9 @@ changes_none past who call (Refused code) is = record {
   same_ready = λ t. refl;
   same_timers = refl;
   same_bases = λ x. refl;
+  same_links = refl;
+  same_settings = λ among slot. refl;
+  same_foreground = refl;
 }
 changes_none past who call _ is = absurd (false≢true is)
 

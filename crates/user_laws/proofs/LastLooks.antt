@@ -1,4 +1,4 @@
--- How a live window looks is what the last entry has made of it that makes, places or shows it.
+-- How a live window looks is what the last entry has made of it that makes, places, shows or enables it.
 use Rattle.std.proofs.Common.{◌≡◌, inl, inr, ℕ, eqb, Bool, true, false, cond, List, [], ◌∷◌, ◌++◌, Option, Some, None, refl, sym, ap, ◌∙◌, subst, eq-eqb}
 use Rattle.std.specs.Prelude.{unwrap_or, is_some}
 use Rattle.std.proofs.lemmas.Bool.{false≢true}
@@ -9,9 +9,9 @@ use Rattle.user_model.specs.declared.entry.Answer.{Answer}
 use Rattle.user_model.specs.declared.entry.Answer.TheVariants as answers
 use Rattle.user_model.specs.declared.entry.Entry.{Entry}
 use Rattle.user_model.specs.Past.{Past, is_refused, last_of}
-use Rattle.user_model.specs.Deeds.{Deed, making, placing, showing, deed}
+use Rattle.user_model.specs.Deeds.{Deed, making, placing, showing, enabling, deed}
 use Rattle.user_model.specs.Windows.{Window, live, made_by}
-use Rattle.user_model.specs.Looks.{Look, look, look_of, no_look, placed, relooked, shown_look}
+use Rattle.user_model.specs.Looks.{Look, look, look_of, no_look, placed, relooked, shown_look, enabled_look}
 use Rattle.user_laws.specs.Words.{Moment, IsIn, SaysNothing, IsLastSaid}
 use Rattle.user_laws.specs.Looks.{touches, gives_look}
 use Rattle.user_laws.proofs.WordLaws.{last_said, last_none}
@@ -25,9 +25,11 @@ untouched : (w : ℕ) (a : Answer) (d : Deed) (old : Look) → touches w a d ≡
 untouched w (answers.Window v) (making class title parent style ex l t r b) old h = kept (eqb v.0 w) (look_of style ex (box l t r b)) old h
 untouched w (answers.Value n) (placing v after l t r b flags) old h = kept (eqb v w) (placed flags after (box l t r b) old) old h
 untouched w (answers.Value n) (showing v on) old h = kept (eqb v w) (shown_look (eqb on 1) old) old h
+untouched w (answers.Value n) (enabling v on) old h = kept (eqb v w) (enabled_look (eqb on 1) old) old h
 untouched w _ (making class title parent style ex l t r b) old h = refl
 untouched w _ (placing v after l t r b flags) old h = refl
 untouched w _ (showing v on) old h = refl
+untouched w _ (enabling v on) old h = refl
 untouched w _ _ old h = refl
 
 -- how w looks is what was given last

@@ -41,7 +41,7 @@ module _ (past : Past) (by : Thread) (asked : Call) (code : Code) where
   later = entry_of by asked (Refused code) ∷ past
 
   pub owner_kept : (setup : Setup) (p : Point) → owner setup later p ≡ owner setup past p
-  owner_kept setup p = owner_same past (entry_of by asked (Refused code)) refl (λ w. refl) (λ q. refl) setup p
+  owner_kept setup p = owner_same past (entry_of by asked (Refused code)) refl (λ w. record { shown = refl; place = refl }) (λ q. refl) setup p
 
   pub dirty_kept : (setup : Setup) (w : ℕ) (p : Point) → is_dirty setup later w p ≡ is_dirty setup past w p
   dirty_kept setup w p = ap (λ (h : Hwnd). (not (eqb w 0) && eqb h.0 w) && unwrap_or (last_of (touches setup w p) past) false) (owner_kept setup p)

@@ -1,5 +1,5 @@
 -- What a refused entry leaves as it was: all that the definitions keep.
-use Rattle.std.specs.Prelude.{◌≡◌, ℕ, ◌∷◌}
+use Rattle.std.specs.Prelude.{◌≡◌, ℕ, Bool, ◌∷◌}
 use Rattle.win_num.specs.declared.shapes.Point.{Point}
 use Rattle.user_model.specs.declared.entry.Entry.{Entry}
 use Rattle.user_model.specs.declared.entry.Setup.{Setup}
@@ -19,6 +19,8 @@ use Rattle.user_model.specs.Stacks.{stack}
 use Rattle.user_model.specs.Sends.{SentMsg, sends, is_entered, answer, unfinished, was_called_back}
 use Rattle.user_model.specs.Ready.{ready}
 use Rattle.user_model.specs.Timers.{WinTimer, base, timers}
+use Rattle.user_model.specs.Groups.{attached}
+use Rattle.user_model.specs.Focus.{Slot, foreground, last_set}
 
 -- after the entry each value is the one before it
 pub record ChangesNothing (past : Past) (e : Entry) : Type 0 where
@@ -53,3 +55,6 @@ pub record ChangesNothing (past : Past) (e : Entry) : Type 0 where
   pub same_ready : (t : ℕ) → ready (e ∷ past) t ≡ ready past t
   pub same_timers : timers (e ∷ past) ≡ timers past
   pub same_bases : (x : WinTimer) → base (e ∷ past) x ≡ base past x
+  pub same_links : attached (e ∷ past) ≡ attached past
+  pub same_settings : (among : ℕ → Bool) (slot : Slot) → last_set among slot (e ∷ past) ≡ last_set among slot past
+  pub same_foreground : foreground (e ∷ past) ≡ foreground past

@@ -3,6 +3,7 @@
 #![tactic(auto)]
 
 mod colours;
+mod groups;
 mod machines;
 mod orders;
 mod painting;
@@ -14,6 +15,7 @@ mod times;
 mod words;
 
 pub use colours::{clips_follow, colours_follow, frames_stay};
+pub use groups::{groups_follow, settings_follow};
 pub use machines::{send_law, sum_law};
 pub use orders::{destruction_is_in_order, kin_are_destroyed_once, kin_go_before_what_is_above};
 pub use painting::{dirty_pixels_follow, painted_windows_are_live};

@@ -20,7 +20,7 @@ pub fn windows_live_until_dropped()
 {}
 
 /// A live window's number, thread, class, title, parent and owner are those that it was made with, as the law above says. How it
-/// looks, its style, extended style and place, is what the last entry that made, placed or showed it has made of how it looked
+/// looks, its style, extended style and place, is what the last entry that made, placed, showed or enabled it has made of how it looked
 /// before (Microsoft, SetWindowPos function).
 pub fn windows_are_as_last_set()
     ensures { (past : List Entry) (x : Window) → IsIn x (live past) → IsLastSaid (gives_look x.number) past (look past x.number) }

@@ -217,6 +217,7 @@ Says setup past who call answers.Stuck = ⊥
 Says setup past who call answers.Gone = IsUnmaking call
 Says setup past who call (answers.Value v) = Unit {0}
 Says setup past who call (answers.Window w) = Unit {0}
+Says setup past who call (answers.Was w) = Unit {0}
 Says setup past who call (answers.Posted k) = IsPost setup past who call k
 Says setup past who call (answers.Called proc_no) = IsCalled past who call proc_no
 Says setup past who call (answers.Inside s proc_no) = IsInside past who call s.0 proc_no

@@ -5,6 +5,9 @@ pub mod DeliveryReplies
 pub mod DirtyLaws
 pub mod Forests
 pub mod FrameLaws
+pub mod GroupLaws
+pub mod GroupReplies
+pub mod GroupThreads
 pub mod KeptWindows
 pub mod LegalLaws
 pub mod ListLaws

@@ -1,4 +1,4 @@
--- Where an entry leaves the live windows, how they look, and their siblings, it leaves the owners of pixels. A refused one leaves them all.
+-- Where an entry leaves the live windows, where they are shown, and their siblings, it leaves the owners of pixels. A refused one leaves them all.
 use Rattle.std.proofs.Common.{◌≡◌, ◌∙◌, ℕ, zero, suc, true, false, cond, eqb, List, [], ◌∷◌, length, Option, Some, None, refl, ap}
 use Rattle.std.specs.Prelude.{◌&&◌, pos, find, reverse}
 use Rattle.std.proofs.lemmas.Bool.{false≢true}
@@ -17,32 +17,33 @@ use Rattle.user_model.specs.Windows.{Window, has_flag, live, parent_in}
 use Rattle.user_model.specs.Looks.{Look, look, place_of, is_shown}
 use Rattle.user_model.specs.ZOrder.{hwnd, siblings}
 use Rattle.user_model.specs.Machines.{entry_of}
+use Rattle.user_model.proofs.WindowLooks.{SameShape}
 use Rattle.user_model.specs.Pixels.{box_of, corner_from, covers, deepest, highest, origin, origin_within, owner, point, screen, shifted}
 
-module _ (past : Past) (e : Entry) (lives : live (e ∷ past) ≡ live past) (looks : (w : ℕ) → look (e ∷ past) w ≡ look past w) (lists : (q : ℕ) → siblings (e ∷ past) q ≡ siblings past q) where
+module _ (past : Past) (e : Entry) (lives : live (e ∷ past) ≡ live past) (looks : (w : ℕ) → SameShape (look (e ∷ past) w) (look past w)) (lists : (q : ℕ) → siblings (e ∷ past) q ≡ siblings past q) where
   abbrev later : Past
   later = e ∷ past
 
   -- one step up
-  abbrev stepped : ℕ → ℕ → Point → Look → Point
-  stepped n w o l = elim (eqb w 0) [ true ↦ point (pos 0) (pos 0) | false ↦ corner_from o l.place ]
+  abbrev stepped : ℕ → ℕ → Point → Box → Point
+  stepped n w o b = elim (eqb w 0) [ true ↦ point (pos 0) (pos 0) | false ↦ corner_from o b ]
 
   origin_same : (n w : ℕ) → origin_within n later w ≡ origin_within n past w
   origin_same zero w = refl
   origin_same (suc n) w =
-      ap (λ (ws : List Window). stepped n w (origin_within n later (parent_in ws w)) (look later w)) lives
-      ∙ ap (λ (o : Point). stepped n w o (look later w)) (origin_same n (parent_in (live past) w))
-      ∙ ap (stepped n w (origin_within n past (parent_in (live past) w))) (looks w)
+      ap (λ (ws : List Window). stepped n w (origin_within n later (parent_in ws w)) (place_of later w)) lives
+      ∙ ap (λ (o : Point). stepped n w o (place_of later w)) (origin_same n (parent_in (live past) w))
+      ∙ ap (stepped n w (origin_within n past (parent_in (live past) w))) (looks w).place
 
   pub box_same : (w : ℕ) → box_of later w ≡ box_of past w
   box_same w =
       ap (λ (ws : List Window). shifted (origin later (parent_in ws w)) (place_of later w)) lives
       ∙ ap (λ (o : Point). shifted o (place_of later w)) (origin_same (parent_in (live past) w) (parent_in (live past) w))
-      ∙ ap (λ (l : Look). shifted (origin past (parent_in (live past) w)) l.place) (looks w)
+      ∙ ap (λ (b : Box). shifted (origin past (parent_in (live past) w)) b) (looks w).place
 
   covers_same : (p : Point) (w : Hwnd) → covers later p w ≡ covers past p w
   covers_same p w =
-      ap (λ (l : Look). has_flag l.style WS_VISIBLE && has_pixel (box_of later w.0) p) (looks w.0)
+      ap (λ s. s && has_pixel (box_of later w.0) p) (looks w.0).shown
       ∙ ap (λ (b : Box). is_shown past w.0 && has_pixel b p) (box_same w.0)
 
   found_same : (p : Point) (ws : List Hwnd) → find (covers later p) ws ≡ find (covers past p) ws
@@ -66,7 +67,7 @@ module _ (past : Past) (e : Entry) (lives : live (e ∷ past) ≡ live past) (lo
       (ap (λ (ws : List Window). deepest (length ws) later p (hwnd 0)) lives ∙ deepest_same (length (live past)) p (hwnd 0))
 
 owner_of_refused : (setup : Setup) (past : Past) (who : Thread) (call : Call) (a : Answer) (p : Point) → is_refusal a ≡ true → owner setup (entry_of who call a ∷ past) p ≡ owner setup past p
-owner_of_refused setup past who call (Refused code) p h = owner_same past (entry_of who call (Refused code)) refl (λ w. refl) (λ q. refl) setup p
+owner_of_refused setup past who call (Refused code) p h = owner_same past (entry_of who call (Refused code)) refl (λ w. record { shown = refl; place = refl }) (λ q. refl) setup p
 owner_of_refused setup past who call _ p h = absurd (false≢true h)
 
 -- a refused entry leaves the owners of pixels

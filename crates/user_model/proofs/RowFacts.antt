@@ -13,7 +13,7 @@ use Rattle.win_num.specs.declared.send.Frame.TheVariants.{Entered, Inside as Ins
 use Rattle.win_num.specs.declared.code.Code.{Code}
 use Rattle.win_num.specs.declared.code.Code.TheVariants.{Full}
 use Rattle.user_model.specs.declared.call.Call.{Call}
-use Rattle.user_model.specs.declared.call.Call.TheVariants.{Peek, Get, Post, PostThread, PostQuit, Dispatch, Send, SendTimeout, SendNotify, SendCallback, Await, Leave, Reply, InSend, Message, Register, Unregister, NewWindow, Doom, Unmake, Drop, Place, Show, Find, AwaitTitle, NextTop, WindowAt, IsWindow, Parent, Invalidate, Validate, UpdateRect, BeginPaint, EndPaint, Fill, Erase, Snap, SetTimer, KillTimer, EndThread, Clock, SleepUntil, Yield, Tick, Advance}
+use Rattle.user_model.specs.declared.call.Call.TheVariants.{Peek, Get, Post, PostThread, PostQuit, Dispatch, Send, SendTimeout, SendNotify, SendCallback, Await, Leave, Reply, InSend, Message, Register, Unregister, NewWindow, Doom, Unmake, Drop, Place, Show, Enable, Find, AwaitTitle, NextTop, WindowAt, IsWindow, Parent, SetFocus, SetActive, SetCapture, ReleaseCapture, GetFocus, GetActive, GetCapture, Attach, Detach, Invalidate, Validate, UpdateRect, BeginPaint, EndPaint, Fill, Erase, Snap, SetTimer, KillTimer, EndThread, Clock, SleepUntil, Yield, Tick, Advance}
 use Rattle.user_model.specs.declared.entry.Answer.{Answer}
 use Rattle.user_model.specs.declared.entry.Answer.TheVariants as answers
 use Rattle.user_model.specs.declared.entry.Setup.{Setup}
@@ -49,6 +49,7 @@ abbrev is_plain : Answer → Bool
 is_plain answers.Okay = true
 is_plain (answers.Value v) = true
 is_plain (answers.Window w) = true
+is_plain (answers.Was w) = true
 is_plain (answers.Update kind l t r b) = true
 is_plain (answers.Painting erases l t r b) = true
 is_plain (answers.Refused code) = not (is_not_now code)
@@ -105,6 +106,7 @@ module _ (setup : Setup) (past : Past) (who : ℕ) (call : Call) where
       by answers.Okay h = tt
       by (answers.Value v) h = tt
       by (answers.Window w) h = tt
+      by (answers.Was w) h = tt
       by (answers.Update kind l t r b) h = tt
       by (answers.Painting erases l t r b) h = tt
       by (answers.Refused code) h = inl (properly (is_not_now code) h)
@@ -300,12 +302,22 @@ row_said setup past who (Unmake w) = unmade setup past who w (window past w)
 row_said setup past who (Drop w) = plainly setup past who (Drop w) (row setup past who (Drop w)) (search (plain_behind, plain))
 row_said setup past who (Place w after l t r b flags) = plainly setup past who (Place w after l t r b flags) (row setup past who (Place w after l t r b flags)) (search (plain_behind, plain))
 row_said setup past who (Show w on) = plainly setup past who (Show w on) (row setup past who (Show w on)) (search (plain_behind, plain))
+row_said setup past who (Enable w on) = plainly setup past who (Enable w on) (row setup past who (Enable w on)) (search (plain_behind, plain))
 row_said setup past who (Find title) = record { says = tt }
 row_said setup past who (AwaitTitle title) = title_awaited setup past who title (titled past title)
 row_said setup past who (NextTop w) = record { says = tt }
 row_said setup past who (WindowAt x y) = record { says = tt }
 row_said setup past who (IsWindow w) = record { says = tt }
 row_said setup past who (Parent w) = plainly setup past who (Parent w) (row setup past who (Parent w)) (plain_parent (window past w))
+row_said setup past who (SetFocus w) = plainly setup past who (SetFocus w) (row setup past who (SetFocus w)) (search (plain_behind, plain))
+row_said setup past who (SetActive w) = plainly setup past who (SetActive w) (row setup past who (SetActive w)) (search (plain_behind, plain))
+row_said setup past who (SetCapture w) = plainly setup past who (SetCapture w) (row setup past who (SetCapture w)) (search (plain_behind, plain))
+row_said setup past who ReleaseCapture = record { says = tt }
+row_said setup past who GetFocus = record { says = tt }
+row_said setup past who GetActive = record { says = tt }
+row_said setup past who GetCapture = record { says = tt }
+row_said setup past who (Attach t u) = plainly setup past who (Attach t u) (row setup past who (Attach t u)) (search (plain_behind, plain))
+row_said setup past who (Detach t u) = plainly setup past who (Detach t u) (row setup past who (Detach t u)) (search (plain_behind, plain))
 row_said setup past who (Invalidate w l t r b erase) = plainly setup past who (Invalidate w l t r b erase) (row setup past who (Invalidate w l t r b erase)) (search (plain_behind, plain))
 row_said setup past who (Validate w l t r b) = plainly setup past who (Validate w l t r b) (row setup past who (Validate w l t r b)) (search (plain_behind, plain))
 row_said setup past who (UpdateRect w) = plainly setup past who (UpdateRect w) (row setup past who (UpdateRect w)) (search (plain_behind, plain))

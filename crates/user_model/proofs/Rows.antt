@@ -11,6 +11,7 @@ pub mod PostsInOrder
 pub mod Refusals
 pub mod SendBack
 pub mod SenderEnds
+pub mod SharedFocus
 pub mod ThreeDeep
 pub mod TimedOutInside
 pub mod WindowLost

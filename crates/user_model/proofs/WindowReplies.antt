@@ -187,3 +187,11 @@ show_told setup past who w on n e =
     let number = not_refused (ltb 1 on) invalid_parameter _ (answers.Value n) refl by.is_row in
     let live = not_refused (not (is_live past w)) invalid_window_handle _ (answers.Value n) refl number.1 in
     not_false (is_live past w) live.0
+
+-- a live window was enabled or disabled
+pub enable_told : (setup : Setup) (past : Past) (who w on n : ℕ) → reply setup past who (calls.Enable w on) ≡ answers.Value n → is_live past w ≡ true
+enable_told setup past who w on n e =
+    let by = by_call setup past who (calls.Enable w on) (answers.Value n) e refl refl in
+    let number = not_refused (ltb 1 on) invalid_parameter _ (answers.Value n) refl by.is_row in
+    let live = not_refused (not (is_live past w)) invalid_window_handle _ (answers.Value n) refl number.1 in
+    not_false (is_live past w) live.0

@@ -6,7 +6,7 @@ use Rattle.win_num.specs.declared.send.Kind.{Kind}
 use Rattle.win_num.specs.declared.send.Kind.TheVariants.{Wait, Timeout as WithTimeout, Notify, Callback as WithCallback}
 use Rattle.win_num.specs.declared.names.TheConstants.{PM_REMOVE}
 use Rattle.user_model.specs.declared.call.Call.{Call}
-use Rattle.user_model.specs.declared.call.Call.TheVariants.{Post, PostThread, Peek, Get, PostQuit, Dispatch, Send, SendTimeout, SendNotify, SendCallback, Await, Leave, Reply, InSend, Message, Register, Unregister, NewWindow, Doom, Unmake, Drop, Place, Show, Find, AwaitTitle, NextTop, WindowAt, IsWindow, Parent, Invalidate, Validate, UpdateRect, BeginPaint, EndPaint, Fill, Erase, Snap, SetTimer, KillTimer, EndThread, Clock, SleepUntil, Yield, Tick, Advance}
+use Rattle.user_model.specs.declared.call.Call.TheVariants.{Post, PostThread, Peek, Get, PostQuit, Dispatch, Send, SendTimeout, SendNotify, SendCallback, Await, Leave, Reply, InSend, Message, Register, Unregister, NewWindow, Doom, Unmake, Drop, Place, Show, Enable, Find, AwaitTitle, NextTop, WindowAt, IsWindow, Parent, SetFocus, SetActive, SetCapture, ReleaseCapture, GetFocus, GetActive, GetCapture, Attach, Detach, Invalidate, Validate, UpdateRect, BeginPaint, EndPaint, Fill, Erase, Snap, SetTimer, KillTimer, EndThread, Clock, SleepUntil, Yield, Tick, Advance}
 
 -- a message that a call posts: to the thread of a window, or for window 0 to the caller; or to a thread, without a window
 pub data Posting : Type 0 where
@@ -28,7 +28,7 @@ parts w m p q kind = record { hwnd = w; message = m; wparam = p; lparam = q; kin
 -- what a call does: it retrieves what a filter lets pass, and may remove it; posts a message, or quit with its code; sends;
 -- waits for a send's answer; leaves a procedure, or replies, with a result; waits for a time; makes a window of a class, with a
 -- title, parent or owner, style, extended style and edges; puts a window among its siblings and at a place, as flags say; shows
--- or hides a window; or what definitions of its own say
+-- or hides a window; enables or disables one; or what definitions of its own say
 pub data Deed : Type 0 where
   retrieving : (pass : Filter) (removes : Bool) → Deed
   posting : Posting → Deed
@@ -41,6 +41,7 @@ pub data Deed : Type 0 where
   making : (class title parent style ex : ℕ) (l t r b : ℤ) → Deed
   placing : (w : ℕ) (after l t r b : ℤ) (flags : ℕ) → Deed
   showing : (w on : ℕ) → Deed
+  enabling : (w on : ℕ) → Deed
   doing_else : Deed
 
 -- a get removes what it retrieves, and so does a peek with bit 0 of its flags
@@ -61,6 +62,7 @@ deed (SleepUntil time) = sleeping time
 deed (NewWindow class title parent style ex l t r b) = making class title parent style ex l t r b
 deed (Place w after l t r b flags) = placing w after l t r b flags
 deed (Show w on) = showing w on
+deed (Enable w on) = enabling w on
 deed (Dispatch w number wparam lparam) = doing_else
 deed InSend = doing_else
 deed (Message name) = doing_else
@@ -75,6 +77,15 @@ deed (NextTop w) = doing_else
 deed (WindowAt x y) = doing_else
 deed (IsWindow w) = doing_else
 deed (Parent w) = doing_else
+deed (SetFocus w) = doing_else
+deed (SetActive w) = doing_else
+deed (SetCapture w) = doing_else
+deed ReleaseCapture = doing_else
+deed GetFocus = doing_else
+deed GetActive = doing_else
+deed GetCapture = doing_else
+deed (Attach t u) = doing_else
+deed (Detach t u) = doing_else
 deed (Invalidate w l t r b erase) = doing_else
 deed (Validate w l t r b) = doing_else
 deed (UpdateRect w) = doing_else

@@ -5,6 +5,8 @@ pub mod Deeds
 pub mod Destruction
 pub mod Dirty
 pub mod Filters
+pub mod Focus
+pub mod Groups
 pub mod Idle
 pub mod Legal
 pub mod Looks
@@ -21,6 +23,7 @@ pub mod Replies
 pub mod ReplyClock
 pub mod ReplyDelivery
 pub mod ReplyDrawing
+pub mod ReplyGroups
 pub mod ReplySends
 pub mod ReplyWindows
 pub mod Retrievals

@@ -5,7 +5,7 @@ use Rattle.win_num.specs.declared.names.TheConstants.{SWP_HIDEWINDOW, SWP_NOMOVE
 use Rattle.user_model.specs.declared.entry.Answer.{Answer}
 use Rattle.user_model.specs.declared.entry.Answer.TheVariants.{Value, Window as WindowMade}
 use Rattle.user_model.specs.Past.{Past, is_refused}
-use Rattle.user_model.specs.Deeds.{Deed, making, placing, showing, deed}
+use Rattle.user_model.specs.Deeds.{Deed, making, placing, showing, enabling, deed}
 use Rattle.user_model.specs.Windows.{has_flag}
 
 -- style and extended style, and the place from the parent's or the screen's left top corner
@@ -26,6 +26,15 @@ hidden_styles = WS_CHILD + WS_POPUP + WS_DISABLED
 abbrev pub shown : Bool → ℕ → ℕ
 shown true style = bit_or style WS_VISIBLE
 shown false style = bit_and style hidden_styles
+
+-- the styles but WS_DISABLED
+abbrev pub enabled_styles : ℕ
+enabled_styles = WS_CHILD + WS_POPUP + WS_VISIBLE
+
+-- a style without WS_DISABLED, or with
+abbrev pub enabled : Bool → ℕ → ℕ
+enabled true style = bit_and style enabled_styles
+enabled false style = bit_or style WS_DISABLED
 
 -- a style, where flags may show or hide the window
 abbrev pub styled_by : ℕ → ℕ → ℕ
@@ -68,11 +77,16 @@ set_look v w _ new old = old
 abbrev pub shown_look : Bool → Look → Look
 shown_look on old = look_of (shown on old.style) old.ex old.place
 
+-- a look without WS_DISABLED, or with
+abbrev pub enabled_look : Bool → Look → Look
+enabled_look on old = look_of (enabled on old.style) old.ex old.place
+
 -- what an answered call makes of the look of w
 abbrev pub relooked : ℕ → Answer → Deed → Look → Look
 relooked w a (making class title parent style ex l t r b) old = made_look w a (look_of style ex (box l t r b)) old
 relooked w a (placing v after l t r b flags) old = set_look v w a (placed flags after (box l t r b) old) old
 relooked w a (showing v on) old = set_look v w a (shown_look (on == 1) old) old
+relooked w a (enabling v on) old = set_look v w a (enabled_look (on == 1) old) old
 relooked w a _ old = old
 
 -- the look before a window is made
@@ -99,3 +113,7 @@ place_of past w = (look past w).place
 -- whether w has WS_VISIBLE
 abbrev pub is_shown : Past → ℕ → Bool
 is_shown past w = has_flag (style_of past w) WS_VISIBLE
+
+-- whether w has WS_DISABLED
+abbrev pub is_disabled : Past → ℕ → Bool
+is_disabled past w = has_flag (style_of past w) WS_DISABLED

@@ -9,7 +9,7 @@ use Rattle.user_model.specs.declared.entry.Answer.{Answer}
 use Rattle.user_model.specs.declared.entry.Answer.TheVariants.{Okay, Wait, Gone, Value, Window as WindowTold, Tell, Last}
 use Rattle.user_model.specs.Past.{Past}
 use Rattle.user_model.specs.Windows.{Window, has_flag, live, window, is_live, thread_of, parent_in, windows_made, up, next_top}
-use Rattle.user_model.specs.Looks.{Look, look, placed, is_shown}
+use Rattle.user_model.specs.Looks.{Look, look, placed, is_shown, is_disabled}
 use Rattle.user_model.specs.ZOrder.{hwnd, titled}
 use Rattle.user_model.specs.Pixels.{point, owner}
 use Rattle.user_model.specs.Destruction.{Step, told, ended, is_marked, was_given, next_step}
@@ -135,6 +135,10 @@ place_reply past w after l t r b flags = refuse (is_no_rect l t r b || is_no_pla
 -- a window is shown or hidden: 1 where it was shown, else 0
 abbrev pub show_reply : Past → ℕ → ℕ → Answer
 show_reply past w on = refuse (nat_lt 1 on) invalid_parameter (if_live past w (Value (if is_shown past w then 1 else 0)))
+
+-- a window is enabled or disabled: 1 where it was disabled, else 0
+abbrev pub enable_reply : Past → ℕ → ℕ → Answer
+enable_reply past w on = refuse (nat_lt 1 on) invalid_parameter (if_live past w (Value (if is_disabled past w then 1 else 0)))
 
 -- a window or none as an answer
 abbrev pub window_told : ℕ → Answer

@@ -73,6 +73,8 @@ pub enum Call {
     Place(u64, i64, i64, i64, i64, i64, u64),
     /// Shows a window (1) or hides it (0) (Microsoft, ShowWindow function).
     Show(u64, u64),
+    /// Lets a window take part in input (1) or not (0) (Microsoft, EnableWindow function).
+    Enable(u64, u64),
     /// The highest top-level window of this title, which is a place in the script's list of names
     /// (Microsoft, FindWindow function).
     Find(u32),
@@ -87,6 +89,27 @@ pub enum Call {
     IsWindow(u64),
     /// The window's parent, or its owner (Microsoft, GetParent function).
     Parent(u64),
+    /// Sets the window that keys go to, for the caller and those attached to it, or for 0 takes the focus away (Microsoft,
+    /// SetFocus function).
+    SetFocus(u64),
+    /// Makes a top-level window the active one, for the caller and those attached to it, or for 0 none; a window makes the caller
+    /// the foreground thread (Microsoft, SetActiveWindow function).
+    SetActive(u64),
+    /// Sets the own window that the mouse goes to wherever it is (Microsoft, SetCapture function).
+    SetCapture(u64),
+    /// Takes the capture away (Microsoft, ReleaseCapture function).
+    ReleaseCapture,
+    /// The window that keys go to (Microsoft, GetFocus function).
+    GetFocus,
+    /// The active window (Microsoft, GetActiveWindow function).
+    GetActive,
+    /// The window that the mouse goes to wherever it is (Microsoft, GetCapture function).
+    GetCapture,
+    /// Attaches two threads to each other, so that they and those attached to them share focus, active window and capture (Microsoft,
+    /// AttachThreadInput function).
+    Attach(u64, u64),
+    /// Undoes an attachment of two threads, made in either order (Microsoft, AttachThreadInput function).
+    Detach(u64, u64),
     /// Makes the pixels of a rectangle dirty that the window owns: the window, the left, top, right and bottom edge in
     /// pixels from its own left top corner, and 1 where its background is to be erased too, else 0 (Microsoft,
     /// InvalidateRect function).

@@ -37,6 +37,8 @@ pub enum Answer {
     Value(u64),
     /// A window, or 0 where there is none.
     Window(Hwnd),
+    /// The window that there was before the call set another, or 0 where there was none.
+    Was(Hwnd),
     /// The post with this number was made; posts are counted from 1 over all threads.
     Posted(u32),
     /// The procedure of this number runs for a dispatched message.

@@ -9,7 +9,7 @@ use mir.Syntax.{w32, w64}
 use Rattle.win_num.specs.PixelSets.{Box, box, is_bad_rect, same_int}
 use Rattle.win_num.specs.Rects.{box_in}
 use Rattle.win_num.specs.declared.shapes.Rect.{Rect}
-use Rattle.win_num.specs.declared.names.TheConstants.{SWP_NOMOVE, SWP_NOSIZE, WS_VISIBLE}
+use Rattle.win_num.specs.declared.names.TheConstants.{SWP_NOMOVE, SWP_NOSIZE, WS_DISABLED, WS_VISIBLE}
 use Rattle.win_num.specs.declared.message.Thread.{Thread}
 use Rattle.win_rows.specs.declared.row.WindowRow.{WindowRow}
 use Rattle.win_rows.specs.declared.window.Window.{Window as KeptWindow}
@@ -24,16 +24,16 @@ use Rattle.user_model.specs.Past.{Past}
 use Rattle.user_model.specs.Windows.{has_flag, live, is_live, numbers_made}
 use Rattle.user_model.specs.ReplyWindows.{changes_told}
 use Rattle.user_model.specs.Destruction.{Step, told, ended, is_marked, was_given}
-use Rattle.user_model.specs.Looks.{Look, look, is_shown, look_of, corner_and_size, moved_by, placed, shown_look}
+use Rattle.user_model.specs.Looks.{Look, look, is_disabled, is_shown, look_of, corner_and_size, moved_by, placed, shown_look, enabled_look}
 use Rattle.user_model.specs.Refusals.{is_no_rect, is_outside}
 use Rattle.user_model.specs.Idle.{reply}
 use Rattle.user_model.specs.Machines.{entry_of}
 use Rattle.user_model.proofs.ListLaws.{all_found}
 use Rattle.user_model.proofs.WindowLaws.{live-same, is_marked-same, was_given-same}
-use Rattle.user_model.proofs.WindowReplies.{place_told, show_told}
+use Rattle.user_model.proofs.WindowReplies.{place_told, show_told, enable_told}
 use Rattle.window_state.specs.Trees.{as_made, look_in, HasLook, HasMarks, IsTreeAt}
 use Rattle.window_state.specs.Effects.{IsRelooked}
-use Rattle.window_state.specs.Placings.{changes_in, shown_in}
+use Rattle.window_state.specs.Placings.{changes_in, disabled_in, shown_in}
 use Rattle.window_state.specs.Needs.{FitsLooking, Fitting}
 use Rattle.window_state.proofs.TreeFacts.{found_passes, is_live_at}
 use Rattle.window_state.proofs.TreeLaws.{eqb_swap, marks_same, remarked}
@@ -149,6 +149,12 @@ tree_show past t new who w on n at is =
     let e = entry_of who (calls.Show w on) (answers.Value n) in
     tree_relooked past e t new w (shown_look (eqb on 1)) at is refl (live-same e past refl (λ x. refl)) (λ v. is_marked-same e past v refl) (λ i. was_given-same e past i refl) (λ v. refl) (λ old h. h)
 
+-- a window is enabled or disabled
+pub tree_enable : (past : Past) (t new : Windows) (who : Thread) (w on n : ℕ) → IsTreeAt past t → IsRelooked w (enabled_look (eqb on 1)) t new → IsTreeAt (entry_of who (calls.Enable w on) (answers.Value n) ∷ past) new
+tree_enable past t new who w on n at is =
+    let e = entry_of who (calls.Enable w on) (answers.Value n) in
+    tree_relooked past e t new w (enabled_look (eqb on 1)) at is refl (live-same e past refl (λ x. refl)) (λ v. is_marked-same e past v refl) (λ i. was_given-same e past i refl) (λ v. refl) (λ old h. h)
+
 -- ---- what the code makes
 
 -- the edges of a rectangle of a window
@@ -253,6 +259,7 @@ fits_looking setup past t who n (calls.Place w after l top r b flags) at right =
     let told = place_told setup past who w after l top r b flags n right in
     (sym (is_live_at past t at w) ∙ told.lives, told.good_edges, places_fit past t w at)
 fits_looking setup past t who n (calls.Show w on) at right = sym (is_live_at past t at w) ∙ show_told setup past who w on n right
+fits_looking setup past t who n (calls.Enable w on) at right = sym (is_live_at past t at w) ∙ enable_told setup past who w on n right
 fits_looking setup past t who n _ at right = tt
 
 -- ---- what the table tells of looks
@@ -269,6 +276,19 @@ shown_at past t w at = pick (kept.window_of t.live w) refl
         ap (λ (o : Option KeptWindow). elim o as (λ p. Bool) [ None ↦ false | Some x ↦ has_flag x.row.style WS_VISIBLE ]) e
         ∙ (ap (λ (z : Look). has_flag z.style WS_VISIBLE) (look_found past t at w x e)
         ∙ ap (λ b. b && is_shown past w) (sym (is_live_at past t at w ∙ ap (λ (o : Option KeptWindow). is_some o) e)))
+
+-- whether a window has WS_DISABLED
+pub disabled_at : (past : Past) (t : Windows) (w : ℕ) → IsTreeAt past t → disabled_in t.live w ≡ (is_live past w && is_disabled past w)
+disabled_at past t w at = pick (kept.window_of t.live w) refl
+  where
+    pick : (o : Option KeptWindow) → kept.window_of t.live w ≡ o → disabled_in t.live w ≡ (is_live past w && is_disabled past w)
+    pick None e =
+        ap (λ (o : Option KeptWindow). elim o as (λ p. Bool) [ None ↦ false | Some x ↦ has_flag x.row.style WS_DISABLED ]) e
+        ∙ ap (λ b. b && is_disabled past w) (sym (is_live_at past t at w ∙ ap (λ (o : Option KeptWindow). is_some o) e))
+    pick (Some x) e =
+        ap (λ (o : Option KeptWindow). elim o as (λ p. Bool) [ None ↦ false | Some x ↦ has_flag x.row.style WS_DISABLED ]) e
+        ∙ (ap (λ (z : Look). has_flag z.style WS_DISABLED) (look_found past t at w x e)
+        ∙ ap (λ b. b && is_disabled past w) (sym (is_live_at past t at w ∙ ap (λ (o : Option KeptWindow). is_some o) e)))
 
 -- what a placing would change
 pub changes_at : (past : Past) (t : Windows) (w : ℕ) (flags : ℕ) (after : ℤ) (new : Box) → IsTreeAt past t → kept.is_live t.live w ≡ true → changes_in t.live w flags after new ≡ changes_told (look past w) (placed flags after new (look past w))

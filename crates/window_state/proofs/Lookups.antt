@@ -4,11 +4,11 @@ use Rattle.std.specs.Prelude.{is_some, option_map, unwrap_or}
 use Rattle.win_rows.specs.declared.window.Window.{Window}
 use Rattle.win_rows.specs.declared.row.WindowRow.{WindowRow}
 use Rattle.win_num.specs.declared.message.Hwnd.{Hwnd}
-use Rattle.win_num.specs.declared.names.TheConstants.{WS_VISIBLE}
+use Rattle.win_num.specs.declared.names.TheConstants.{WS_DISABLED, WS_VISIBLE}
 use Rattle.win_rows.specs.Windows.{nobody, number_of, window_of, is_marked, is_ended}
 use Rattle.win_tree.specs.Kin.{parent_of}
 use Rattle.user_model.specs.Windows.{has_flag}
-use Rattle.window_state.specs.Placings.{shown_in}
+use Rattle.window_state.specs.Placings.{disabled_in, shown_in}
 use Rattle.window_state.specs.Trees.{thread_in}
 use Rattle.window_state.specs.Steps.{up_of}
 
@@ -39,6 +39,9 @@ none_parented ws w e = sym (ap (λ (o : Option Window). (elim o as (λ p. Hwnd) 
 
 pub none_shown : (ws : List Window) (w : ℕ) → None ≡ option_map number_of (window_of ws w) → false ≡ shown_in ws w
 none_shown ws w e = sym (ap (λ (o : Option Window). elim o as (λ p. Bool) [ None ↦ false | Some x ↦ has_flag x.row.style WS_VISIBLE ]) (none_found ws w e))
+
+pub none_disabled : (ws : List Window) (w : ℕ) → None ≡ option_map number_of (window_of ws w) → false ≡ disabled_in ws w
+none_disabled ws w e = sym (ap (λ (o : Option Window). elim o as (λ p. Bool) [ None ↦ false | Some x ↦ has_flag x.row.style WS_DISABLED ]) (none_found ws w e))
 
 -- what stands above the window of a row
 pub row_up : (o : Option Window) (row : WindowRow) → Some row ≡ option_map (λ (x : Window). x.row) o → Some (up_of row).0 ≡ option_map (λ (x : Window). (up_of x.row).0) o

@@ -29,7 +29,7 @@ use Rattle.user_model.specs.Places.{ends_thread}
 use Rattle.user_model.specs.Deeds.{deed}
 use Rattle.user_model.specs.Idle.{reply}
 use Rattle.user_model.specs.Legal.{IsLawful}
-use Rattle.user_model.specs.Looks.{Look, look, look_of, made_look, set_look, placed, shown_look, relooked}
+use Rattle.user_model.specs.Looks.{Look, look, look_of, made_look, set_look, placed, shown_look, enabled_look, relooked}
 use Rattle.user_model.specs.Machines.{entry_of}
 use Rattle.user_model.specs.Windows.{Window, drops, drops_kin, find_window, has_flag, is_live, live, made_by, windows_made}
 use Rattle.user_model.specs.ZOrder.{after_of, hwnd, is_pinned, rearranged, siblings, standings, still_live}
@@ -84,6 +84,12 @@ flag_stays w (calls.Show v on) (answers.Value n) old h = by (eqb v w)
     by true = refl
     by false = refl
 flag_stays w (calls.Show v on) _ old h = refl
+flag_stays w (calls.Enable v on) (answers.Value n) old h = by (eqb v w)
+  where
+    by : (c : Bool) → (cond c (enabled_look (eqb on 1) old) old).ex ≡ old.ex
+    by true = refl
+    by false = refl
+flag_stays w (calls.Enable v on) _ old h = refl
 flag_stays w _ a old h = refl
 
 -- where all siblings are live still, a call that doesn't change the order leaves them

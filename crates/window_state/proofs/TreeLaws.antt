@@ -85,6 +85,7 @@ changes_tree (calls.Doom w) answers.Okay = true
 changes_tree (calls.Drop w) answers.Okay = true
 changes_tree (calls.Place w after l t r b flags) (answers.Value v) = true
 changes_tree (calls.Show w on) (answers.Value v) = true
+changes_tree (calls.Enable w on) (answers.Value v) = true
 changes_tree _ _ = false
 
 gives_none : (call : Call) (a : Answer) (i : Step) → changes_tree call a ≡ false → gives a i ≡ false
@@ -108,6 +109,8 @@ looks_none (calls.Place w after l t r b flags) (answers.Value v) h = absurd (tru
 looks_none (calls.Place w after l t r b flags) _ h = refl
 looks_none (calls.Show w on) (answers.Value v) h = absurd (true≢false h)
 looks_none (calls.Show w on) _ h = refl
+looks_none (calls.Enable w on) (answers.Value v) h = absurd (true≢false h)
+looks_none (calls.Enable w on) _ h = refl
 looks_none _ a h = refl
 
 okay_changes : (v : ℕ) (a : Answer) → a ≡ answers.Okay → changes_tree (calls.Doom v) a ≡ true

@@ -24,9 +24,9 @@ use Rattle.user_model.proofs.DeliveryReplies.{end_told}
 use Rattle.user_model.proofs.WindowReplies.{IsUnmade}
 use Rattle.user_model.proofs.StepReplies.{step_told}
 use Rattle.window_state.specs.Trees.{IsTreeAt}
-use Rattle.user_model.specs.Looks.{placed, shown_look}
+use Rattle.user_model.specs.Looks.{placed, shown_look, enabled_look}
 use Rattle.window_state.specs.Effects.{IsAddedBy, IsAffected, IsRelooked, affected_tree}
-use Rattle.window_state.proofs.LookSteps.{tree_place, tree_show}
+use Rattle.window_state.proofs.LookSteps.{tree_place, tree_show, tree_enable}
 use Rattle.window_state.proofs.TreeFacts.{as_answer, unmade_is}
 use Rattle.window_state.proofs.TreeLaws.{tree_rest, tree_doom, tree_drop, tree_tell, tree_last, tree_end}
 use Rattle.window_state.proofs.NewWindows.{tree_new}
@@ -61,6 +61,7 @@ ended setup past t who w v at u =
 abbrev is_looking : Answer → Call → Bool
 is_looking (answers.Value n) (calls.Place w after l top r b flags) = true
 is_looking (answers.Value n) (calls.Show w on) = true
+is_looking (answers.Value n) (calls.Enable w on) = true
 is_looking _ _ = false
 
 follows : (setup : Setup) (past : Past) (t mid : Windows) (who : Thread) (a : Answer) (call : Call) → IsLawful setup past → IsTreeAt past t → a ≡ reply setup past who.0 call → IsAddedBy who.0 a call t mid → is_looking a call ≡ false → Follows past who mid a call
@@ -89,6 +90,7 @@ follows setup past t mid who answers.Okay call lawful at right grown keeps =
     subst (IsTreeAt (entry_of who call answers.Okay ∷ past)) (sym grown) (tree_rest setup past (entry_of who call answers.Okay) t at right refl)
 follows setup past t mid who (answers.Value n) (calls.Place w after l top r b flags) lawful at right grown keeps = absurd (true≢false keeps)
 follows setup past t mid who (answers.Value n) (calls.Show w on) lawful at right grown keeps = absurd (true≢false keeps)
+follows setup past t mid who (answers.Value n) (calls.Enable w on) lawful at right grown keeps = absurd (true≢false keeps)
 follows setup past t mid who a call lawful at right grown keeps =
     subst (IsTreeAt (entry_of who call a ∷ past)) (sym grown) (tree_rest setup past (entry_of who call a) t at right refl)
 
@@ -97,6 +99,8 @@ affected setup past t mid new who (answers.Value n) (calls.Place w after l top r
     tree_place setup past t new who w after l top r b flags n at (sym right) (subst (λ (m : Windows). IsRelooked w (placed flags after (box l top r b)) m new) grown is)
 affected setup past t mid new who (answers.Value n) (calls.Show w on) lawful at right grown is =
     tree_show past t new who w on n at (subst (λ (m : Windows). IsRelooked w (shown_look (eqb on 1)) m new) grown is)
+affected setup past t mid new who (answers.Value n) (calls.Enable w on) lawful at right grown is =
+    tree_enable past t new who w on n at (subst (λ (m : Windows). IsRelooked w (enabled_look (eqb on 1)) m new) grown is)
 affected setup past t mid new who (answers.Value n) call lawful at right grown is =
     subst (IsTreeAt (entry_of who call (answers.Value n) ∷ past)) (sym is) (follows setup past t mid who (answers.Value n) call lawful at right grown refl)
 affected setup past t mid new who a call lawful at right grown is =

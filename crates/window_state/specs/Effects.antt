@@ -11,11 +11,11 @@ use Rattle.win_rows.specs.Windows.{Windows, window_of, set_if}
 use Rattle.win_tree.specs.Kin.{with_window, doomed, dropped, without_thread}
 use Rattle.win_rows.specs.Destruction.{unmade, given}
 use Rattle.user_model.specs.declared.call.Call.{Call}
-use Rattle.user_model.specs.declared.call.Call.TheVariants.{Register, Message, Unregister, NewWindow, Doom, Unmake, Drop, Place, Show}
+use Rattle.user_model.specs.declared.call.Call.TheVariants.{Register, Message, Unregister, NewWindow, Doom, Unmake, Drop, Place, Show, Enable}
 use Rattle.user_model.specs.declared.entry.Answer.{Answer}
 use Rattle.user_model.specs.declared.entry.Answer.TheVariants.{Okay, Ended, Value, Window, Tell, Last}
 use Rattle.user_model.specs.Windows.{has_flag}
-use Rattle.user_model.specs.Looks.{Look, placed, shown_look}
+use Rattle.user_model.specs.Looks.{Look, placed, shown_look, enabled_look}
 use Rattle.window_state.specs.Trees.{look_in}
 
 -- ---- classes and names of messages
@@ -94,6 +94,7 @@ pub record IsRelooked (w : ℕ) (f : Look → Look) (old new : Windows) : Type 0
 abbrev pub IsLookedAt : Call → Windows → Windows → Type 0
 IsLookedAt (Place w after l t r b flags) old new = IsRelooked w (placed flags after (box l t r b)) old new
 IsLookedAt (Show w on) old new = IsRelooked w (shown_look (on == 1)) old new
+IsLookedAt (Enable w on) old new = IsRelooked w (enabled_look (on == 1)) old new
 IsLookedAt _ old new = new ≡ old
 
 -- after an answer: a value may come with another look, and the others are as said above

@@ -9,7 +9,7 @@ use Rattle.win_rows.specs.declared.window.Window.{Window}
 use Rattle.win_rows.specs.Windows.{Windows, is_live, window_of}
 use Rattle.win_tree.specs.Kin.{refusal}
 use Rattle.user_model.specs.declared.call.Call.{Call}
-use Rattle.user_model.specs.declared.call.Call.TheVariants.{Register, Message, NewWindow, Unmake, Place, Show}
+use Rattle.user_model.specs.declared.call.Call.TheVariants.{Register, Message, NewWindow, Unmake, Place, Show, Enable}
 use Rattle.user_model.specs.Refusals.{is_no_rect}
 use Rattle.window_state.specs.Effects.{IsRowOf}
 
@@ -41,8 +41,9 @@ FitsUnmaking tree _ = Unit {0}
 abbrev pub Fitting : List Window → ℕ → Type 0
 Fitting ws w = (x : Window) → window_of ws w ≡ Some x → is_no_rect x.row.place.l x.row.place.t x.row.place.r x.row.place.b ≡ false
 
--- the window that is put at a place or shown is live, and its place is a rectangle of a window
+-- the window that is put at a place, shown or enabled is live, and its place is a rectangle of a window
 abbrev pub FitsLooking : Windows → Call → Type 0
 FitsLooking tree (Place w after l t r b flags) = (is_live tree.live w ≡ true) × (is_no_rect l t r b ≡ false) × Fitting tree.live w
 FitsLooking tree (Show w on) = is_live tree.live w ≡ true
+FitsLooking tree (Enable w on) = is_live tree.live w ≡ true
 FitsLooking tree _ = Unit {0}

@@ -1,6 +1,6 @@
 -- Placings and looks of the code as the definitions have them.
 use Rattle.std.specs.Prelude.{ℕ, ℤ, Bool, false, List, Some, None}
-use Rattle.win_num.specs.declared.names.TheConstants.{WS_VISIBLE}
+use Rattle.win_num.specs.declared.names.TheConstants.{WS_DISABLED, WS_VISIBLE}
 use Rattle.win_rows.specs.declared.window.Window.{Window}
 use Rattle.win_rows.specs.Windows.{window_of}
 use Rattle.win_num.specs.PixelSets.{Box, box}
@@ -23,6 +23,10 @@ look_told x = look_of x.style x.ex (box_in x.place)
 -- whether a window of the table has WS_VISIBLE
 abbrev pub shown_in : List Window → ℕ → Bool
 shown_in ws w = elim (window_of ws w) [ None ↦ false | Some x ↦ has_flag x.row.style WS_VISIBLE ]
+
+-- whether a window of the table has WS_DISABLED
+abbrev pub disabled_in : List Window → ℕ → Bool
+disabled_in ws w = elim (window_of ws w) [ None ↦ false | Some x ↦ has_flag x.row.style WS_DISABLED ]
 
 -- what a placing would change of a window of the table
 abbrev pub changes_in : List Window → ℕ → ℕ → ℤ → Box → ℕ

@@ -1,19 +1,19 @@
-//! How windows look: what the calls that place and show a window make of its style, extended style and place.
+//! How windows look: what the calls that place, show and enable a window make of its style, extended style and place.
 
 ghost use Rattle.std.specs.Prelude.{◌≡◌, ◌&&◌, FitsSigned, not, ◌+ℤ◌, ◌-ℤ◌, pos, true, false, int_lt, option_map, Some};
 ghost use Rattle.std.specs.Int.{w32};
 ghost use Rattle.win_num.specs.PixelSets.{box, same_int};
 ghost use Rattle.win_num.specs.Rects.{box_in};
 ghost use Rattle.win_rows.specs.Windows.{is_live, window_of};
-ghost use Rattle.user_model.specs.Looks.{corner_and_size, moved_by, pinned_by, placed, shown, shown_look, styled_by};
+ghost use Rattle.user_model.specs.Looks.{corner_and_size, enabled, enabled_look, moved_by, pinned_by, placed, shown, shown_look, styled_by};
 ghost use Rattle.user_model.specs.Refusals.{is_no_rect, is_outside};
 ghost use Rattle.user_model.specs.Windows.{has_flag};
 ghost use Rattle.window_state.specs.Trees.{look_in};
 ghost use Rattle.window_state.specs.Effects.{IsLookedAt, IsRelooked};
 ghost use Rattle.window_state.specs.Needs.{FitsLooking, Fitting};
-ghost use Rattle.window_state.specs.Placings.{box_of, changes_in, look_told, shown_in};
+ghost use Rattle.window_state.specs.Placings.{box_of, changes_in, disabled_in, look_told, shown_in};
 ghost use Rattle.user_model.specs.ReplyWindows.{bit_if, changes_told, differ, has_moved, is_resized};
-ghost use Rattle.win_num.specs.declared.names.TheConstants.{WS_VISIBLE};
+ghost use Rattle.win_num.specs.declared.names.TheConstants.{WS_DISABLED, WS_VISIBLE};
 
 use crate::finding::window_or_none;
 use crate::tables::place_of;
@@ -24,8 +24,14 @@ use win_tree::{Tree, WindowRow};
 /// The styles but WS_VISIBLE.
 const HIDDEN_STYLES: u32 = (names::WS_CHILD + names::WS_POPUP + names::WS_DISABLED) as u32;
 
+/// The styles but WS_DISABLED.
+const ENABLED_STYLES: u32 = (names::WS_CHILD + names::WS_POPUP + names::WS_VISIBLE) as u32;
+
 /// The style of a window that is shown where its ancestors are.
 const VISIBLE: u32 = names::WS_VISIBLE as u32;
+
+/// The style of a window that takes no part in input.
+const DISABLED: u32 = names::WS_DISABLED as u32;
 
 /// Four edges in pixels, from the left top corner of a window's parent or of the screen.
 #[derive(Clone, Copy, Debug)]
@@ -64,6 +70,17 @@ fn shown(style: u32, on: bool) -> u32
         style | VISIBLE
     } else {
         style & HIDDEN_STYLES
+    }
+}
+
+/// A style without WS_DISABLED, or with.
+fn enabled(style: u32, on: bool) -> u32
+    ensures { result ≡ enabled on style }
+{
+    if on {
+        style & ENABLED_STYLES
+    } else {
+        style | DISABLED
     }
 }
 
@@ -257,6 +274,16 @@ pub fn is_shown(tree: &Tree, w: Hwnd) -> bool
     }
 }
 
+/// Whether a live window has WS_DISABLED; false where there is none of the number.
+pub fn is_disabled(tree: &Tree, w: Hwnd) -> bool
+    ensures { result ≡ disabled_in tree.now.live w.0 }
+{
+    match tree.row(w) {
+        Some(row) => row.style & DISABLED == DISABLED,
+        None => false,
+    }
+}
+
 /// Makes the window of a call look as the call says.
 pub fn relook(tree: &mut Tree, call: Call)
     requires { FitsLooking tree.old call }
@@ -276,6 +303,7 @@ pub fn relook(tree: &mut Tree, call: Call)
             );
         }
         Call::Show(w, on) => show(tree, w, on == 1),
+        Call::Enable(w, on) => enable(tree, w, on == 1),
         _ => {}
     }
 }
@@ -308,4 +336,14 @@ fn show(tree: &mut Tree, w: u64, on: bool)
     let window = window_or_none(tree, w);
     let row = row_of(tree, window);
     tree.set_row(window, shown(row.style, on), row.ex, row.place);
+}
+
+/// Enables a window, or disables it.
+fn enable(tree: &mut Tree, w: u64, on: bool)
+    requires { is_live tree.old.live w ≡ true }
+    ensures { IsRelooked w (enabled_look on) tree.old tree.new }
+{
+    let window = window_or_none(tree, w);
+    let row = row_of(tree, window);
+    tree.set_row(window, enabled(row.style, on), row.ex, row.place);
 }

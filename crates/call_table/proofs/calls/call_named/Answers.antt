@@ -7,6 +7,7 @@ use Rattle.call_table.specs.Calls.{all_calls, call_named, call_row}
 use Rattle.call_table.specs.Clock.{clock_calls}
 use Rattle.call_table.specs.Delivery.{delivery_calls}
 use Rattle.call_table.specs.Drawing.{drawing_calls}
+use Rattle.call_table.specs.Input.{input_calls}
 use Rattle.call_table.specs.Lookups.{lookup_calls}
 use Rattle.call_table.specs.Registrations.{registration_calls}
 use Rattle.call_table.specs.Replies.{reply_calls}
@@ -24,8 +25,9 @@ returns-clause-value c =
     let registrations = found_further has (delivery_calls ++ send_calls ++ reply_calls) registration_calls c.or_in-found-2.result c.or_in-found-3.result replies c.or_in-found-3.ensures in
     let windows = found_further has (delivery_calls ++ send_calls ++ reply_calls ++ registration_calls) window_calls c.or_in-found-3.result c.or_in-found-4.result registrations c.or_in-found-4.ensures in
     let lookups = found_further has (delivery_calls ++ send_calls ++ reply_calls ++ registration_calls ++ window_calls) lookup_calls c.or_in-found-4.result c.or_in-found-5.result windows c.or_in-found-5.ensures in
-    let drawing = found_further has (delivery_calls ++ send_calls ++ reply_calls ++ registration_calls ++ window_calls ++ lookup_calls) drawing_calls c.or_in-found-5.result c.or_in-found-6.result lookups c.or_in-found-6.ensures in
-    found_further has (delivery_calls ++ send_calls ++ reply_calls ++ registration_calls ++ window_calls ++ lookup_calls ++ drawing_calls) clock_calls c.or_in-found-6.result c.or_in.result drawing c.or_in.ensures
+    let input = found_further has (delivery_calls ++ send_calls ++ reply_calls ++ registration_calls ++ window_calls ++ lookup_calls) input_calls c.or_in-found-5.result c.or_in-found-6.result lookups c.or_in-found-6.ensures in
+    let drawing = found_further has (delivery_calls ++ send_calls ++ reply_calls ++ registration_calls ++ window_calls ++ lookup_calls ++ input_calls) drawing_calls c.or_in-found-6.result c.or_in-found-7.result input c.or_in-found-7.ensures in
+    found_further has (delivery_calls ++ send_calls ++ reply_calls ++ registration_calls ++ window_calls ++ lookup_calls ++ input_calls ++ drawing_calls) clock_calls c.or_in-found-7.result c.or_in.result drawing c.or_in.ensures
 
 pub returns-clause-found : goal.returns-clause-found
 unfolding call_named

@@ -36,7 +36,7 @@ add_item-requires-clause-parts c =
     let e = c.args.entry in
     let s = c.self.inside in
     let past : Past = reverse s.history.items in
-    let kept : Parts = parts s.tree s.order s.display s.classes s.threads.items s.timers s.post_count s.time s.sends s.tally s.stories.items in
+    let kept : Parts = parts s.tree s.order s.display s.classes s.threads.items s.timers s.groups s.post_count s.time s.sends s.tally s.stories.items in
     let right : e.answer ≡ reply s.setup past e.who.0 e.call = subst (λ (v : Seen). e.answer ≡ reply v.setup v.past e.who.0 e.call) (sym c.self.view_is) c.requires.answer in
     let at : c.cursor.result ≡ cursor past = subst (λ (v : Seen). c.cursor.result ≡ cursor v.past) (sym c.self.view_is) c.cursor.ensures in
     growth_fits s.setup past kept c.cursor.result e c.self.invariant at right
@@ -83,12 +83,21 @@ follow_timers-requires-clause-early c =
     let past : Past = reverse s.history.items in
     subst (λ n. n < clock_limit) (sym c.self.invariant.clock) (clock_small s.setup past c.self.invariant.lawful c.self.invariant.short)
 
+pub follow-requires : goal.follow-requires
+follow-requires c =
+    let e = c.args.entry in
+    let s = c.self.inside in
+    let past : Past = reverse s.history.items in
+    let right : e.answer ≡ reply s.setup past e.who.0 e.call = subst (λ (v : Seen). e.answer ≡ reply v.setup v.past e.who.0 e.call) (sym c.self.view_is) c.requires.answer in
+    let long : c.len.result ≡ length s.history.items = search rules in
+    record { setup = s.setup; past = past; next = record { lawful = c.self.invariant.lawful; groups = c.self.invariant.groups; at = long ∙ sym (length-reverse s.history.items); right = right } }
+
 pub add_item-requires-clause-order : goal.add_item-requires-clause-order
 add_item-requires-clause-order c =
     let e = c.args.entry in
     let s = c.self.inside in
     let past : Past = reverse s.history.items in
-    let kept : Parts = parts s.tree s.order s.display s.classes s.threads.items s.timers s.post_count s.time s.sends s.tally s.stories.items in
+    let kept : Parts = parts s.tree s.order s.display s.classes s.threads.items s.timers s.groups s.post_count s.time s.sends s.tally s.stories.items in
     let right : e.answer ≡ reply s.setup past e.who.0 e.call = subst (λ (v : Seen). e.answer ≡ reply v.setup v.past e.who.0 e.call) (sym c.self.view_is) c.requires.answer in
     ranking_fits s.setup past kept e c.self.invariant right
 
@@ -97,7 +106,7 @@ take_effect-requires-clause-order c =
     let e = c.args.entry in
     let s = c.self.inside in
     let past : Past = reverse s.history.items in
-    let kept : Parts = parts s.tree s.order s.display s.classes s.threads.items s.timers s.post_count s.time s.sends s.tally s.stories.items in
+    let kept : Parts = parts s.tree s.order s.display s.classes s.threads.items s.timers s.groups s.post_count s.time s.sends s.tally s.stories.items in
     let right : e.answer ≡ reply s.setup past e.who.0 e.call = subst (λ (v : Seen). e.answer ≡ reply v.setup v.past e.who.0 e.call) (sym c.self.view_is) c.requires.answer in
     leaving_fits s.setup past kept e c.add_item.new.tree c.add_item.new.order c.self.invariant right c.in_ok-add_item.ensures.tree c.in_ok-add_item.ensures.order
 
@@ -106,7 +115,7 @@ add_item-requires-clause-sends c =
     let e = c.args.entry in
     let s = c.self.inside in
     let past : Past = reverse s.history.items in
-    let kept : Parts = parts s.tree s.order s.display s.classes s.threads.items s.timers s.post_count s.time s.sends s.tally s.stories.items in
+    let kept : Parts = parts s.tree s.order s.display s.classes s.threads.items s.timers s.groups s.post_count s.time s.sends s.tally s.stories.items in
     let room : is_full past ≡ false = subst (λ (v : Seen). is_full v.past ≡ false) (sym c.self.view_is) c.requires.room in
     let right : e.answer ≡ reply s.setup past e.who.0 e.call = subst (λ (v : Seen). e.answer ≡ reply v.setup v.past e.who.0 e.call) (sym c.self.view_is) c.requires.answer in
     let long : c.len.result ≡ length s.history.items = search rules in
@@ -117,7 +126,7 @@ settle_sends-lost-requires-clause-sends c =
     let e = c.args.entry in
     let s = c.self.inside in
     let past : Past = reverse s.history.items in
-    let kept : Parts = parts s.tree s.order s.display s.classes s.threads.items s.timers s.post_count s.time s.sends s.tally s.stories.items in
+    let kept : Parts = parts s.tree s.order s.display s.classes s.threads.items s.timers s.groups s.post_count s.time s.sends s.tally s.stories.items in
     let room : is_full past ≡ false = subst (λ (v : Seen). is_full v.past ≡ false) (sym c.self.view_is) c.requires.room in
     let right : e.answer ≡ reply s.setup past e.who.0 e.call = subst (λ (v : Seen). e.answer ≡ reply v.setup v.past e.who.0 e.call) (sym c.self.view_is) c.requires.answer in
     let long : c.len.result ≡ length s.history.items = search rules in
@@ -128,7 +137,7 @@ take_effect-requires-clause-parts c =
     let e = c.args.entry in
     let s = c.self.inside in
     let past : Past = reverse s.history.items in
-    let kept : Parts = parts s.tree s.order s.display s.classes s.threads.items s.timers s.post_count s.time s.sends s.tally s.stories.items in
+    let kept : Parts = parts s.tree s.order s.display s.classes s.threads.items s.timers s.groups s.post_count s.time s.sends s.tally s.stories.items in
     let right : e.answer ≡ reply s.setup past e.who.0 e.call = subst (λ (v : Seen). e.answer ≡ reply v.setup v.past e.who.0 e.call) (sym c.self.view_is) c.requires.answer in
     settling_fits s.setup past kept e c.add_item.new.classes c.add_item.new.tree c.add_item.new.threads.items c.self.invariant right c.in_ok-add_item.ensures.classes c.in_ok-add_item.ensures.tree c.in_ok-add_item.ensures.threads.same_length
 
@@ -137,7 +146,7 @@ invariant_of-self-2 c =
     let e = c.args.entry in
     let s = c.self.inside in
     let past : Past = reverse s.history.items in
-    let kept : Parts = parts s.tree s.order s.display s.classes s.threads.items s.timers s.post_count s.time s.sends s.tally s.stories.items in
+    let kept : Parts = parts s.tree s.order s.display s.classes s.threads.items s.timers s.groups s.post_count s.time s.sends s.tally s.stories.items in
     let room : is_full past ≡ false = subst (λ (v : Seen). is_full v.past ≡ false) (sym c.self.view_is) c.requires.room in
     let right : e.answer ≡ reply s.setup past e.who.0 e.call = subst (λ (v : Seen). e.answer ≡ reply v.setup v.past e.who.0 e.call) (sym c.self.view_is) c.requires.answer in
     let pushed : c.push.new.self.items ≡ s.history.items ++ e ∷ [] = search rules in
@@ -153,15 +162,16 @@ invariant_of-self-2 c =
     let at : c.cursor.result ≡ cursor past = subst (λ (v : Seen). c.cursor.result ≡ cursor v.past) (sym c.self.view_is) c.cursor.ensures in
     let seen : IsDisplayAt s.setup (e ∷ past) c.take_over.new.self = display_step s.setup past s.tree s.order s.classes e s.display c.add_item.new.display c.take_over.new.self c.in_ok-change.change c.self.invariant.lawful c.self.invariant.tree c.self.invariant.order c.self.invariant.classes right c.self.invariant.display c.in_ok-change.ensures.windows c.in_ok-change.ensures.drawing grown.drawn grown.display c.take_over.ensures in
     let timed = timers_step s.setup past kept e c.add_item.new.tree c.add_item.new.timers c.follow_timers.new.timers c.self.invariant right grown.tree grown.timers c.follow_timers.ensures in
-    let now = stands_step s.setup past kept c.cursor.result e c.add_item.new.classes c.take_effect.new.classes c.add_item.new.tree c.take_effect.new.tree c.add_item.new.order c.take_effect.new.order c.take_over.new.self c.add_item.new.threads.items c.take_effect.new.threads.items c.note_entry.new.threads.items c.follow_timers.new.timers c.add_item.new.sends c.settle_sends-lost.new.sends c.first_cause-first.result c.settle_sends-lost.result c.with-self-inside.result (with_begun e.answer c.make_room.new.stories.items) told.between c.settle_sends-lost.new.stories.items c.len.result room right c.self.invariant at grown.classes settled.classes grown.tree settled.tree grown.order settled.order seen grown.threads settled.threads c.note_entry.ensures timed grown.sends c.settle_sends-lost.ensures.sends here first c.settle_sends-lost.ensures.lost c.with-self-inside.ensures begun told.before noted in
-    subst (λ (h : Past). Stands s.setup h (parts c.take_effect.new.tree c.take_effect.new.order c.take_over.new.self c.take_effect.new.classes c.note_entry.new.threads.items c.follow_timers.new.timers c.count_after-self-inside.result c.time_after-self-inside.result c.settle_sends-lost.new.sends c.with-self-inside.result c.settle_sends-lost.new.stories.items)) newest (search (rules, now))
+    let grouped = c.follow.ensures s.setup past (record { lawful = c.self.invariant.lawful; groups = c.self.invariant.groups; at = here; right = right }) in
+    let now = stands_step s.setup past kept c.cursor.result e c.add_item.new.classes c.take_effect.new.classes c.add_item.new.tree c.take_effect.new.tree c.add_item.new.order c.take_effect.new.order c.take_over.new.self c.add_item.new.threads.items c.take_effect.new.threads.items c.note_entry.new.threads.items c.follow_timers.new.timers c.follow.new.self c.add_item.new.sends c.settle_sends-lost.new.sends c.first_cause-first.result c.settle_sends-lost.result c.with-self-inside.result (with_begun e.answer c.make_room.new.stories.items) told.between c.settle_sends-lost.new.stories.items c.len.result room right c.self.invariant at grown.classes settled.classes grown.tree settled.tree grown.order settled.order seen grown.threads settled.threads c.note_entry.ensures timed grouped grown.sends c.settle_sends-lost.ensures.sends here first c.settle_sends-lost.ensures.lost c.with-self-inside.ensures begun told.before noted in
+    subst (λ (h : Past). Stands s.setup h (parts c.take_effect.new.tree c.take_effect.new.order c.take_over.new.self c.take_effect.new.classes c.note_entry.new.threads.items c.follow_timers.new.timers c.follow.new.self c.count_after-self-inside.result c.time_after-self-inside.result c.settle_sends-lost.new.sends c.with-self-inside.result c.settle_sends-lost.new.stories.items)) newest (search (rules, now))
 
 pub with-self-inside-requires : goal.with-self-inside-requires
 with-self-inside-requires c =
     let e = c.args.entry in
     let s = c.self.inside in
     let past : Past = reverse s.history.items in
-    let kept : Parts = parts s.tree s.order s.display s.classes s.threads.items s.timers s.post_count s.time s.sends s.tally s.stories.items in
+    let kept : Parts = parts s.tree s.order s.display s.classes s.threads.items s.timers s.groups s.post_count s.time s.sends s.tally s.stories.items in
     let right : e.answer ≡ reply s.setup past e.who.0 e.call = subst (λ (v : Seen). e.answer ≡ reply v.setup v.past e.who.0 e.call) (sym c.self.view_is) c.requires.answer in
     let long : c.len.result ≡ length s.history.items = search rules in
     let here : c.len.result ≡ place_after past = long ∙ sym (length-reverse s.history.items) in

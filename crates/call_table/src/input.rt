@@ -1,0 +1,93 @@
+//! Calls on focus, active window, capture and attached threads, one row each.
+
+ghost use Rattle.std.specs.Prelude.{◌≡◌, option_map};
+ghost use Rattle.call_fields.specs.Forms.{read_form};
+ghost use Rattle.call_table.specs.Input.{input_row, split_input, made_input};
+ghost use Rattle.call_table.specs.Splits.{read_split};
+
+use crate::calls::CallName;
+use crate::calls::CallName::Input;
+use crate::split::{SplitCall, split_numbers};
+use call_fields::Field::Number;
+use call_fields::{Form, Value, numbers_at, row_of};
+use user_model::Call;
+
+/// The names of these calls.
+#[derive(Clone, Copy, Debug, PartialEq, Eq)]
+pub enum InputCall {
+    SetFocus,
+    SetActive,
+    SetCapture,
+    ReleaseCapture,
+    GetFocus,
+    GetActive,
+    GetCapture,
+    Attach,
+    Detach,
+}
+
+/// These calls.
+pub static INPUT_CALLS: [CallName; 9] = [
+    Input(InputCall::SetFocus),
+    Input(InputCall::SetActive),
+    Input(InputCall::SetCapture),
+    Input(InputCall::ReleaseCapture),
+    Input(InputCall::GetFocus),
+    Input(InputCall::GetActive),
+    Input(InputCall::GetCapture),
+    Input(InputCall::Attach),
+    Input(InputCall::Detach),
+];
+
+/// The word of a call of this group, and the kinds of its fields.
+pub fn input_form(name: InputCall) -> Form
+    ensures { read_form result ≡ input_row name }
+{
+    match name {
+        InputCall::SetFocus => row_of(b"set_focus", &[Number]),
+        InputCall::SetActive => row_of(b"set_active", &[Number]),
+        InputCall::SetCapture => row_of(b"set_capture", &[Number]),
+        InputCall::ReleaseCapture => row_of(b"release_capture", &[]),
+        InputCall::GetFocus => row_of(b"get_focus", &[]),
+        InputCall::GetActive => row_of(b"get_active", &[]),
+        InputCall::GetCapture => row_of(b"get_capture", &[]),
+        InputCall::Attach => row_of(b"attach", &[Number, Number]),
+        InputCall::Detach => row_of(b"detach", &[Number, Number]),
+    }
+}
+
+/// Takes apart a call of this group. None comes exactly where it is of another.
+pub fn split_input(call: Call) -> Option<SplitCall>
+    ensures { option_map read_split result ≡ split_input call }
+{
+    match call {
+        Call::SetFocus(window) => split_numbers(Input(InputCall::SetFocus), &[window]),
+        Call::SetActive(window) => split_numbers(Input(InputCall::SetActive), &[window]),
+        Call::SetCapture(window) => split_numbers(Input(InputCall::SetCapture), &[window]),
+        Call::ReleaseCapture => split_numbers(Input(InputCall::ReleaseCapture), &[]),
+        Call::GetFocus => split_numbers(Input(InputCall::GetFocus), &[]),
+        Call::GetActive => split_numbers(Input(InputCall::GetActive), &[]),
+        Call::GetCapture => split_numbers(Input(InputCall::GetCapture), &[]),
+        Call::Attach(thread, other) => split_numbers(Input(InputCall::Attach), &[thread, other]),
+        Call::Detach(thread, other) => split_numbers(Input(InputCall::Detach), &[thread, other]),
+        _ => None,
+    }
+}
+
+/// The call of this name, of the values at its places.
+pub fn made_input(name: InputCall, values: &[Value]) -> Call
+    ensures { result ≡ made_input name values.now }
+{
+    let numbers = numbers_at(values);
+    match name {
+        InputCall::SetFocus => Call::SetFocus(numbers[0]),
+        InputCall::SetActive => Call::SetActive(numbers[0]),
+        InputCall::SetCapture => Call::SetCapture(numbers[0]),
+        InputCall::ReleaseCapture => Call::ReleaseCapture,
+        InputCall::GetFocus => Call::GetFocus,
+        InputCall::GetActive => Call::GetActive,
+        InputCall::GetCapture => Call::GetCapture,
+        InputCall::Attach => Call::Attach(numbers[0], numbers[1]),
+        InputCall::Detach => Call::Detach(numbers[0], numbers[1]),
+    }
+}

@@ -1,0 +1,2 @@
+pub mod GroupTables
+pub mod Steps

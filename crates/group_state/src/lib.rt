@@ -1,0 +1,10 @@
+//! Attached threads, and the focus, active window, capture and foreground thread, as a past has them: what an entry does to them, and
+//! what is looked up in them.
+#![tactic(auto)]
+
+mod groups;
+#[cfg(test)]
+mod tests;
+
+pub use groups::GroupState;
+pub use input_state::Slot;
