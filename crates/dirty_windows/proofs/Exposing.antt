@@ -28,6 +28,12 @@ pub and_none : (a : Bool) → (a && false) ≡ false
 and_none true = refl
 and_none false = refl
 
+-- what has the same pixels leaves none
+pub none_of_same : (a b : Bool) → a ≡ b → false ≡ (a && not b)
+none_of_same true true e = refl
+none_of_same true false e = absurd (true≢false e)
+none_of_same false b e = refl
+
 -- the region that was looked up, or none
 pub owned_is : (os : List Owned) (w : ℕ) (r : List Rect) → Some r ≡ option_map owned_region (entry_of os w) → r ≡ region_in os w
 owned_is os w r e = pick (entry_of os w) e

@@ -1,16 +1,14 @@
 -- What the calls on all windows promise, from what is done to the entries.
-use Rattle.std.proofs.Common.{◌≡◌, ◌≢◌, ℕ, Bool, true, false, eqb, List, Option, Some, None, refl, ap, ◌∙◌, sym, subst}
+use Rattle.std.proofs.Common.{◌≡◌, ℕ, Bool, true, false, eqb, List, refl, ap, ◌∙◌, sym, subst}
 use Rattle.std.specs.Prelude.{◌&&◌, ◌||◌, ◌↔◌, IsTrue, All}
 use Rattle.std.proofs.lemmas.Bool.{eqb-true}
 use Rattle.win_num.specs.declared.shapes.Point.{Point}
 use Rattle.win_num.specs.declared.shapes.Rect.{Rect}
 use Rattle.band_region.specs.Regions.{region_has}
-use Rattle.update_region.specs.Updates.{Dirty}
 use Rattle.screen_owners.specs.declared.owners.Owned.{Owned}
 use Rattle.screen_owners.specs.Owners.{region_in}
 use Rattle.dirty_windows.specs.declared.entries.DirtyWindow.{DirtyWindow}
-use Rattle.dirty_windows.specs.LookUps.{area_in, entry_of, erases_in, nothing, update_in, update_in_entry, AreKept, IsClean, RisesFrom}
-use Rattle.dirty_windows.specs.Places.{IsPut}
+use Rattle.dirty_windows.specs.LookUps.{area_in, erases_in, AreKept, IsClean, RisesFrom}
 use Rattle.dirty_windows.specs.Changes.{IsAdded}
 
 -- what is kept beside entries that were walked over

@@ -30,12 +30,22 @@ pub fn owned_part(
     }
 }
 
+/// What a region leaves of the part. It is nothing where both are the same.
+fn left_of(alloc: Global, part: &Region, owned: &Region) -> Result<Region, AllocError>
+    ensures { IfOk result (λ x. (p : Point) → region_has x p ≡ (region_has part.now p && not (region_has owned.now p))) }
+{
+    if part.same(owned) {
+        return Ok(Region::empty(alloc));
+    }
+    part.diff(alloc, owned)
+}
+
 /// The pixels of the part that the window doesn't own.
 fn other_part(alloc: Global, part: &Region, owners: &Owners, w: Hwnd) -> Result<Region, AllocError>
     ensures { IfOk result (λ x. (p : Point) → region_has x p ≡ (region_has part.now p && not (region_has (region_in owners.now w.0) p))) }
 {
     match owners.region_of(w) {
-        Some(owned) => part.diff(alloc, owned),
+        Some(owned) => left_of(alloc, part, owned),
         None => {
             let copy = part.copy(alloc)?;
             Ok(copy)

@@ -258,6 +258,15 @@ taken_none whole cs i d l within at over left apart c p is =
 
 -- ---- rectangles that share no pixel
 
+pub both_true : (a b : Bool) → (a && b) ≡ true → (a ≡ true) × (b ≡ true)
+both_true true b h = (refl, h)
+both_true false b h = absurd (false≢true h)
+
+-- a rectangle that doesn't meet the region has no pixel of it
+pub unmet : (region has : Bool) → (region && has) ≡ false → region ≡ true → false ≡ has
+unmet true has h k = sym h
+unmet false has h k = absurd (false≢true k)
+
 pub apart : (a b : Rect) (p : Point) → overlaps a b ≡ false → (rect_has a p && rect_has b p) ≡ false
 unfolding rect_has
 apart a b p h = pick (has_pixel (box_in a) p) refl (has_pixel (box_in b) p) refl

@@ -1,7 +1,12 @@
+pub mod Alike
+pub mod ChangedParts
 pub mod Children
+pub mod CornerLaws
 pub mod Cuts
 pub mod Edges
+pub mod JoinedLaws
 pub mod ShareLaws
 pub mod Shared
 pub mod Shown
+pub mod Unchanged
 pub mod Ways

@@ -21,10 +21,11 @@ use Rattle.user_model.proofs.ListLaws.{all_found}
 use Rattle.window_state.proofs.TreeFacts.{found_passes}
 use Rattle.window_state.specs.Pixels.{deepest_in, owner_in}
 use Rattle.screen_owners.specs.declared.owners.Owned.{Owned}
+use Rattle.screen_owners.specs.declared.screen.Part.{Part}
 use Rattle.screen_owners.specs.declared.shares.Share.{Share}
-use Rattle.screen_owners.specs.Owners.{entry_of, is_on_screen, owned_window, region_in, AreChildren, AreOwners, IsBefore, IsOwned}
+use Rattle.screen_owners.specs.Owners.{entry_of, is_on_screen, is_within, owned_window, region_in, AreChildren, AreOwnersIn, IsBefore, IsOwned}
 use Rattle.screen_owners.specs.Shares.{has_share, is_one_of, screen_and, share_window, AreSharesOf, IsOlderShare, IsParentless, IsShare, IsSharedOut, IsShareOf, IsSharedUpTo, IsUnreached, Passes, begins}
-use Rattle.screen_owners.proofs.Cuts.{same_window}
+use Rattle.screen_owners.proofs.Cuts.{both_true, same_window}
 use Rattle.screen_owners.proofs.Ways.{came_from, each_older, owner_passes, step_of, CameFrom, IsOlder}
 
 -- ---- tests of lists
@@ -53,7 +54,7 @@ any_push test xs y = list_any-append test xs (y ∷ []) ∙ ap (λ b. list_any t
     or_none false = refl
 
 -- the numbers before a place are those that are less
-number_over : (from last : ℕ) (ws : List Window) (k : ℕ) (w : Hwnd) → IsOrdered from last ws → k < length ws → w ≡ get_or (map number_of ws) k w → from < w.0
+pub number_over : (from last : ℕ) (ws : List Window) (k : ℕ) (w : Hwnd) → IsOrdered from last ws → k < length ws → w ≡ get_or (map number_of ws) k w → from < w.0
 number_over from last [] k w h l e = absurd (omega (arith, l))
 number_over from last (x ∷ xs) zero w h l e = let same : w.0 ≡ x.number.0 = ap (λ (u : Hwnd). u.0) e in omega (arith, same, h.0)
 number_over from last (x ∷ xs) (suc k) w h l e = omega (arith, h.0, number_over x.number.0 last xs k w h.2 (omega (arith, l)) e)
@@ -79,7 +80,7 @@ among from last (y ∷ ys) u x (suc k) w h e l at less = pick (eqb y.number.0 u)
     pick false m rest = ap (λ b. eqb y.number.0 u || b) (rest (sym (ap (λ b. cond b (Some y) (window_of ys u)) m) ∙ e) (omega (arith, l)) at less) ∙ or_last (eqb y.number.0 u)
 
 -- a window of the table is one of the numbers
-live_among : (ws : List Window) (u : ℕ) (x : Window) → window_of ws u ≡ Some x → list_any (λ (v : Hwnd). eqb v.0 u) (map number_of ws) ≡ true
+pub live_among : (ws : List Window) (u : ℕ) (x : Window) → window_of ws u ≡ Some x → list_any (λ (v : Hwnd). eqb v.0 u) (map number_of ws) ≡ true
 live_among [] u x e = absurd cc
 live_among (y ∷ ys) u x e = pick (live_among ys u x) (eqb y.number.0 u) refl e
   where
@@ -88,7 +89,7 @@ live_among (y ∷ ys) u x e = pick (live_among ys u x) (eqb y.number.0 u) refl e
     pick rest false k e = ap (λ b. eqb y.number.0 u || b) (rest e) ∙ or_last (eqb y.number.0 u)
 
 -- the numbers before a place are lesser ones
-before_less : (from last : ℕ) (ws : List Window) (k : ℕ) (w : Hwnd) (u : ℕ) → IsOrdered from last ws → k < length ws → w ≡ get_or (map number_of ws) k w → list_any (λ (v : Hwnd). eqb v.0 u) (take k (map number_of ws)) ≡ true → u < w.0
+pub before_less : (from last : ℕ) (ws : List Window) (k : ℕ) (w : Hwnd) (u : ℕ) → IsOrdered from last ws → k < length ws → w ≡ get_or (map number_of ws) k w → list_any (λ (v : Hwnd). eqb v.0 u) (take k (map number_of ws)) ≡ true → u < w.0
 before_less from last [] k w u h l e any = absurd (omega (arith, l))
 before_less from last (x ∷ xs) zero w u h l e any = absurd (false≢true any)
 before_less from last (x ∷ xs) (suc k) w u h l e any = pick (before_less x.number.0 last xs k w u h.2 (omega (arith, l)) e) (one_of (eqb x.number.0 u) (list_any (λ (v : Hwnd). eqb v.0 u) (take k (map number_of xs))) any)
@@ -99,10 +100,10 @@ before_less from last (x ∷ xs) (suc k) w u h l e any = pick (before_less x.num
 
 -- ---- one share more
 
-module _ (ws : List Window) (z : Layers) (last width height : ℕ) (ordered : IsOrdered 15 last ws) (children : AreChildren ws z) where
-  pub first_shared : (ss : List Share) (s : Share) → ss ≡ s ∷ [] → IsShareOf ws z width height nobody s → IsSharedUpTo 0 ws z width height ss
-  first_shared ss s same of = subst (IsSharedUpTo 0 ws z width height) (sym same) (record {
-    each = All-cons (IsShare ws z width height) s [] of.1 (All-nil (IsShare ws z width height));
+module _ (ws : List Window) (z : Layers) (last : ℕ) (part : Part) (ordered : IsOrdered 15 last ws) (children : AreChildren ws z) where
+  pub first_shared : (ss : List Share) (s : Share) → ss ≡ s ∷ [] → IsShareOf ws z part nobody s → IsSharedUpTo 0 ws z part ss
+  first_shared ss s same of = subst (IsSharedUpTo 0 ws z part) (sym same) (record {
+    each = All-cons (IsShare ws z part) s [] of.1 (All-nil (IsShare ws z part));
     older = pairs-one IsOlderShare s;
     among = All-cons (λ (t : Share). is_one_of (nobody ∷ []) t.window ≡ true) s [] (or_first (eqb 0 s.window.0) false (eq-eqb 0 s.window.0 (sym number))) (All-nil (λ (t : Share). is_one_of (nobody ∷ []) t.window ≡ true));
     reached = λ w p q here on d. subst (λ n. (eqb n w.0 || false) ≡ true) (sym number) here;
@@ -116,16 +117,16 @@ module _ (ws : List Window) (z : Layers) (last width height : ℕ) (ordered : Is
   more_windows k w within at = ap (λ us. nobody ∷ us) (take_more (map number_of ws) k w (subst (λ n. k < n) (sym (length-map ws number_of)) within) ∙ ap (λ u. take k (map number_of ws) ++ u ∷ []) (sym at))
 
   -- an older window
-  older_one : (k : ℕ) (w u : Hwnd) → k < length ws → w ≡ get_or (map number_of ws) k w → is_one_of (nobody ∷ take k (map number_of ws)) u ≡ true → u.0 < w.0
+  pub older_one : (k : ℕ) (w u : Hwnd) → k < length ws → w ≡ get_or (map number_of ws) k w → is_one_of (nobody ∷ take k (map number_of ws)) u ≡ true → u.0 < w.0
   older_one k w u within at any = pick (one_of (eqb 0 u.0) (list_any (λ (v : Hwnd). eqb v.0 u.0) (take k (map number_of ws))) any)
     where
       pick : (eqb 0 u.0 ≡ true) ⊎ (list_any (λ (v : Hwnd). eqb v.0 u.0) (take k (map number_of ws)) ≡ true) → u.0 < w.0
       pick (inl is) = omega (arith, eqb-true 0 u.0 is, number_over 15 last ws k w ordered within at)
       pick (inr rest) = before_less 15 last ws k w u.0 ordered within at rest
 
-  pub more_shared : (k : ℕ) (w : Hwnd) (ss ts : List Share) (s : Share) → k < length ws → w ≡ get_or (map number_of ws) k w → ts ≡ ss ++ s ∷ [] → IsShareOf ws z width height w s → IsSharedUpTo k ws z width height ss → IsSharedUpTo (k + 1) ws z width height ts
-  more_shared k w ss ts s within at same of old = subst (λ us. AreSharesOf ws z width height us ts) (sym (more_windows k w within at)) (subst (AreSharesOf ws z width height (us ++ w ∷ [])) (sym same) (record {
-    each = All-push (IsShare ws z width height) ss s old.each of.1;
+  pub more_shared : (k : ℕ) (w : Hwnd) (ss ts : List Share) (s : Share) → k < length ws → w ≡ get_or (map number_of ws) k w → ts ≡ ss ++ s ∷ [] → IsShareOf ws z part w s → IsSharedUpTo k ws z part ss → IsSharedUpTo (k + 1) ws z part ts
+  more_shared k w ss ts s within at same of old = subst (λ us. AreSharesOf ws z part us ts) (sym (more_windows k w within at)) (subst (AreSharesOf ws z part (us ++ w ∷ [])) (sym same) (record {
+    each = All-push (IsShare ws z part) ss s old.each of.1;
     older = all_pairs_push IsOlderShare ss s old.older (λ j d lt. subst (λ (n : ℕ). (get_or ss j d).window.0 < n) (sym number) (older_one k w (get_or ss j d).window within at (old.among j d lt)));
     among = All-push (λ (t : Share). is_one_of (us ++ w ∷ []) t.window ≡ true) ss s (λ j d lt. any_push (λ (v : Hwnd). eqb v.0 (get_or ss j d).window.0) us w ∙ or_first (is_one_of us (get_or ss j d).window) (eqb w.0 (get_or ss j d).window.0) (old.among j d lt)) (any_push (λ (v : Hwnd). eqb v.0 s.window.0) us w ∙ ap (λ b. is_one_of us s.window || b) (eq-eqb w.0 s.window.0 (sym number)) ∙ or_last (is_one_of us s.window));
     reached = λ u p q here on d. any_push (λ (t : Share). eqb t.window.0 u.0) ss s ∙ pick u p q on d (one_of (is_one_of us u) (eqb w.0 u.0) (sym (any_push (λ (v : Hwnd). eqb v.0 u.0) us w) ∙ here));
@@ -137,12 +138,12 @@ module _ (ws : List Window) (z : Layers) (last width height : ℕ) (ordered : Is
       number : s.window.0 ≡ w.0
       number = ap (λ (u : Hwnd). u.0) of.0
 
-      pick : (u : Hwnd) (p q : Point) → is_on_screen width height p ≡ true → Passes ws z p u q → (is_one_of us u ≡ true) ⊎ (eqb w.0 u.0 ≡ true) → (has_share ss u.0 || eqb s.window.0 u.0) ≡ true
+      pick : (u : Hwnd) (p q : Point) → is_within part p ≡ true → Passes ws z p u q → (is_one_of us u ≡ true) ⊎ (eqb w.0 u.0 ≡ true) → (has_share ss u.0 || eqb s.window.0 u.0) ≡ true
       pick u p q on d (inl here) = or_first (has_share ss u.0) (eqb s.window.0 u.0) (old.reached u p q here on d)
       pick u p q on d (inr is) = ap (λ n. has_share ss u.0 || eqb n u.0) number ∙ ap (λ b. has_share ss u.0 || b) is ∙ or_last (has_share ss u.0)
 
-  pub same_shared : (k : ℕ) (w : Hwnd) (ss : List Share) → k < length ws → w ≡ get_or (map number_of ws) k w → IsUnreached ws z width height w → IsSharedUpTo k ws z width height ss → IsSharedUpTo (k + 1) ws z width height ss
-  same_shared k w ss within at never old = subst (λ us. AreSharesOf ws z width height us ss) (sym (more_windows k w within at)) (record {
+  pub same_shared : (k : ℕ) (w : Hwnd) (ss : List Share) → k < length ws → w ≡ get_or (map number_of ws) k w → IsUnreached ws z part w → IsSharedUpTo k ws z part ss → IsSharedUpTo (k + 1) ws z part ss
+  same_shared k w ss within at never old = subst (λ us. AreSharesOf ws z part us ss) (sym (more_windows k w within at)) (record {
     each = old.each;
     older = old.older;
     among = λ j d lt. any_push (λ (v : Hwnd). eqb v.0 (get_or ss j d).window.0) us w ∙ or_first (is_one_of us (get_or ss j d).window) (eqb w.0 (get_or ss j d).window.0) (old.among j d lt);
@@ -152,15 +153,15 @@ module _ (ws : List Window) (z : Layers) (last width height : ℕ) (ordered : Is
       us : List Hwnd
       us = nobody ∷ take k (map number_of ws)
 
-      pick : (u : Hwnd) (p q : Point) → is_on_screen width height p ≡ true → Passes ws z p u q → (is_one_of us u ≡ true) ⊎ (eqb w.0 u.0 ≡ true) → has_share ss u.0 ≡ true
+      pick : (u : Hwnd) (p q : Point) → is_within part p ≡ true → Passes ws z p u q → (is_one_of us u ≡ true) ⊎ (eqb w.0 u.0 ≡ true) → has_share ss u.0 ≡ true
       pick u p q on d (inl here) = old.reached u p q here on d
       pick u p q on d (inr is) = absurd (never p q on (subst (λ v. Passes ws z p v q) (same_window u w (sym (eqb-true w.0 u.0 is))) d))
 
-  pub all_shared : (n : ℕ) (ss : List Share) → n ≡ length (map number_of ws) → IsSharedUpTo n ws z width height ss → IsSharedOut ws z width height ss
-  all_shared n ss e h = subst (λ us. AreSharesOf ws z width height (nobody ∷ us) ss) (take_all n (map number_of ws) (omega (arith, e))) h
+  pub all_shared : (n : ℕ) (ss : List Share) → n ≡ length (map number_of ws) → IsSharedUpTo n ws z part ss → IsSharedOut ws z part ss
+  all_shared n ss e h = subst (λ us. AreSharesOf ws z part (nobody ∷ us) ss) (take_all n (map number_of ws) (omega (arith, e))) h
 
   -- the window itself, or its parent, stands before it
-  pub not_reached : (k : ℕ) (w : Hwnd) (ss : List Share) → k < length ws → w ≡ get_or (map number_of ws) k w → IsSharedUpTo k ws z width height ss → IsParentless ws ss w → IsUnreached ws z width height w
+  pub not_reached : (k : ℕ) (w : Hwnd) (ss : List Share) → k < length ws → w ≡ get_or (map number_of ws) k w → IsSharedUpTo k ws z part ss → IsParentless ws ss w → IsUnreached ws z part w
   not_reached k w ss within at shared none p q on d = from (came_from ws z last ordered children p w q d)
     where
       us : List Hwnd
@@ -215,10 +216,10 @@ none_found (o ∷ es) w e = pick (none_found es w) (eqb o.window.0 w) e
     pick rest true e = absurd cc
     pick rest false e = rest e
 
-module _ (ws : List Window) (z : Layers) (last width height : ℕ) (ordered : IsOrdered 15 last ws) (children : AreChildren ws z) where
+module _ (ws : List Window) (z : Layers) (last : ℕ) (part : Part) (ordered : IsOrdered 15 last ws) (children : AreChildren ws z) where
   -- the owner of a pixel has its share
-  owner_shared : (ss : List Share) (p : Point) → IsSharedOut ws z width height ss → is_on_screen width height p ≡ true → has_share ss (owner_in ws z width height p).0 ≡ true
-  owner_shared ss p shared on = ap (λ (u : Hwnd). has_share ss u.0) (ap (λ b. cond b (deepest_in (length ws) ws z p nobody) nobody) on) ∙ shared.reached owner p way.0 (pick (came_from ws z last ordered children p owner way.0 way.1)) on way.1
+  owner_shared : (ss : List Share) (p : Point) → IsSharedOut ws z part ss → is_within part p ≡ true → has_share ss (owner_in ws z part.screen.width part.screen.height p).0 ≡ true
+  owner_shared ss p shared on = ap (λ (u : Hwnd). has_share ss u.0) (ap (λ b. cond b (deepest_in (length ws) ws z p nobody) nobody) (both_true (is_on_screen part.screen.width part.screen.height p) (region_has part.region p) on).0) ∙ shared.reached owner p way.0 (pick (came_from ws z last ordered children p owner way.0 way.1)) on way.1
     where
       owner : Hwnd
       owner = deepest_in (length ws) ws z p nobody
@@ -232,29 +233,29 @@ module _ (ws : List Window) (z : Layers) (last width height : ℕ) (ordered : Is
           let s = step_of ws z last ordered children c.at c.up.0 owner c.step in
           ap (λ b. eqb 0 owner.0 || b) (live_among ws owner.0 s.row s.live) ∙ or_last (eqb 0 owner.0)
 
-  pub are_owners : (ss : List Share) (es : List Owned) → IsSharedOut ws z width height ss → map owned_window es ≡ map share_window ss → All (IsOwned ws z width height) es → AreOwners ws z width height es
+  pub are_owners : (ss : List Share) (es : List Owned) → IsSharedOut ws z part ss → map owned_window es ≡ map share_window ss → All (IsOwned ws z part) es → AreOwnersIn ws z part es
   are_owners ss es shared windows owned w p = pick (entry_of es w.0) refl
     where
       has : (u : ℕ) → list_any (λ (o : Owned). eqb o.window.0 u) es ≡ has_share ss u
       has u = sym (any_map (λ (v : Hwnd). eqb v.0 u) owned_window es) ∙ ap (list_any (λ (v : Hwnd). eqb v.0 u)) windows ∙ any_map (λ (v : Hwnd). eqb v.0 u) share_window ss
 
       owner : Hwnd
-      owner = owner_in ws z width height p
+      owner = owner_in ws z part.screen.width part.screen.height p
 
-      none : has_share ss w.0 ≡ false → (a : Bool) → is_on_screen width height p ≡ a → (b : Bool) → eqb owner.0 w.0 ≡ b → false ≡ (a && b)
+      none : has_share ss w.0 ≡ false → (a : Bool) → is_within part p ≡ a → (b : Bool) → eqb owner.0 w.0 ≡ b → false ≡ (a && b)
       none lost true on true is = absurd (true≢false (sym (owner_shared ss p shared on) ∙ ap (has_share ss) (eqb-true owner.0 w.0 is) ∙ lost))
       none lost true on false is = refl
       none lost false on b is = refl
 
-      pick : (o : Option Owned) → entry_of es w.0 ≡ o → region_has (region_in es w.0) p ≡ (is_on_screen width height p && eqb owner.0 w.0)
+      pick : (o : Option Owned) → entry_of es w.0 ≡ o → region_has (region_in es w.0) p ≡ (is_within part p && eqb owner.0 w.0)
       pick (Some o) e =
           let number : o.window.0 ≡ w.0 = eqb-true o.window.0 w.0 (found_passes (λ (x : Owned). eqb x.window.0 w.0) es o e) in
           ap (λ (x : Option Owned). region_has (elim x as (λ _. List Rect) [ Some y ↦ y.region | None ↦ [] ]) p) e
-          ∙ all_found (IsOwned ws z width height) (λ (x : Owned). eqb x.window.0 w.0) es o (recursion_from_All (IsOwned ws z width height) es owned) e p
-          ∙ ap (λ n. is_on_screen width height p && eqb owner.0 n) number
+          ∙ all_found (IsOwned ws z part) (λ (x : Owned). eqb x.window.0 w.0) es o (recursion_from_All (IsOwned ws z part) es owned) e p
+          ∙ ap (λ n. is_within part p && eqb owner.0 n) number
       pick None e =
           ap (λ (x : Option Owned). region_has (elim x as (λ _. List Rect) [ Some y ↦ y.region | None ↦ [] ]) p) e
-          ∙ none (sym (has w.0) ∙ none_found es w.0 e) (is_on_screen width height p) refl (eqb owner.0 w.0) refl
+          ∙ none (sym (has w.0) ∙ none_found es w.0 e) (is_within part p) refl (eqb owner.0 w.0) refl
 
 -- ---- searches
 

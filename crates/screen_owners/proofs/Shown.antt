@@ -26,16 +26,16 @@ use Rattle.screen_owners.proofs.Ways.{above_count, count_at_most, count_less, st
 -- ---- what a place says
 
 -- whether the place, if there is one, has the point
-abbrev has_place : Option Rect → Point → Bool
+abbrev pub has_place : Option Rect → Point → Bool
 has_place None q = false
 has_place (Some r) q = has_pixel (box_in r) q
 
 -- the point from the corner of the place, if there is one
-abbrev from_place : Option Rect → Point → Point
+abbrev pub from_place : Option Rect → Point → Point
 from_place None q = q
 from_place (Some r) q = point (q.x -ℤ r.l) (q.y -ℤ r.t)
 
-covers_place : (ws : List Window) (q : Point) (v : Hwnd) → covers_in ws q v ≡ has_place (shown_place ws v.0) q
+pub covers_place : (ws : List Window) (q : Point) (v : Hwnd) → covers_in ws q v ≡ has_place (shown_place ws v.0) q
 covers_place ws q v = pick (window_of ws v.0)
   where
     flag : (x : Window) (b : Bool) → (b && has_pixel (box_in x.row.place) q) ≡ has_place (cond b (Some x.row.place) None) q
@@ -47,7 +47,7 @@ covers_place ws q v = pick (window_of ws v.0)
     pick (Some x) = flag x (has_flag x.row.style WS_VISIBLE)
 
 -- what covers a point is shown
-shown_covers : (ws : List Window) (q : Point) (v : Hwnd) → covers_in ws q v ≡ true → shown_in ws v.0 ≡ true
+pub shown_covers : (ws : List Window) (q : Point) (v : Hwnd) → covers_in ws q v ≡ true → shown_in ws v.0 ≡ true
 shown_covers ws q v h = pick (window_of ws v.0) h
   where
     first : (a b : Bool) → (a && b) ≡ true → a ≡ true
@@ -58,7 +58,7 @@ shown_covers ws q v h = pick (window_of ws v.0) h
     pick None h = absurd (false≢true h)
     pick (Some x) h = first (has_flag x.row.style WS_VISIBLE) (has_pixel (box_in x.row.place) q) h
 
-inside_place : (ws : List Window) (q : Point) (v : Hwnd) → shown_in ws v.0 ≡ true → inside_of ws q v ≡ from_place (shown_place ws v.0) q
+pub inside_place : (ws : List Window) (q : Point) (v : Hwnd) → shown_in ws v.0 ≡ true → inside_of ws q v ≡ from_place (shown_place ws v.0) q
 inside_place ws q v h = pick (window_of ws v.0) h
   where
     flag : (x : Window) (b : Bool) → b ≡ true → point (q.x -ℤ x.row.place.l) (q.y -ℤ x.row.place.t) ≡ from_place (cond b (Some x.row.place) None) q
@@ -72,7 +72,7 @@ inside_place ws q v h = pick (window_of ws v.0) h
 
 -- ---- the highest of what is shown
 
-reverse_filter : {X : Type 0} (keep : X → Bool) (xs : List X) → reverse (filter keep xs) ≡ filter keep (reverse xs)
+pub reverse_filter : {X : Type 0} (keep : X → Bool) (xs : List X) → reverse (filter keep xs) ≡ filter keep (reverse xs)
 reverse_filter keep [] = refl
 reverse_filter {X = X} keep (x ∷ xs) = pick (reverse_filter keep xs) (keep x) refl ∙ sym (ap (filter keep) (reverse-append (x ∷ []) xs) ∙ filter-append keep (reverse xs) (x ∷ []))
   where
@@ -102,7 +102,7 @@ highest_shown ws z q w =
 -- ---- enough steps
 
 module _ (ws : List Window) (z : Layers) (last : ℕ) (ordered : IsOrdered 15 last ws) (children : AreChildren ws z) where
-  same_depth : (n m : ℕ) (q : Point) (w : Hwnd) → above_count w.0 ws ≤ n → above_count w.0 ws ≤ m → deepest_in n ws z q w ≡ deepest_in m ws z q w
+  pub same_depth : (n m : ℕ) (q : Point) (w : Hwnd) → above_count w.0 ws ≤ n → above_count w.0 ws ≤ m → deepest_in n ws z q w ≡ deepest_in m ws z q w
   same_depth zero zero q w h k = refl
   same_depth zero (suc m) q w h k = pick (highest_in ws z q w.0) refl
     where

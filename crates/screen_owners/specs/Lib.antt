@@ -1,3 +1,4 @@
+pub mod Joined
 pub mod Owners
 pub mod Shares
 pub mod Shown

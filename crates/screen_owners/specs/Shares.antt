@@ -13,8 +13,9 @@ use Rattle.window_state.specs.Pixels.{covers_in, highest_in, inside_of}
 use Rattle.screen_owners.specs.declared.covers.Cover.{Cover}
 use Rattle.screen_owners.specs.declared.lefts.Left.{Left}
 use Rattle.screen_owners.specs.declared.screen.Corner.{Corner}
+use Rattle.screen_owners.specs.declared.screen.Part.{Part}
 use Rattle.screen_owners.specs.declared.shares.Share.{Share}
-use Rattle.screen_owners.specs.Owners.{is_on_screen}
+use Rattle.screen_owners.specs.Owners.{is_within}
 
 -- the pixel, counted from a corner
 abbrev pub seen_from : Corner → Point → Point
@@ -102,22 +103,22 @@ pub record IsOver (ls : List Left) (i j : ℕ) : Type 0 where
 abbrev pub share_window : Share → Hwnd
 share_window s = s.window
 
--- a share has the pixels of the screen on whose way down its window lies
-pub record IsShare (ws : List Window) (z : Layers) (width height : ℕ) (s : Share) : Type 0 where
+-- a share has the pixels of the part of the screen on whose way down its window lies
+pub record IsShare (ws : List Window) (z : Layers) (part : Part) (s : Share) : Type 0 where
   pub near : IsNear s.window.0 s.corner
-  pub on_screen : (p : Point) → region_has s.taken p ≡ true → is_on_screen width height p ≡ true
+  pub inside : (p : Point) → region_has s.taken p ≡ true → is_within part p ≡ true
   pub passes : (p : Point) → region_has s.taken p ≡ true → Passes ws z p s.window (seen_from s.corner p)
-  pub all : (p q : Point) → is_on_screen width height p ≡ true → Passes ws z p s.window q → (region_has s.taken p ≡ true) × (q ≡ seen_from s.corner p)
+  pub all : (p q : Point) → is_within part p ≡ true → Passes ws z p s.window q → (region_has s.taken p ≡ true) × (q ≡ seen_from s.corner p)
   pub covers : (p : Point) → region_has s.taken p ≡ true → AreCovers ws z s.corner s.window.0 p s.covers.items
   pub lefts : All (IsLeft s.taken s.covers.items) s.lefts.items
 
--- the share of a window, with the pixels of the screen on whose way down it lies
-abbrev pub IsShareOf : List Window → Layers → ℕ → ℕ → Hwnd → Share → Type 0
-IsShareOf ws z width height w s = (s.window ≡ w) × IsShare ws z width height s
+-- the share of a window, with the pixels of the part on whose way down it lies
+abbrev pub IsShareOf : List Window → Layers → Part → Hwnd → Share → Type 0
+IsShareOf ws z part w s = (s.window ≡ w) × IsShare ws z part s
 
--- the way down to no pixel of the screen comes through the window
-abbrev pub IsUnreached : List Window → Layers → ℕ → ℕ → Hwnd → Type 0
-IsUnreached ws z width height w = (p q : Point) → is_on_screen width height p ≡ true → Passes ws z p w q → ⊥
+-- the way down to no pixel of the part comes through the window
+abbrev pub IsUnreached : List Window → Layers → Part → Hwnd → Type 0
+IsUnreached ws z part w = (p q : Point) → is_within part p ≡ true → Passes ws z p w q → ⊥
 
 -- the share at the place is that of the window's parent
 pub record IsParentAt (ws : List Window) (ss : List Share) (w : Hwnd) (i : ℕ) : Type 0 where
@@ -140,21 +141,21 @@ IsOlderShare a b = a.window.0 < b.window.0
 abbrev pub is_one_of : List Hwnd → Hwnd → Bool
 is_one_of us w = list_any (λ v. v.0 == w.0) us
 
--- of these windows, each has its share, by rising number, that the way down to a pixel of the screen comes through
-pub record AreSharesOf (ws : List Window) (z : Layers) (width height : ℕ) (us : List Hwnd) (ss : List Share) : Type 0 where
-  pub each : All (IsShare ws z width height) ss
+-- of these windows, each has its share, by rising number, that the way down to a pixel of the part comes through
+pub record AreSharesOf (ws : List Window) (z : Layers) (part : Part) (us : List Hwnd) (ss : List Share) : Type 0 where
+  pub each : All (IsShare ws z part) ss
   pub older : AllPairs IsOlderShare ss
   pub among : All (λ s. is_one_of us s.window ≡ true) ss
-  pub reached : (w : Hwnd) (p q : Point) → is_one_of us w ≡ true → is_on_screen width height p ≡ true → Passes ws z p w q → has_share ss w.0 ≡ true
+  pub reached : (w : Hwnd) (p q : Point) → is_one_of us w ≡ true → is_within part p ≡ true → Passes ws z p w q → has_share ss w.0 ≡ true
 
 -- the screen and the live windows
 abbrev pub screen_and : List Window → List Hwnd
 screen_and ws = nobody ∷ map number_of ws
 
 -- all have their shares
-abbrev pub IsSharedOut : List Window → Layers → ℕ → ℕ → List Share → Type 0
-IsSharedOut ws z width height ss = AreSharesOf ws z width height (screen_and ws) ss
+abbrev pub IsSharedOut : List Window → Layers → Part → List Share → Type 0
+IsSharedOut ws z part ss = AreSharesOf ws z part (screen_and ws) ss
 
 -- as far as the place
-abbrev pub IsSharedUpTo : ℕ → List Window → Layers → ℕ → ℕ → List Share → Type 0
-IsSharedUpTo k ws z width height ss = AreSharesOf ws z width height (nobody ∷ take k (map number_of ws)) ss
+abbrev pub IsSharedUpTo : ℕ → List Window → Layers → Part → List Share → Type 0
+IsSharedUpTo k ws z part ss = AreSharesOf ws z part (nobody ∷ take k (map number_of ws)) ss

@@ -5,10 +5,10 @@ ghost use Rattle.std.specs.List.{list_any};
 ghost use Rattle.win_num.specs.declared.shapes.Point.{Point};
 ghost use Rattle.band_region.specs.Regions.{rect_has, region_has};
 ghost use Rattle.window_state.specs.Pixels.{covers_in};
-ghost use Rattle.screen_owners.specs.Owners.{is_on_screen};
+ghost use Rattle.screen_owners.specs.Owners.{is_on_screen, is_within};
 ghost use Rattle.screen_owners.specs.Shares.{any_covers, overlaps, part_has, seen_from, AreCovers, IsLastAt, IsNear, IsPut, IsTaken};
 
-use crate::screen::{Corner, Screen, part_of};
+use crate::screen::{Corner, Part, Screen, part_of};
 use band_region::Region;
 use std::alloc::{AllocError, Global};
 use win_num::{Hwnd, Rect, names};
@@ -16,7 +16,7 @@ use win_order::Order;
 use win_tree::Tree;
 
 /// The style of a window that is shown where its ancestors are.
-const VISIBLE: u32 = names::WS_VISIBLE as u32;
+pub const VISIBLE: u32 = names::WS_VISIBLE as u32;
 
 /// A visible child, and the pixels of the screen that it has.
 #[derive(Clone, Copy, Debug, Drop)]
@@ -27,7 +27,7 @@ pub struct Cover {
 
 /// The pixels of the screen that a visible child of a window with this corner has. None comes where it
 /// isn't visible.
-fn part_shown(screen: Screen, tree: &Tree, w: Hwnd, corner: Corner) -> Option<Rect>
+pub fn part_shown(screen: Screen, tree: &Tree, w: Hwnd, corner: Corner) -> Option<Rect>
     requires { IsNear 4294967296 corner }
     ensures { (p : Point) → is_on_screen screen.width screen.height p ≡ true → part_has result p ≡ covers_in tree.now.live (seen_from corner p) w }
 {
@@ -37,41 +37,68 @@ fn part_shown(screen: Screen, tree: &Tree, w: Hwnd, corner: Corner) -> Option<Re
     }
 }
 
-/// Puts a child of a window with this corner above the covers, where it is visible.
+/// The rectangle, where it meets the part.
+fn met(part: &Part, place: Rect) -> Option<Rect>
+    ensures { (p : Point) → region_has part.now.region p ≡ true → part_has result p ≡ rect_has place p }
+{
+    if meets(&part.region, place) {
+        Some(place)
+    } else {
+        None
+    }
+}
+
+/// The pixels of the screen that a visible child of a window with this corner has, where they meet the part.
+pub fn part_met(part: &Part, tree: &Tree, w: Hwnd, corner: Corner) -> Option<Rect>
+    requires { IsNear 4294967296 corner }
+    ensures { (p : Point) → is_within part.now p ≡ true → part_has result p ≡ covers_in tree.now.live (seen_from corner p) w }
+{
+    match part_shown(part.screen, tree, w, corner) {
+        Some(place) => met(part, place),
+        None => None,
+    }
+}
+
+/// Puts a child of a window with this corner above the covers, where it is visible and may have a pixel of
+/// the part.
 #[tactic(auto, using(crate::proofs::Cuts::put_some, crate::proofs::Cuts::put_none))]
 fn put(
     covers: &mut Vec<Cover>,
-    screen: Screen,
+    part: &Part,
     tree: &Tree,
     w: Hwnd,
     corner: Corner,
 ) -> Result<(), AllocError>
     requires { IsNear 4294967296 corner }
-    ensures { OnOk result ((p : Point) → is_on_screen screen.width screen.height p ≡ true → IsPut tree.now.live w (seen_from corner p) p covers.old.items covers.new.items) }
+    ensures { OnOk result ((p : Point) → is_within part.now p ≡ true → IsPut tree.now.live w (seen_from corner p) p covers.old.items covers.new.items) }
 {
-    if let Some(part) = part_shown(screen, tree, w, corner) {
-        covers.push(Cover { window: w, part })?;
+    if let Some(place) = part_met(part, tree, w, corner) {
+        covers.push(Cover {
+            window: w,
+            part: place,
+        })?;
     }
     Ok(())
 }
 
-/// The visible children of a window with this corner, from the bottom to the top.
+/// The visible children of a window with this corner that may have a pixel of the part, from the bottom to
+/// the top.
 #[tactic(auto, using(crate::proofs::Cuts::put_more))]
 pub fn covers_of(
     alloc: Global,
-    screen: Screen,
+    part: &Part,
     tree: &Tree,
     order: &Order,
     w: Hwnd,
     corner: Corner,
 ) -> Result<Vec<Cover>, AllocError>
     requires { IsNear 4294967296 corner }
-    ensures { IfOk result (λ v. (p : Point) → is_on_screen screen.width screen.height p ≡ true → AreCovers tree.now.live order.now corner w.0 p v.items) }
+    ensures { IfOk result (λ v. (p : Point) → is_within part.now p ≡ true → AreCovers tree.now.live order.now corner w.0 p v.items) }
 {
     let mut covers = Vec::new(alloc);
     let siblings = order.siblings(w);
     for child in siblings {
-        put(&mut covers, screen, tree, *child, corner)?;
+        put(&mut covers, part, tree, *child, corner)?;
     }
     Ok(covers)
 }

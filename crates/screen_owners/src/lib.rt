@@ -6,15 +6,19 @@
 //! the parent's own.
 #![tactic(auto)]
 
+mod changes;
+mod corners;
 mod covers;
+mod joined;
 pub mod laws;
 mod lefts;
 mod owners;
 mod screen;
 mod shares;
 
-pub use owners::{Owned, Owners, owned_regions};
-pub use screen::Screen;
+pub use changes::changed_part;
+pub use owners::{Owned, Owners, owned_regions, owned_regions_again};
+pub use screen::{Part, Screen};
 
 #[cfg(test)]
 mod tests;

@@ -1,14 +1,16 @@
 //! The regions that windows own on the screen.
 
-ghost use Rattle.std.specs.Prelude.{◌≡◌, IfOk, option_copied, option_map};
+ghost use Rattle.std.specs.Prelude.{◌≡◌, IfOk, OnOk, option_copied, option_map};
 ghost use Rattle.win_num.specs.declared.shapes.Point.{Point};
 ghost use Rattle.band_region.specs.Regions.{region_has};
 ghost use Rattle.win_rows.specs.Windows.{IsOrdered};
-ghost use Rattle.screen_owners.specs.Owners.{entry_of, owned_region, AreChildren, AreOwners, IsOwned};
-ghost use Rattle.screen_owners.specs.Shares.{AreSharesOf, IsShare, IsSharedOut};
+ghost use Rattle.screen_owners.specs.Owners.{entry_of, owned_region, AreChildren, AreOwners, AreOwnersIn, AreOwnersOutside, IsOwned};
+ghost use Rattle.screen_owners.specs.Joined.{AreJoined, IsJoined};
+ghost use Rattle.screen_owners.specs.Shares.{screen_and, AreSharesOf, IsShare, IsSharedOut};
 
+use crate::joined::joined;
 use crate::lefts::left_by_all;
-use crate::screen::Screen;
+use crate::screen::{Part, Screen, whole_screen};
 use crate::shares::{Share, shares_of};
 use band_region::Region;
 use std::alloc::{AllocError, Global};
@@ -96,26 +98,92 @@ pub fn owned_regions(
     requires { AreChildren tree.now.live order.now }
     ensures { IfOk result (AreOwners tree.now.live order.now screen.width screen.height) }
 {
-    let shares = shares_of(alloc, screen, tree, order)?;
-    owners_of(alloc, screen, tree, order, &shares)
+    let part = whole_screen(alloc, screen)?;
+    regions_in(alloc, &part, tree, order)
+}
+
+/// The pixels of the screen that windows own, where they changed in a part of it alone: a window has those of
+/// its old region that aren't in the part, and in the part it has those that it owns by the two tables. Where
+/// the old regions have the right pixels outside of the part, all have them.
+pub fn owned_regions_again(
+    alloc: Global,
+    part: &Part,
+    tree: &Tree,
+    order: &Order,
+    old: &Owners,
+) -> Result<Owners, AllocError>
+    requires { AreChildren tree.now.live order.now }
+    ensures { IfOk result (λ os. AreOwnersOutside tree.now.live order.now part.now old.now → AreOwners tree.now.live order.now part.now.screen.width part.now.screen.height os) }
+{
+    let new = regions_in(alloc, part, tree, order)?;
+    let owners = joined_all(alloc, &part.region, tree, old, &new)?;
+    Ok(owners)
+}
+
+/// The regions of the screen and of all windows, joined, without those that have no pixels.
+fn joined_all(
+    alloc: Global,
+    part: &Region,
+    tree: &Tree,
+    old: &Owners,
+    new: &Owners,
+) -> Result<Owners, AllocError>
+    ensures ordered { IfOk result (λ _. IsOrdered 15 tree.now.last tree.now.live) }
+    ensures joined { IfOk result (AreJoined part.now old.now new.now (screen_and tree.now.live)) }
+{
+    let windows = tree.windows();
+    let mut entries = Vec::new(alloc);
+    push_joined(alloc, &mut entries, part, old, new, Hwnd(0))?;
+    for w in windows {
+        push_joined(alloc, &mut entries, part, old, new, *w)?;
+    }
+    Ok(Owners { entries })
+}
+
+/// Puts a window's regions, joined, behind the entries, where they have a pixel.
+fn push_joined(
+    alloc: Global,
+    entries: &mut Vec<Owned>,
+    part: &Region,
+    old: &Owners,
+    new: &Owners,
+    w: Hwnd,
+) -> Result<(), AllocError>
+    ensures { OnOk result (IsJoined part.now old.now new.now w entries.old.items entries.new.items) }
+{
+    let region = joined(alloc, part, old, new, w)?;
+    if region.rects().is_empty() {
+        return Ok(());
+    }
+    entries.push(Owned { window: w, region })?;
+    Ok(())
+}
+
+/// The pixels of a part of the screen that windows own, as `owned_regions` has those of all of it.
+fn regions_in(alloc: Global, part: &Part, tree: &Tree, order: &Order) -> Result<Owners, AllocError>
+    requires { AreChildren tree.now.live order.now }
+    ensures { IfOk result (AreOwnersIn tree.now.live order.now part.now) }
+{
+    let shares = shares_of(alloc, part, tree, order)?;
+    owners_of(alloc, part, tree, order, &shares)
 }
 
 /// What each share leaves to none of its children.
 fn owners_of(
     alloc: Global,
-    screen: Screen,
+    part: &Part,
     tree: &Tree,
     order: &Order,
     shares: &[Share],
 ) -> Result<Owners, AllocError>
     requires ordered { IsOrdered 15 tree.now.last tree.now.live }
     requires children { AreChildren tree.now.live order.now }
-    requires shares { IsSharedOut tree.now.live order.now screen.width screen.height shares.now }
-    ensures { IfOk result (AreOwners tree.now.live order.now screen.width screen.height) }
+    requires shares { IsSharedOut tree.now.live order.now part.now shares.now }
+    ensures { IfOk result (AreOwnersIn tree.now.live order.now part.now) }
 {
     let mut entries = Vec::new(alloc);
     for share in shares {
-        entries.push(owned_of(alloc, screen, tree, order, share)?)?;
+        entries.push(owned_of(alloc, part, tree, order, share)?)?;
     }
     Ok(Owners { entries })
 }
@@ -123,16 +191,16 @@ fn owners_of(
 /// What a window leaves to none of its children.
 fn owned_of(
     alloc: Global,
-    screen: Screen,
+    part: &Part,
     tree: &Tree,
     order: &Order,
     share: &Share,
 ) -> Result<Owned, AllocError>
     requires ordered { IsOrdered 15 tree.now.last tree.now.live }
     requires children { AreChildren tree.now.live order.now }
-    requires share { IsShare tree.now.live order.now screen.width screen.height share.now }
+    requires share { IsShare tree.now.live order.now part.now share.now }
     ensures window { IfOk result (λ o. o.window ≡ share.now.window) }
-    ensures owned { IfOk result (IsOwned tree.now.live order.now screen.width screen.height) }
+    ensures owned { IfOk result (IsOwned tree.now.live order.now part.now) }
 {
     let region = left_by_all(alloc, &share.taken, &share.covers, &share.lefts)?;
     Ok(Owned {

@@ -1,13 +1,15 @@
 //! The screen, and the part of a window that is on it.
 
-ghost use Rattle.std.specs.Prelude.{◌≡◌, ◌+ℤ◌, ◌≤ℤ◌, negsuc, pos, true};
+ghost use Rattle.std.specs.Prelude.{◌≡◌, ◌+ℤ◌, ◌≤ℤ◌, negsuc, pos, true, IfOk};
 ghost use Rattle.win_num.specs.declared.shapes.Point.{Point};
 ghost use Rattle.win_num.specs.PixelSets.{box, has_pixel, least, most};
 ghost use Rattle.win_num.specs.Rects.{box_in};
-ghost use Rattle.band_region.specs.Regions.{rect_has};
-ghost use Rattle.screen_owners.specs.Owners.{is_on_screen};
+ghost use Rattle.band_region.specs.Regions.{rect_has, region_has};
+ghost use Rattle.screen_owners.specs.Owners.{is_on_screen, is_within};
 ghost use Rattle.screen_owners.specs.Shares.{seen_from, IsNear};
 
+use band_region::Region;
+use std::alloc::{AllocError, Global};
 use win_num::{Rect, rect};
 
 /// A screen of so many pixels.
@@ -15,6 +17,13 @@ use win_num::{Rect, rect};
 pub struct Screen {
     pub width: u16,
     pub height: u16,
+}
+
+/// A screen, and a region whose pixels of the screen are a part of it.
+#[derive(Drop)]
+pub struct Part {
+    pub screen: Screen,
+    pub region: Region,
 }
 
 /// A window's left top corner on the screen, in pixels. It may be far off the screen.
@@ -78,4 +87,29 @@ pub fn part_of(screen: Screen, corner: Corner, place: Rect) -> Rect
     let r = edge_on_screen(corner.x, place.r(), screen.width);
     let b = edge_on_screen(corner.y, place.b(), screen.height);
     known_rect(l, t, r, b)
+}
+
+/// All pixels of the screen.
+fn pixels_of(alloc: Global, screen: Screen) -> Result<Region, AllocError>
+    ensures { IfOk result (λ x. (p : Point) → region_has x p ≡ is_on_screen screen.width screen.height p) }
+{
+    let whole = known_rect(0, 0, i32::from(screen.width), i32::from(screen.height));
+    Region::of_rect(alloc, whole)
+}
+
+/// The whole screen.
+pub fn whole_screen(alloc: Global, screen: Screen) -> Result<Part, AllocError>
+    ensures screen { IfOk result (λ x. x.screen ≡ screen) }
+    ensures pixels { IfOk result (λ x. (p : Point) → region_has x.region p ≡ is_on_screen screen.width screen.height p) }
+{
+    let region = pixels_of(alloc, screen)?;
+    Ok(Part { screen, region })
+}
+
+/// The pixels of the screen that are in the part.
+pub fn pixels_in(alloc: Global, part: &Part) -> Result<Region, AllocError>
+    ensures { IfOk result (λ x. (p : Point) → region_has x p ≡ is_within part.now p) }
+{
+    let whole = pixels_of(alloc, part.screen)?;
+    whole.and(alloc, &part.region)
 }

@@ -1,4 +1,4 @@
-//! The part of the screen that each window has to share out among its children and itself.
+//! The pixels of a part of the screen that each window has to share out among its children and itself.
 
 ghost use Rattle.std.specs.Prelude.{◌≡◌, ◌<◌, true, length, map, IfOk, IfSome, IfNone, MatchOption, slice_index_or};
 ghost use Rattle.win_num.specs.declared.shapes.Point.{Point};
@@ -7,9 +7,9 @@ ghost use Rattle.screen_owners.specs.Owners.{AreChildren};
 ghost use Rattle.screen_owners.specs.Shares.{IsBelow, IsLastAt, IsMovedBy, IsNear, IsOlderShare, IsParentAt, IsParentless, IsShare, IsShareOf, IsSharedOut, IsSharedUpTo, IsUnreached};
 ghost use Rattle.std.specs.List.{AllPairs};
 
-use crate::covers::{Cover, covers_of, place_in};
+use crate::covers::{Cover, covers_of, part_met, place_in};
 use crate::lefts::{Left, lefts_of, taken_of};
-use crate::screen::{Corner, Screen, known_rect, moved_by};
+use crate::screen::{Corner, Part, moved_by, pixels_in};
 use band_region::Region;
 use std::alloc::{AllocError, Global};
 use win_num::Hwnd;
@@ -22,9 +22,9 @@ pub struct Share {
     pub window: Hwnd,
     /// Its left top corner on the screen.
     pub corner: Corner,
-    /// The pixels of the screen that the way down to it comes through.
+    /// The pixels of the part that the way down to it comes through.
     pub taken: Region,
-    /// Its visible children, from the bottom to the top.
+    /// Its visible children that may have a pixel of the part, from the bottom to the top.
     pub covers: Vec<Cover>,
     /// What ever more of these leave of the pixels, from the top down.
     pub lefts: Vec<Left>,
@@ -34,40 +34,34 @@ pub struct Share {
 /// number.
 pub fn shares_of(
     alloc: Global,
-    screen: Screen,
+    part: &Part,
     tree: &Tree,
     order: &Order,
 ) -> Result<Vec<Share>, AllocError>
     requires { AreChildren tree.now.live order.now }
     ensures ordered { IfOk result (λ _. IsOrdered 15 tree.now.last tree.now.live) }
-    ensures shares { IfOk result (λ v. IsSharedOut tree.now.live order.now screen.width screen.height v.items) }
+    ensures shares { IfOk result (λ v. IsSharedOut tree.now.live order.now part.now v.items) }
 {
     let windows = tree.windows();
     let mut shares = Vec::new(alloc);
-    shares.push(screen_share(alloc, screen, tree, order)?)?;
+    shares.push(screen_share(alloc, part, tree, order)?)?;
     for k in 0..windows.len() {
-        if let Some(share) = share_of(alloc, screen, tree, order, &shares, k)? {
+        if let Some(share) = share_of(alloc, part, tree, order, &shares, k)? {
             shares.push(share)?;
         }
     }
     Ok(shares)
 }
 
-/// The whole screen.
-fn screen_share(
-    alloc: Global,
-    screen: Screen,
-    tree: &Tree,
-    order: &Order,
-) -> Result<Share, AllocError>
+/// The whole part.
+fn screen_share(alloc: Global, part: &Part, tree: &Tree, order: &Order) -> Result<Share, AllocError>
     requires ordered { IsOrdered 15 tree.now.last tree.now.live }
     requires children { AreChildren tree.now.live order.now }
-    ensures { IfOk result (IsShareOf tree.now.live order.now screen.width screen.height nobody) }
+    ensures { IfOk result (IsShareOf tree.now.live order.now part.now nobody) }
 {
     let corner = Corner { x: 0, y: 0 };
-    let whole = known_rect(0, 0, i32::from(screen.width), i32::from(screen.height));
-    let taken = Region::of_rect(alloc, whole)?;
-    let covers = covers_of(alloc, screen, tree, order, Hwnd(0), corner)?;
+    let taken = pixels_in(alloc, part)?;
+    let covers = covers_of(alloc, part, tree, order, Hwnd(0), corner)?;
     let lefts = lefts_of(alloc, &taken, &covers)?;
     Ok(Share {
         window: Hwnd(0),
@@ -82,7 +76,7 @@ fn screen_share(
 /// where the way down to no pixel comes through it.
 fn share_of(
     alloc: Global,
-    screen: Screen,
+    part: &Part,
     tree: &Tree,
     order: &Order,
     shares: &[Share],
@@ -90,12 +84,12 @@ fn share_of(
 ) -> Result<Option<Share>, AllocError>
     requires children { AreChildren tree.now.live order.now }
     requires within { k < length tree.now.live }
-    requires shares { IsSharedUpTo k tree.now.live order.now screen.width screen.height shares.now }
-    ensures { (w : Hwnd) → w ≡ slice_index_or (map number_of tree.now.live) k w → IfOk result (λ s. MatchOption s (IsUnreached tree.now.live order.now screen.width screen.height w) (IsShareOf tree.now.live order.now screen.width screen.height w)) }
+    requires shares { IsSharedUpTo k tree.now.live order.now part.now shares.now }
+    ensures { (w : Hwnd) → w ≡ slice_index_or (map number_of tree.now.live) k w → IfOk result (λ s. MatchOption s (IsUnreached tree.now.live order.now part.now w) (IsShareOf tree.now.live order.now part.now w)) }
 {
     let w = tree.windows()[k];
     match parent_in(tree, shares, w) {
-        Some(i) => share_under(alloc, screen, tree, order, &shares[i], w),
+        Some(i) => share_under(alloc, part, tree, order, &shares[i], w),
         None => Ok(None),
     }
 }
@@ -115,10 +109,10 @@ fn parent_in(tree: &Tree, shares: &[Share], w: Hwnd) -> Option<usize>
     }
 }
 
-/// What a window has of its parent's share.
+/// What a window has of its parent's share. One that has no pixel of the part isn't looked up among the covers.
 fn share_under(
     alloc: Global,
-    screen: Screen,
+    part: &Part,
     tree: &Tree,
     order: &Order,
     parent: &Share,
@@ -126,12 +120,35 @@ fn share_under(
 ) -> Result<Option<Share>, AllocError>
     requires ordered { IsOrdered 15 tree.now.last tree.now.live }
     requires children { AreChildren tree.now.live order.now }
-    requires parent { IsShare tree.now.live order.now screen.width screen.height parent.now }
+    requires parent { IsShare tree.now.live order.now part.now parent.now }
     requires below { IsBelow tree.now.live parent.now.window w }
-    ensures { IfOk result (λ s. MatchOption s (IsUnreached tree.now.live order.now screen.width screen.height w) (IsShareOf tree.now.live order.now screen.width screen.height w)) }
+    ensures { IfOk result (λ s. MatchOption s (IsUnreached tree.now.live order.now part.now w) (IsShareOf tree.now.live order.now part.now w)) }
+{
+    // It is read for its range: 32 bits bound how far the corner is.
+    let _number = parent.window.0;
+    match part_met(part, tree, w, parent.corner) {
+        Some(_) => share_met(alloc, part, tree, order, parent, w),
+        None => Ok(None),
+    }
+}
+
+/// The same of a window that may have a pixel of the part.
+fn share_met(
+    alloc: Global,
+    part: &Part,
+    tree: &Tree,
+    order: &Order,
+    parent: &Share,
+    w: Hwnd,
+) -> Result<Option<Share>, AllocError>
+    requires ordered { IsOrdered 15 tree.now.last tree.now.live }
+    requires children { AreChildren tree.now.live order.now }
+    requires parent { IsShare tree.now.live order.now part.now parent.now }
+    requires below { IsBelow tree.now.live parent.now.window w }
+    ensures { IfOk result (λ s. MatchOption s (IsUnreached tree.now.live order.now part.now w) (IsShareOf tree.now.live order.now part.now w)) }
 {
     match place_in(&parent.covers, w) {
-        Some(i) => child_share(alloc, screen, tree, order, parent, w, i),
+        Some(i) => child_share(alloc, part, tree, order, parent, w, i),
         None => Ok(None),
     }
 }
@@ -139,7 +156,7 @@ fn share_under(
 /// What a visible child has of its parent's share, where it is the cover at a place.
 fn child_share(
     alloc: Global,
-    screen: Screen,
+    part: &Part,
     tree: &Tree,
     order: &Order,
     parent: &Share,
@@ -148,10 +165,10 @@ fn child_share(
 ) -> Result<Option<Share>, AllocError>
     requires ordered { IsOrdered 15 tree.now.last tree.now.live }
     requires children { AreChildren tree.now.live order.now }
-    requires parent { IsShare tree.now.live order.now screen.width screen.height parent.now }
+    requires parent { IsShare tree.now.live order.now part.now parent.now }
     requires below { IsBelow tree.now.live parent.now.window w }
     requires last { IsLastAt parent.now.covers.items w.0 i }
-    ensures { IfOk result (λ s. MatchOption s (IsUnreached tree.now.live order.now screen.width screen.height w) (IsShareOf tree.now.live order.now screen.width screen.height w)) }
+    ensures { IfOk result (λ s. MatchOption s (IsUnreached tree.now.live order.now part.now w) (IsShareOf tree.now.live order.now part.now w)) }
 {
     // It is read for its range: 32 bits bound how far the corner is.
     let _number = parent.window.0;
@@ -160,7 +177,7 @@ fn child_share(
         return Ok(None);
     }
     let corner = corner_of(tree, parent.corner, w);
-    let covers = covers_of(alloc, screen, tree, order, w, corner)?;
+    let covers = covers_of(alloc, part, tree, order, w, corner)?;
     let lefts = lefts_of(alloc, &taken, &covers)?;
     Ok(Some(Share {
         window: w,

@@ -31,7 +31,7 @@ use Rattle.dirty_windows.specs.LookUps.{area_in, erases_in, is_among}
 use Rattle.screen_state.specs.Entries.{IsEntered}
 use Rattle.screen_state.specs.Shown.{changes_owners}
 use Rattle.screen_state.specs.Screens.{FollowsScreen, Kept, LeavesScreen, draws, keeps_screen}
-use Rattle.screen_state.proofs.Followed.{of_past}
+use Rattle.screen_state.proofs.Followed.{at_tables, of_past}
 use Rattle.screen_state.proofs.Screens.{changed_follow}
 use Rattle.screen_state.proofs.Undrawn.{undrawn}
 
@@ -54,8 +54,8 @@ numbered (x ∷ ws) w = pick (numbered ws w) (eqb x.number.0 w)
 
 -- ---- the screen that was computed
 
-pub changed_leaves : (setup : Setup) (t t2 : Windows) (z2 : Layers) (old : Kept) (os : List Owned) (moved : List Hwnd) (ds left_dirty : List DirtyWindow) (left : List Hwnd)
-    → AreOwners t2.live z2 setup.width setup.height os
+pub changed_leaves : (setup : Setup) (t : Windows) (z : Layers) (t2 : Windows) (z2 : Layers) (old : Kept) (os : List Owned) (moved : List Hwnd) (ds left_dirty : List DirtyWindow) (left : List Hwnd)
+    → (AreOwners t.live z setup.width setup.height old.owners → AreOwners t2.live z2 setup.width setup.height os)
     → AreMoved t t2 moved
     → ((w : ℕ) (p : Point) → region_has (area_in ds w) p ≡ ((region_has (area_in old.dirty w) p && region_has (region_in os w) p) || exposes old.owners os moved w p))
     → ((w : ℕ) (p : Point) → exposes old.owners os moved w p ≡ true → erases_in ds w ≡ true)
@@ -63,9 +63,9 @@ pub changed_leaves : (setup : Setup) (t t2 : Windows) (z2 : Layers) (old : Kept)
     → left ≡ map number_of t2.live
     → ((w : ℕ) → area_in left_dirty w ≡ cond (is_among w left) (area_in ds w) [])
     → ((w : ℕ) → erases_in left_dirty w ≡ (is_among w left && erases_in ds w))
-    → LeavesScreen setup t t2 z2 old (record { owners = os; dirty = left_dirty; sessions = old.sessions })
-changed_leaves setup t t2 z2 old os moved ds left_dirty left own shift area set same numbers kept_area kept_erases past e lawful tree tree2 order2 fine quiet was =
-    changed_follow setup past e lawful old os moved was (of_past setup (e ∷ past) t2 z2 os lawful tree2 order2 own) (shift setup past e lawful tree tree2) ds left_dirty left area set same kept_area kept_erases
+    → LeavesScreen setup t z t2 z2 old (record { owners = os; dirty = left_dirty; sessions = old.sessions })
+changed_leaves setup t z t2 z2 old os moved ds left_dirty left own shift area set same numbers kept_area kept_erases past e lawful tree order tree2 order2 fine quiet was =
+    changed_follow setup past e lawful old os moved was (of_past setup (e ∷ past) t2 z2 os lawful tree2 order2 (own (at_tables setup past t z old.owners lawful.0 tree order was.owners))) (shift setup past e lawful tree tree2) ds left_dirty left area set same kept_area kept_erases
     (λ w. ap (λ (hs : List Hwnd). is_among w hs) numbers ∙ (numbered t2.live w ∙ sym (is_live_at (e ∷ past) t2 tree2 w)))
     fine (undrawn setup past e.who.0 e.call e.answer (sym lawful.1) fine quiet)
 
@@ -97,8 +97,8 @@ changes call a s h = may_change (changes_owners call a) _ h
 pub draws_none : (call : Call) (a : Answer) (s : Kept) → keeps_screen call a s ≡ false → draws call a ≡ false
 draws_none call a s h = undraws call a (changes call a s h)
 
-pub entered_leaves : (setup : Setup) (t t2 : Windows) (z z2 : Layers) (e : Entry) (old new : Kept) → IsEntered e.who.0 e.answer e.call t t2 z z2 → keeps_screen e.call e.answer old ≡ false → LeavesScreen setup t t2 z2 old new → FollowsScreen setup t z e old new
+pub entered_leaves : (setup : Setup) (t t2 : Windows) (z z2 : Layers) (e : Entry) (old new : Kept) → IsEntered e.who.0 e.answer e.call t t2 z z2 → keeps_screen e.call e.answer old ≡ false → LeavesScreen setup t z t2 z2 old new → FollowsScreen setup t z e old new
 entered_leaves setup t t2 z z2 e old new made keeps leaves past lawful tree order right was =
     let tree2 = tree_after setup past e t made.grown t2 lawful tree right made.added made.settled in
     let order2 = order_after setup past e t made.grown t2 z made.placed z2 lawful tree tree2 order right made.added made.put made.left in
-    leaves past e (lawful, right) tree tree2 order2 (either_fine e.call e.answer (changes e.call e.answer old keeps)) (draws_none e.call e.answer old keeps) was
+    leaves past e (lawful, right) tree order tree2 order2 (either_fine e.call e.answer (changes e.call e.answer old keeps)) (draws_none e.call e.answer old keeps) was

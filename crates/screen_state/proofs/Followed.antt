@@ -64,6 +64,14 @@ entry_fits setup t z e n = record {
 pub of_past : (setup : Setup) (past : Past) (t : Windows) (z : Layers) (os : List Owned) → IsLawful setup past → IsTreeAt past t → IsOrderAt past z → AreOwners t.live z setup.width setup.height os → AreOwnersAt setup past os
 of_past setup past t z os lawful tree order own w p = own w p ∙ ap (λ (v : Hwnd). has_pixel (screen setup) p && eqb v.0 w.0) (owner_at_past setup past lawful t z tree order p.x p.y)
 
+-- the other way round
+pub at_tables : (setup : Setup) (past : Past) (t : Windows) (z : Layers) (os : List Owned) → IsLawful setup past → IsTreeAt past t → IsOrderAt past z → AreOwnersAt setup past os → AreOwners t.live z setup.width setup.height os
+at_tables setup past t z os lawful tree order own w p = own w p ∙ ap (λ (v : Hwnd). has_pixel (screen setup) p && eqb v.0 w.0) (sym (owner_at_past setup past lawful t z tree order p.x p.y))
+
+-- the table and the order before an entry list children
+pub next_children : (setup : Setup) (t : Windows) (z : Layers) (e : Entry) → IsNext setup t z e → AreChildren t.live z
+next_children setup t z e n = listed_children n.past t z (ordered_at setup n.past t n.lawful n.tree) n.tree n.order
+
 -- the table and the order that an entry leaves list children
 pub entered_children : (setup : Setup) (t t2 : Windows) (z z2 : Layers) (e : Entry) → IsNext setup t z e → IsEntered e.who.0 e.answer e.call t t2 z z2 → AreChildren t2.live z2
 entered_children setup t t2 z z2 e n made =

@@ -88,10 +88,10 @@ replaced (Some c) s = record { owners = c.owners; dirty = c.dirty; sessions = s.
 abbrev pub FollowsScreen : Setup → Windows → Layers → Entry → Kept → Kept → Type 0
 FollowsScreen setup t z e old new = (past : Past) → IsLawful setup past → IsTreeAt past t → IsOrderAt past z → e.answer ≡ reply setup past e.who.0 e.call → IsScreenAt setup past old → IsScreenAt setup (e ∷ past) new
 
--- where the old screen is that of a past that has made the table t, and an entry that draws nothing and isn't refused makes the table t2 and
--- the order z2, the new one is that with the entry
-abbrev pub LeavesScreen : Setup → Windows → Windows → Layers → Kept → Kept → Type 0
-LeavesScreen setup t t2 z2 old new = (past : Past) (e : Entry) → IsLawful setup (e ∷ past) → IsTreeAt past t → IsTreeAt (e ∷ past) t2 → IsOrderAt (e ∷ past) z2 → is_refused e ≡ false → draws e.call e.answer ≡ false → IsScreenAt setup past old → IsScreenAt setup (e ∷ past) new
+-- where the old screen is that of a past that has made the table t and the order z, and an entry that draws nothing and isn't refused makes
+-- the table t2 and the order z2, the new one is that with the entry
+abbrev pub LeavesScreen : Setup → Windows → Layers → Windows → Layers → Kept → Kept → Type 0
+LeavesScreen setup t z t2 z2 old new = (past : Past) (e : Entry) → IsLawful setup (e ∷ past) → IsTreeAt past t → IsOrderAt past z → IsTreeAt (e ∷ past) t2 → IsOrderAt (e ∷ past) z2 → is_refused e ≡ false → draws e.call e.answer ≡ false → IsScreenAt setup past old → IsScreenAt setup (e ∷ past) new
 
 -- the entry comes next after a lawful past that has made this table
 pub record IsDrawn (t : Windows) (e : Entry) : Type 0 where

@@ -67,3 +67,15 @@ pub fn owns_nothing(owners: &Owners) -> bool
 {
     owners.entries().iter().all(|o| o.window == Hwnd(0))
 }
+
+/// The window that an entry makes, drops, shows or puts at a place, or 0. It alone may stand elsewhere among its
+/// siblings, as far as the regions are computed anew in a part of the screen alone.
+pub fn subject(tree: &Tree, entry: Entry) -> Hwnd {
+    match (entry.call, entry.answer) {
+        (_, Answer::Window(w)) => w,
+        (Call::Place(w, ..) | Call::Show(w, _) | Call::Drop(w), _) => {
+            tree.find(w).unwrap_or(Hwnd(0))
+        }
+        _ => Hwnd(0),
+    }
+}

@@ -22,7 +22,7 @@ ghost use Rattle.screen_state.specs.Parts.{IsLiveAt};
 ghost use Rattle.screen_state.specs.Screens.{draws, keeps_screen, replaced, DrawsScreen, FollowsScreen, IsDrawn, IsEnded, IsInvalidated, IsReached, IsReachedPart, IsScreenAt, IsTaken, IsValidated, LeavesScreen};
 
 use crate::layout::{Layout, layout_after, moved_by};
-use crate::owned::{changes_owners, first_owners, owns_nothing, screen_of, shows};
+use crate::owned::{changes_owners, first_owners, owns_nothing, screen_of, shows, subject};
 use crate::part::client_part;
 use crate::reach::let_through;
 use crate::update::{UpdateBox, update_box};
@@ -30,7 +30,7 @@ use crate::walk::first_to_paint;
 use band_region::Region;
 use dirty_windows::DirtyWindows;
 use paint_sessions::PaintSessions;
-use screen_owners::{Owners, owned_regions};
+use screen_owners::{Owners, changed_part, owned_regions_again};
 use std::alloc::{AllocError, Global};
 use std::marker::Model;
 use user_model::{Answer, Call, Entry, Setup};
@@ -103,23 +103,29 @@ impl ScreenState {
             return Ok(None);
         }
         let layout = layout_after(alloc, tree, order, entry)?;
-        self.changed(alloc, setup, tree, &layout, entry)
+        self.changed(alloc, setup, tree, order, &layout, entry)
     }
 
     /// The owners and the dirty pixels where an entry has made other windows of a table, as `layout` has them.
+    /// Only the regions in the part of the screen are computed anew whose pixels may have another owner.
     fn changed(
         &self,
         alloc: Global,
         setup: Setup,
         tree: &Tree,
+        order: &Order,
         layout: &Layout,
         entry: Entry,
     ) -> Result<Option<ScreenChange>, AllocError>
+        requires before { AreChildren tree.now.live order.now }
         requires children { AreChildren layout.now.tree.live layout.now.order }
         requires made { IsMade tree.now layout.now.tree entry }
-        ensures { IfOk result (λ o. LeavesScreen setup tree.now layout.now.tree layout.now.order self.now (replaced o self.now)) }
+        ensures { IfOk result (λ o. LeavesScreen setup tree.now order.now layout.now.tree layout.now.order self.now (replaced o self.now)) }
     {
-        let owners = owned_regions(alloc, screen_of(setup), &layout.tree, &layout.order)?;
+        let w = subject(tree, entry);
+        let screen = screen_of(setup);
+        let part = changed_part(alloc, screen, tree, order, &layout.tree, &layout.order, w)?;
+        let owners = owned_regions_again(alloc, &part, &layout.tree, &layout.order, &self.owners)?;
         let moved = moved_by(alloc, tree, layout, entry)?;
         let mut dirty = self
             .dirty

@@ -8,7 +8,7 @@ use Rattle.screen_owners.proofs.owners.owners_of.Goals as goal
 
 pub loop-share-preserved : goal.loop-share-preserved
 loop-share-preserved c =
-    let P = IsOwned c.args.tree.now.live c.args.order.now c.args.screen.width c.args.screen.height in
+    let P = IsOwned c.args.tree.now.live c.args.order.now c.args.part.now in
     let es = c.loop-share.entries.items in
     let o = c.in_ok-owned_of.field-0 in
     record {
@@ -20,4 +20,4 @@ pub invariant_of-result : goal.invariant_of-result
 invariant_of-result c = entries_rise c.loop-share.entries.items c.args.shares.now (c.loop-share.invariant.windows ∙ ap (map share_window) (take_all c.loop-share.share-index c.args.shares.now (omega arith))) c.requires.shares.older
 
 pub returns : goal.returns
-returns c = are_owners c.args.tree.now.live c.args.order.now c.args.tree.now.last c.args.screen.width c.args.screen.height c.requires.ordered c.requires.children c.args.shares.now c.loop-share.entries.items c.requires.shares (c.loop-share.invariant.windows ∙ ap (map share_window) (take_all c.loop-share.share-index c.args.shares.now (omega arith))) c.loop-share.invariant.owned
+returns c = are_owners c.args.tree.now.live c.args.order.now c.args.tree.now.last c.args.part.now c.requires.ordered c.requires.children c.args.shares.now c.loop-share.entries.items c.requires.shares (c.loop-share.invariant.windows ∙ ap (map share_window) (take_all c.loop-share.share-index c.args.shares.now (omega arith))) c.loop-share.invariant.owned

@@ -7,5 +7,5 @@ use Rattle.screen_owners.proofs.owners.owners_of.Given as goal
 abbrev pub invariant-loop-share : goal.invariant-loop-share
 invariant-loop-share l = record {
   windows : map owned_window l.entries.items ≡ map share_window (take l.share-index l.shares);
-  owned : All (IsOwned l.tree.live l.order l.screen.width l.screen.height) l.entries.items;
+  owned : All (IsOwned l.tree.live l.order l.part) l.entries.items;
 }

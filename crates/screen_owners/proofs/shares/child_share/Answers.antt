@@ -18,9 +18,9 @@ covers_of-requires c =
 pub returns-then-is_empty : goal.returns-then-is_empty
 returns-then-is_empty c =
     let takes = subst (λ cs. IsTaken c.args.parent.now.taken cs c.args.i c.in_ok-taken.taken) c.deref.ensures.value c.in_ok-taken.ensures in
-    none_taken c.args.tree.now.live c.args.order.now c.args.tree.now.last c.args.screen.width c.args.screen.height c.requires.ordered c.requires.children c.args.parent.now c.in_ok-taken.taken c.args.w c.args.i c.requires.parent c.requires.below c.requires.last takes (ap length (sym c.rects.ensures.value) ∙ (Decides-eqb (length c.rects.result.now) 0).0 (sym c.is_empty.ensures ∙ c.if-is_empty.true))
+    none_taken c.args.tree.now.live c.args.order.now c.args.tree.now.last c.args.part.now c.requires.ordered c.requires.children c.args.parent.now c.in_ok-taken.taken c.args.w c.args.i c.requires.parent c.requires.below c.requires.last takes (ap length (sym c.rects.ensures.value) ∙ (Decides-eqb (length c.rects.result.now) 0).0 (sym c.is_empty.ensures ∙ c.if-is_empty.true))
 
 pub returns : goal.returns
 returns c =
     let takes = subst (λ cs. IsTaken c.args.parent.now.taken cs c.args.i c.in_ok-taken.taken) c.deref.ensures.value c.in_ok-taken.ensures in
-    (refl, child_share c.args.tree.now.live c.args.order.now c.args.tree.now.last c.args.screen.width c.args.screen.height c.requires.ordered c.requires.children c.args.parent.now _ c.args.i c.requires.parent c.requires.below c.requires.last takes c.corner_of-corner.ensures c.in_ok-covers.ensures (subst (λ cs. All (IsLeft c.in_ok-taken.taken cs) c.in_ok-lefts.lefts.items) c.deref-3.ensures.value c.in_ok-lefts.ensures))
+    (refl, child_share c.args.tree.now.live c.args.order.now c.args.tree.now.last c.args.part.now c.requires.ordered c.requires.children c.args.parent.now _ c.args.i c.requires.parent c.requires.below c.requires.last takes c.corner_of-corner.ensures c.in_ok-covers.ensures (subst (λ cs. All (IsLeft c.in_ok-taken.taken cs) c.in_ok-lefts.lefts.items) c.deref-3.ensures.value c.in_ok-lefts.ensures))

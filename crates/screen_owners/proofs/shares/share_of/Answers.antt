@@ -15,4 +15,4 @@ returns-in-None c w e =
     let none : Hwnd = record { 0 = 0 } in
     let within : c.args.k < length (map number_of ws) = subst (λ m. c.args.k < m) (sym (length-map ws number_of)) c.requires.within in
     let same : get_or c.windows.result.now c.args.k none ≡ w = ap (λ us. get_or us c.args.k none) c.windows.ensures.numbers ∙ (get_or_default (map number_of ws) c.args.k none w within ∙ sym e) in
-    not_reached ws c.args.order.now c.args.tree.now.last c.args.screen.width c.args.screen.height c.windows.ensures.ordered c.requires.children c.args.k w c.args.shares.now c.requires.within e c.requires.shares (subst (IsParentless ws c.args.shares.now) same c.in-None.ensures.none)
+    not_reached ws c.args.order.now c.args.tree.now.last c.args.part.now c.windows.ensures.ordered c.requires.children c.args.k w c.args.shares.now c.requires.within e c.requires.shares (subst (IsParentless ws c.args.shares.now) same c.in-None.ensures.none)

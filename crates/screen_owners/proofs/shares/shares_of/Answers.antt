@@ -21,9 +21,9 @@ loop-k-preserved c =
     let at : u ≡ get_or (map number_of ws) k u = get_or_default (map number_of ws) k none u within in
     elim c.match-branch-4.branch [
       | in-Some+in_ok-push-2 b ↦
-          let of = subst (λ o. MatchOption o (IsUnreached ws z c.args.screen.width c.args.screen.height u) (IsShareOf ws z c.args.screen.width c.args.screen.height u)) b.in-Some.is (c.in_ok-share.ensures u at) in
-          more_shared ws c.args.order.now c.args.tree.now.last c.args.screen.width c.args.screen.height c.windows-windows.ensures.ordered c.requires k u c.loop-k.shares.items c.match-branch-4.shares.items b.in-Some.share inside at (ap (λ v. v.items) b.shares-is ∙ b.in_ok-push-2.ensures.items) of c.loop-k.invariant
+          let of = subst (λ o. MatchOption o (IsUnreached ws z c.args.part.now u) (IsShareOf ws z c.args.part.now u)) b.in-Some.is (c.in_ok-share.ensures u at) in
+          more_shared ws c.args.order.now c.args.tree.now.last c.args.part.now c.windows-windows.ensures.ordered c.requires k u c.loop-k.shares.items c.match-branch-4.shares.items b.in-Some.share inside at (ap (λ v. v.items) b.shares-is ∙ b.in_ok-push-2.ensures.items) of c.loop-k.invariant
       | in_default b ↦
-          let never = subst (λ o. MatchOption o (IsUnreached ws z c.args.screen.width c.args.screen.height u) (IsShareOf ws z c.args.screen.width c.args.screen.height u)) b.in_default.is (c.in_ok-share.ensures u at) in
-          subst (λ v. IsSharedUpTo (k + 1) ws z c.args.screen.width c.args.screen.height v.items) (sym b.shares-is) (same_shared ws c.args.order.now c.args.tree.now.last c.args.screen.width c.args.screen.height c.windows-windows.ensures.ordered c.requires k u c.loop-k.shares.items inside at never c.loop-k.invariant)
+          let never = subst (λ o. MatchOption o (IsUnreached ws z c.args.part.now u) (IsShareOf ws z c.args.part.now u)) b.in_default.is (c.in_ok-share.ensures u at) in
+          subst (λ v. IsSharedUpTo (k + 1) ws z c.args.part.now v.items) (sym b.shares-is) (same_shared ws c.args.order.now c.args.tree.now.last c.args.part.now c.windows-windows.ensures.ordered c.requires k u c.loop-k.shares.items inside at never c.loop-k.invariant)
     ]

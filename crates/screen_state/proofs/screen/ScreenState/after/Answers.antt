@@ -2,7 +2,7 @@ use Rattle.std.proofs.Common.{◌≡◌, ◌∙◌, Option, false, sym}
 use Rattle.std.proofs.lemmas.Result.{IfOk-weaker}
 use Rattle.screen_state.specs.Screens.{Change, FollowsScreen, LeavesScreen, draws, replaced}
 use Rattle.screen_state.proofs.Changed.{entered_leaves}
-use Rattle.screen_state.proofs.Followed.{entered_children, entry_fits}
+use Rattle.screen_state.proofs.Followed.{entered_children, entry_fits, next_children}
 use Rattle.screen_state.proofs.Screens.{stays_follow}
 use Rattle.screen_state.proofs.Unmoved.{made_of}
 use Rattle.screen_state.proofs.screen.ScreenState.after.Goals as goal
@@ -12,6 +12,9 @@ returns-then-stays-clause-windows c quiet = stays_follow c.args.setup c.args.tre
 
 pub layout_after-requires : goal.layout_after-requires
 layout_after-requires c = entry_fits c.args.setup c.args.tree.now c.args.order.now c.args.entry c.requires
+
+pub changed-requires-clause-before : goal.changed-requires-clause-before
+changed-requires-clause-before c = next_children c.args.setup c.args.tree.now c.args.order.now c.args.entry c.requires
 
 pub changed-requires-clause-children : goal.changed-requires-clause-children
 changed-requires-clause-children c = entered_children c.args.setup c.args.tree.now c.in_ok-layout.layout.tree c.args.order.now c.in_ok-layout.layout.order c.args.entry c.requires c.in_ok-layout.ensures
@@ -25,6 +28,6 @@ returns-clause-windows c =
     let l = c.in_ok-layout.layout in
     let s = c.args.self.now in
     let e = c.args.entry in
-    IfOk-weaker c.changed.result (λ (o : Option Change). LeavesScreen c.args.setup t l.tree l.order s (replaced o s)) (λ (o : Option Change). draws e.call e.answer ≡ false → FollowsScreen c.args.setup t c.args.order.now e s (replaced o s))
+    IfOk-weaker c.changed.result (λ (o : Option Change). LeavesScreen c.args.setup t c.args.order.now l.tree l.order s (replaced o s)) (λ (o : Option Change). draws e.call e.answer ≡ false → FollowsScreen c.args.setup t c.args.order.now e s (replaced o s))
     (λ o leaves quiet. entered_leaves c.args.setup t l.tree c.args.order.now l.order e s (replaced o s) c.in_ok-layout.ensures (sym c.stays.ensures ∙ c.if-stays.false) leaves)
     c.changed.ensures
