@@ -21,6 +21,7 @@ KINDS = {
     "retrieval": "get peek dispatch status",
     "window": "register unregister new_window doom unmake drop place show enable find await_title next_top window_at is_window"
               " parent message",
+    "input": "mouse key key_state attach detach set_focus set_active set_capture release_capture get_focus get_active get_capture",
     "drawing": "invalidate validate update_rect begin_paint end_paint fill erase snap",
     "clock": "clock sleep_until yield tick advance set_timer kill_timer",
 }
@@ -29,7 +30,7 @@ STYLE = """
 svg{background:#fff}
 text{font:11px 'DejaVu Sans Mono',Menlo,Consolas,'Liberation Mono',monospace;fill:#333}
 .head{font-weight:bold}.side,.wait{fill:#777}
-.post{fill:#8f4a00}.send{fill:#1a4fa0}.retrieval{fill:#17652f}.window{fill:#5d2c8c}.drawing{fill:#96205f}.clock{fill:#4f4f4f}
+.post{fill:#8f4a00}.send{fill:#1a4fa0}.retrieval{fill:#17652f}.window{fill:#5d2c8c}.input{fill:#00606b}.drawing{fill:#96205f}.clock{fill:#4f4f4f}
 .refusal{fill:#b00000;font-weight:bold}
 rect.refused{fill:#ffd9d6;stroke:#d04040}
 .life{stroke:#999;stroke-width:2}.waits{stroke:#fff;stroke-width:2;stroke-dasharray:2 3}
@@ -37,6 +38,7 @@ rect.refused{fill:#ffd9d6;stroke:#d04040}
 .callback{fill:#fbf0cf;stroke:#c9a23c}.bar.wait{fill:none;stroke:#888;stroke-dasharray:3 3}
 .arrow path{fill:none;stroke-width:1.3}.arrow .tip{stroke:none}
 .arrow.post path{stroke:#c26a0a}.arrow.post .tip{fill:#c26a0a}.arrow.send path{stroke:#2f6fce}.arrow.send .tip{fill:#2f6fce}
+.arrow.input path{stroke:#0a8f9c}.arrow.input .tip{fill:#0a8f9c}
 .arrow.answer path{stroke:#2f6fce;stroke-dasharray:4 3}.arrow.answer .tip{fill:#2f6fce}
 .frame{image-rendering:pixelated}.edge{fill:none;stroke:#777}.guide{stroke:#eee}
 """
@@ -44,7 +46,9 @@ BARS = {
     "enter": "procedure for a send of another thread", "inside": "procedure for an own send", "called": "procedure of a dispatched message",
     "callback": "callback procedure", "wait": "wait for an answer",
 }
-ARROWS = {"post": "from post to retrieval", "send": "from send to its procedure", "answer": "back with the answer"}
+ARROWS = {
+    "post": "from post to retrieval", "input": "from input to retrieval", "send": "from send to its procedure", "answer": "back with the answer",
+}
 
 
 def shortened(text, room):

@@ -1,6 +1,6 @@
-"""What belongs together in a run: procedures from entry to end, posts and who takes them, sends and their answers, the clock.
+"""What belongs together in a run: procedures from entry to end, posts, input and who takes them, sends and their answers, the clock.
 
-All of it is read from the calls and answers of the entries. The numbers in answers name posts and sends, and each thread's calls tell its
+All of it is read from the calls and answers of the entries. The numbers in answers name posts, inputs and sends, and each thread's calls tell its
 stack of procedures and waits. Where the entries leave open which one answered, as with a send that is lost or whose time is over, there is
 no arrow. A run whose entries contradict one another is refused with the line (`BadLine`).
 """
@@ -12,7 +12,7 @@ from log_json import BadLine
 NUMBER = re.compile(r"0|[1-9][0-9]{0,19}")
 # How many fields an answer has, and which of them are the numbers that are read.
 FIELDS = {
-    "posted": (1, (0,)), "inside": (2, (0,)), "begun": (1, (0,)), "enter": (6, (0,)), "callback": (6, (0,)), "left": (1, (0,)),
+    "posted": (1, (0,)), "input": (1, (0,)), "inside": (2, (0,)), "begun": (1, (0,)), "enter": (6, (0,)), "callback": (6, (0,)), "left": (1, (0,)),
     "done": (2, ()), "called": (1, ()), "got": (9, (1,)), "advanced": (1, (0,)), "window": (1, (0,)), "value": (1, (0,)),
 }
 WAITING_SENDS = ("send", "send_timeout")
@@ -31,7 +31,7 @@ class Bar(NamedTuple):
 
 
 class Arrow(NamedTuple):
-    """From one entry to another: a `post` to its retrieval, a `send` to the entry of its procedure, or an `answer` back."""
+    """From one entry to another: a `post` or an `input` to its retrieval, a `send` to the entry of its procedure, or an `answer` back."""
     kind: str
     source: int
     target: int
@@ -63,6 +63,7 @@ class Story:
         self.bars, self.arrows, self.clocks, self.depths = [], [], [], []
         self.windows, self.clock = {}, 0
         self.posts, self.standing, self.quits = 0, {}, {}
+        self.inputs, self.untaken = 0, {}
         self.sends, self.stacks = [], {}
         for entry in run.entries:
             self.depths.append(len(self.stack(entry)))
@@ -114,8 +115,15 @@ class Story:
             raise BadLine(entry.line, f"post {fields[0]} comes where post {self.posts} is the next one")
         self.standing[fields[0]] = entry.number
 
+    def take_input(self, entry, call, fields):
+        """An input is injected. A move that another replaces is never taken, so it has no arrow."""
+        self.inputs += 1
+        if fields[0] != str(self.inputs):
+            raise BadLine(entry.line, f"input {fields[0]} comes where input {self.inputs} is the next one")
+        self.untaken[fields[0]] = entry.number
+
     def take_got(self, entry, call, fields):
-        """A retrieval: one that removes its message has an arrow from the post, or from the call that set quit."""
+        """A retrieval: one that removes its message has an arrow from the post, from the input, or from the call that set quit."""
         source, number = fields[:2]
         removes = call[0] == "get" or call[0] == "peek" and call[4:] in (["1"], ["3"])
         if source == "posted":
@@ -123,6 +131,11 @@ class Story:
                 raise BadLine(entry.line, f"no post {number} stands there")
             if removes:
                 self.arrows.append(Arrow("post", self.standing.pop(number), entry.number, f"post {number}"))
+        elif source == "input":
+            if number not in self.untaken:
+                raise BadLine(entry.line, f"no input {number} stands there")
+            if removes:
+                self.arrows.append(Arrow("input", self.untaken.pop(number), entry.number, f"input {number}"))
         elif source == "quit":
             if entry.who not in self.quits:
                 raise BadLine(entry.line, "no quit stands there")
@@ -221,7 +234,7 @@ class Story:
 
 
 TAKERS = {
-    "posted": Story.take_posted, "got": Story.take_got, "inside": Story.take_inside, "begun": Story.take_begun,
+    "posted": Story.take_posted, "input": Story.take_input, "got": Story.take_got, "inside": Story.take_inside, "begun": Story.take_begun,
     "enter": Story.take_enter, "callback": Story.take_callback, "called": Story.take_called, "left": Story.take_left,
     "done": Story.take_done, "value": Story.take_value, "window": Story.take_window, "ended": Story.take_ended,
 }

@@ -20,13 +20,15 @@ use win_num::{Msg, Point};
 #[derive(Clone, Copy, Debug, PartialEq, Eq)]
 pub enum MessageAnswer {
     Posted,
+    Input,
     Called,
     Got,
 }
 
 /// These forms.
-pub static MESSAGE_ANSWERS: [AnswerName; 3] = [
+pub static MESSAGE_ANSWERS: [AnswerName; 4] = [
     Message(MessageAnswer::Posted),
+    Message(MessageAnswer::Input),
     Message(MessageAnswer::Called),
     Message(MessageAnswer::Got),
 ];
@@ -37,6 +39,7 @@ pub fn message_form(name: MessageAnswer) -> Form
 {
     match name {
         MessageAnswer::Posted => row_of(b"posted", &[Field::Count]),
+        MessageAnswer::Input => row_of(b"input", &[Field::Count]),
         MessageAnswer::Called => row_of(b"called", &[Field::Procedure]),
         MessageAnswer::Got => row_of(
             b"got",
@@ -61,6 +64,7 @@ pub fn split_message(answer: Answer) -> Option<SplitAnswer>
 {
     match answer {
         Answer::Posted(number) => split_of(Message(MessageAnswer::Posted), &[Value::Count(number)]),
+        Answer::Input(number) => split_of(Message(MessageAnswer::Input), &[Value::Count(number)]),
         Answer::Called(procedure) => split_of(
             Message(MessageAnswer::Called),
             &[Value::Procedure(procedure)],
@@ -110,6 +114,7 @@ pub fn made_message(name: MessageAnswer, values: &[Value]) -> Answer
 {
     match name {
         MessageAnswer::Posted => Answer::Posted(count_at(values, 0)),
+        MessageAnswer::Input => Answer::Input(count_at(values, 0)),
         MessageAnswer::Called => Answer::Called(procedure_at(values, 0)),
         MessageAnswer::Got => Answer::Got {
             origin: source_at(values, 0),

@@ -54,6 +54,7 @@ fn answers_again(rt: HostRuntime) -> Result<(), Fail> {
         ),
         (Answer::Snap(5), b"snap"),
         (Answer::Was(Hwnd(0)), b"was"),
+        (Answer::Input(3), b"input"),
         (Answer::Inside(SendId(3), 4), b"inside"),
         (Answer::Refused(Code::Full), b"refused"),
     ] {

@@ -11,6 +11,7 @@ use Rattle.user_model.specs.declared.entry.Origin.TheVariants as origins
 abbrev pub source_word : Origin → List ℕ
 source_word origins.Posted = codes "posted"
 source_word origins.Quit = codes "quit"
+source_word origins.Input = codes "input"
 source_word origins.Paint = codes "paint"
 source_word origins.Timer = codes "timer"
 

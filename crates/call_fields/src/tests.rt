@@ -9,6 +9,7 @@ use win_num::{Cause, Code, Hwnd, SendId, Thread};
 fn words_of_fields(rt: HostRuntime) -> Result<(), Fail> {
     assert_eq!(rt; source_word(Origin::Posted), b"posted".as_slice());
     assert_eq!(rt; source_word(Origin::Paint), b"paint".as_slice());
+    assert_eq!(rt; source_word(Origin::Input), b"input".as_slice());
     assert_eq!(rt; cause_word(Cause::Timeout), b"timeout".as_slice());
     assert_eq!(rt; code_word(Code::NotNow), Some(b"not_now".as_slice()));
     assert_eq!(rt; code_word(Code::Win(5)), None);

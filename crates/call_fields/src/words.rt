@@ -13,6 +13,7 @@ pub fn source_word(source: Origin) -> &'static [u8]
     match source {
         Origin::Posted => b"posted",
         Origin::Quit => b"quit",
+        Origin::Input => b"input",
         Origin::Paint => b"paint",
         Origin::Timer => b"timer",
     }

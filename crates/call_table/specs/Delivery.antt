@@ -21,10 +21,11 @@ delivery_row names.Post = row (codes "post") (fields.Number ∷ fields.Message �
 delivery_row names.PostThread = row (codes "post_thread") (fields.Number ∷ fields.Message ∷ fields.Number ∷ fields.Number ∷ [])
 delivery_row names.PostQuit = row (codes "post_quit") (fields.Number ∷ [])
 delivery_row names.Dispatch = row (codes "dispatch") (fields.Number ∷ fields.Message ∷ fields.Number ∷ fields.Number ∷ [])
+delivery_row names.Translate = row (codes "translate") (fields.Number ∷ fields.Message ∷ fields.Number ∷ fields.Number ∷ [])
 
 -- all of them
 abbrev pub delivery_calls : List CallName
-delivery_calls = groups.Delivery names.Peek ∷ groups.Delivery names.Get ∷ groups.Delivery names.Post ∷ groups.Delivery names.PostThread ∷ groups.Delivery names.PostQuit ∷ groups.Delivery names.Dispatch ∷ []
+delivery_calls = groups.Delivery names.Peek ∷ groups.Delivery names.Get ∷ groups.Delivery names.Post ∷ groups.Delivery names.PostThread ∷ groups.Delivery names.PostQuit ∷ groups.Delivery names.Dispatch ∷ groups.Delivery names.Translate ∷ []
 
 -- such a call taken apart; a call of another group is not
 abbrev pub split_delivery : Call → Option Split
@@ -34,6 +35,7 @@ split_delivery (calls.Post window number wparam lparam) = split (groups.Delivery
 split_delivery (calls.PostThread thread number wparam lparam) = split (groups.Delivery names.PostThread) (values.Number thread ∷ values.Message number ∷ values.Number wparam ∷ values.Number lparam ∷ [])
 split_delivery (calls.PostQuit code) = split (groups.Delivery names.PostQuit) (values.Number code ∷ [])
 split_delivery (calls.Dispatch window number wparam lparam) = split (groups.Delivery names.Dispatch) (values.Number window ∷ values.Message number ∷ values.Number wparam ∷ values.Number lparam ∷ [])
+split_delivery (calls.Translate window number key lparam) = split (groups.Delivery names.Translate) (values.Number window ∷ values.Message number ∷ values.Number key ∷ values.Number lparam ∷ [])
 split_delivery c = None
 
 -- the call of this name, of the values at its places
@@ -44,3 +46,4 @@ made_delivery names.Post vs = calls.Post (number_at vs 0) (message_at vs 1) (num
 made_delivery names.PostThread vs = calls.PostThread (number_at vs 0) (message_at vs 1) (number_at vs 2) (number_at vs 3)
 made_delivery names.PostQuit vs = calls.PostQuit (number_at vs 0)
 made_delivery names.Dispatch vs = calls.Dispatch (number_at vs 0) (message_at vs 1) (number_at vs 2) (number_at vs 3)
+made_delivery names.Translate vs = calls.Translate (number_at vs 0) (message_at vs 1) (number_at vs 2) (number_at vs 3)

@@ -21,16 +21,18 @@ pub enum DeliveryCall {
     PostThread,
     PostQuit,
     Dispatch,
+    Translate,
 }
 
 /// These calls.
-pub static DELIVERY_CALLS: [CallName; 6] = [
+pub static DELIVERY_CALLS: [CallName; 7] = [
     Delivery(DeliveryCall::Peek),
     Delivery(DeliveryCall::Get),
     Delivery(DeliveryCall::Post),
     Delivery(DeliveryCall::PostThread),
     Delivery(DeliveryCall::PostQuit),
     Delivery(DeliveryCall::Dispatch),
+    Delivery(DeliveryCall::Translate),
 ];
 
 /// The word of a call of this group, and the kinds of its fields.
@@ -44,6 +46,7 @@ pub fn delivery_form(name: DeliveryCall) -> Form
         DeliveryCall::PostThread => row_of(b"post_thread", &MESSAGE_FIELDS),
         DeliveryCall::PostQuit => row_of(b"post_quit", &[Number]),
         DeliveryCall::Dispatch => row_of(b"dispatch", &MESSAGE_FIELDS),
+        DeliveryCall::Translate => row_of(b"translate", &MESSAGE_FIELDS),
     }
 }
 
@@ -73,6 +76,10 @@ pub fn split_delivery(call: Call) -> Option<SplitCall>
             Delivery(DeliveryCall::Dispatch),
             (window, number, wparam, lparam),
         ),
+        Call::Translate(window, number, key, lparam) => split_message(
+            Delivery(DeliveryCall::Translate),
+            (window, number, key, lparam),
+        ),
         _ => None,
     }
 }
@@ -90,5 +97,6 @@ pub fn made_delivery(name: DeliveryCall, values: &[Value]) -> Call
         DeliveryCall::PostThread => Call::PostThread(target, message, wparam, lparam),
         DeliveryCall::PostQuit => Call::PostQuit(numbers[0]),
         DeliveryCall::Dispatch => Call::Dispatch(target, message, wparam, lparam),
+        DeliveryCall::Translate => Call::Translate(target, message, wparam, lparam),
     }
 }

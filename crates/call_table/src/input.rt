@@ -1,4 +1,4 @@
-//! Calls on focus, active window, capture and attached threads, one row each.
+//! Calls on focus, active window, capture, attached threads, the mouse and keys, one row each.
 
 ghost use Rattle.std.specs.Prelude.{◌≡◌, option_map};
 ghost use Rattle.call_fields.specs.Forms.{read_form};
@@ -7,9 +7,9 @@ ghost use Rattle.call_table.specs.Splits.{read_split};
 
 use crate::calls::CallName;
 use crate::calls::CallName::Input;
-use crate::split::{SplitCall, split_numbers};
-use call_fields::Field::Number;
-use call_fields::{Form, Value, numbers_at, row_of};
+use crate::split::{SplitCall, split_numbers, split_of};
+use call_fields::Field::{Message, Number, Signed};
+use call_fields::{Form, Value, message_at, numbers_at, row_of, signed_at};
 use user_model::Call;
 
 /// The names of these calls.
@@ -24,10 +24,13 @@ pub enum InputCall {
     GetCapture,
     Attach,
     Detach,
+    Mouse,
+    Key,
+    KeyState,
 }
 
 /// These calls.
-pub static INPUT_CALLS: [CallName; 9] = [
+pub static INPUT_CALLS: [CallName; 12] = [
     Input(InputCall::SetFocus),
     Input(InputCall::SetActive),
     Input(InputCall::SetCapture),
@@ -37,6 +40,9 @@ pub static INPUT_CALLS: [CallName; 9] = [
     Input(InputCall::GetCapture),
     Input(InputCall::Attach),
     Input(InputCall::Detach),
+    Input(InputCall::Mouse),
+    Input(InputCall::Key),
+    Input(InputCall::KeyState),
 ];
 
 /// The word of a call of this group, and the kinds of its fields.
@@ -53,6 +59,9 @@ pub fn input_form(name: InputCall) -> Form
         InputCall::GetCapture => row_of(b"get_capture", &[]),
         InputCall::Attach => row_of(b"attach", &[Number, Number]),
         InputCall::Detach => row_of(b"detach", &[Number, Number]),
+        InputCall::Mouse => row_of(b"mouse", &[Message, Signed, Signed]),
+        InputCall::Key => row_of(b"key", &[Number, Number]),
+        InputCall::KeyState => row_of(b"key_state", &[Number]),
     }
 }
 
@@ -70,6 +79,12 @@ pub fn split_input(call: Call) -> Option<SplitCall>
         Call::GetCapture => split_numbers(Input(InputCall::GetCapture), &[]),
         Call::Attach(thread, other) => split_numbers(Input(InputCall::Attach), &[thread, other]),
         Call::Detach(thread, other) => split_numbers(Input(InputCall::Detach), &[thread, other]),
+        Call::Mouse(number, x, y) => split_of(
+            Input(InputCall::Mouse),
+            &[Value::Message(number), Value::Signed(x), Value::Signed(y)],
+        ),
+        Call::Key(down, key) => split_numbers(Input(InputCall::Key), &[down, key]),
+        Call::KeyState(key) => split_numbers(Input(InputCall::KeyState), &[key]),
         _ => None,
     }
 }
@@ -89,5 +104,12 @@ pub fn made_input(name: InputCall, values: &[Value]) -> Call
         InputCall::GetCapture => Call::GetCapture,
         InputCall::Attach => Call::Attach(numbers[0], numbers[1]),
         InputCall::Detach => Call::Detach(numbers[0], numbers[1]),
+        InputCall::Mouse => Call::Mouse(
+            message_at(values, 0),
+            signed_at(values, 1),
+            signed_at(values, 2),
+        ),
+        InputCall::Key => Call::Key(numbers[0], numbers[1]),
+        InputCall::KeyState => Call::KeyState(numbers[0]),
     }
 }

@@ -1,12 +1,12 @@
 -- Which layer answers a call.
 use Rattle.std.specs.Prelude.{Bool, true, false}
 use Rattle.user_model.specs.declared.call.Call.{Call}
-use Rattle.user_model.specs.declared.call.Call.TheVariants.{Peek, Get, Post, PostThread, PostQuit, Dispatch, Send, SendTimeout, SendNotify, SendCallback, Await, Leave, Reply, InSend, Message, Register, Unregister, NewWindow, Doom, Unmake, Drop, Place, Show, Enable, Find, AwaitTitle, NextTop, WindowAt, IsWindow, Parent, SetFocus, SetActive, SetCapture, ReleaseCapture, GetFocus, GetActive, GetCapture, Attach, Detach, Invalidate, Validate, UpdateRect, BeginPaint, EndPaint, Fill, Erase, Snap, SetTimer, KillTimer, EndThread, Clock, SleepUntil, Yield, Tick, Advance}
+use Rattle.user_model.specs.declared.call.Call.TheVariants.{Peek, Get, Post, PostThread, PostQuit, Dispatch, Send, SendTimeout, SendNotify, SendCallback, Await, Leave, Reply, InSend, Message, Translate, Register, Unregister, NewWindow, Doom, Unmake, Drop, Place, Show, Enable, Find, AwaitTitle, NextTop, WindowAt, IsWindow, Parent, SetFocus, SetActive, SetCapture, ReleaseCapture, GetFocus, GetActive, GetCapture, Attach, Detach, Mouse, Key, KeyState, Invalidate, Validate, UpdateRect, BeginPaint, EndPaint, Fill, Erase, Snap, SetTimer, KillTimer, EndThread, Clock, SleepUntil, Yield, Tick, Advance}
 use Rattle.core_deliver.specs.declared.groups.Group.{Group}
 use Rattle.core_deliver.specs.declared.groups.Group.TheVariants.{Retrieval, Delivery, Window, Drawing, Other}
 
--- the group of each call: it asks for a message; it posts, sends, hands a message to a procedure, is made inside or after a send,
--- or registers a message; it is about classes or windows, focus, active window, capture or attached threads; it is about dirty pixels, painting, colours or frames; or it is about time or timers, or ends a thread
+-- the group of each call: it asks for a message; it posts, also the character of a key, sends, hands a message to a procedure, is made inside or
+-- after a send, or registers a message; it is about classes or windows, focus, active window, capture, attached threads, the mouse or keys; it is about dirty pixels, painting, colours or frames; or it is about time or timers, or ends a thread
 abbrev pub group_of : Call → Group
 group_of (Peek w min max flags) = Retrieval
 group_of (Get w min max) = Retrieval
@@ -23,6 +23,7 @@ group_of (Leave v) = Delivery
 group_of (Reply v) = Delivery
 group_of InSend = Delivery
 group_of (Message name) = Delivery
+group_of (Translate w number key lparam) = Delivery
 group_of (Register name proc_no colour) = Window
 group_of (Unregister name) = Window
 group_of (NewWindow class title parent style ex l t r b) = Window
@@ -47,6 +48,9 @@ group_of GetActive = Window
 group_of GetCapture = Window
 group_of (Attach t u) = Window
 group_of (Detach t u) = Window
+group_of (Mouse number x y) = Window
+group_of (Key down key) = Window
+group_of (KeyState key) = Window
 group_of (Invalidate w l t r b erase) = Drawing
 group_of (Validate w l t r b) = Drawing
 group_of (UpdateRect w) = Drawing

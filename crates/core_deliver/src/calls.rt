@@ -9,7 +9,7 @@ ghost use Rattle.user_model.specs.Replies.{is_barred_by, row};
 ghost use Rattle.user_model.specs.Stacks.{top};
 
 use crate::admission::admit;
-use crate::delivery::{get_answer, peek_answer, post_answer, post_thread_answer};
+use crate::delivery::{get_answer, peek_answer, post_answer, post_thread_answer, translate_answer};
 use crate::messages::message_answer;
 use crate::sends::{
     await_answer, dispatch_answer, in_send_answer, leave_answer, reply_answer, send_answer,
@@ -62,6 +62,7 @@ fn delivery_row(state: &CoreState, who: u8, call: Call) -> Answer
         Call::Reply(_) => reply_answer(state, who),
         Call::InSend => in_send_answer(state, who),
         Call::Message(name) => message_answer(state, name),
+        Call::Translate(w, number, key, _) => translate_answer(state, who, w, number, key),
         _ => unreachable!(),
     }
 }

@@ -4,9 +4,12 @@ ghost use Rattle.std.specs.Prelude.{◌≡◌, ◌<◌, ◌≤◌, false};
 ghost use Rattle.user_model.specs.Past.{is_full};
 ghost use Rattle.user_model.specs.Filters.{is_no_filter_window};
 ghost use Rattle.user_model.specs.Places.{clock, cursor};
-ghost use Rattle.user_model.specs.Next.{next, next_paint, next_posted, next_quit, next_timer};
-ghost use Rattle.user_model.specs.Posts.{message};
-ghost use Rattle.user_model.specs.ReplyDelivery.{get_reply, peek_reply, post_reply, post_thread_reply, post_to};
+ghost use Rattle.user_model.specs.Next.{next, next_input, next_paint, next_posted, next_quit, next_timer};
+ghost use Rattle.user_model.specs.Characters.{has_character};
+ghost use Rattle.user_model.specs.Posts.{message, queue_of};
+ghost use Rattle.user_model.specs.Refusals.{invalid_window_handle, refuse};
+ghost use Rattle.user_model.specs.ReplyInput.{translate_reply};
+ghost use Rattle.user_model.specs.ReplyDelivery.{get_reply, is_no_post_window, peek_reply, post_reply, post_thread_reply, post_to};
 
 use crate::codes::{INVALID_PARAMETER, INVALID_THREAD_ID, INVALID_WINDOW_HANDLE, NOT_ENOUGH_QUOTA};
 use core_state::CoreState;
@@ -26,7 +29,7 @@ fn is_no_filter_window(state: &CoreState, who: u8, w: u64) -> bool
     !state.is_live(w) || state.thread_of(w) != who
 }
 
-/// What is ready, else the first posted message that passes, else quit, else painting, else a timer.
+/// What is ready, else the first posted message that passes, else quit, else input, else painting, else a timer.
 fn next(state: &CoreState, who: u8, filter: Filter) -> Option<Answer>
     requires some { 0 < who }
     requires known { who ≤ state.now.setup.threads }
@@ -39,6 +42,9 @@ fn next(state: &CoreState, who: u8, filter: Filter) -> Option<Answer>
         return Some(answer);
     }
     if let Some(answer) = next_quit(state, who) {
+        return Some(answer);
+    }
+    if let Some(answer) = next_input(state, who, filter) {
         return Some(answer);
     }
     if let Some(answer) = next_paint(state, who, filter) {
@@ -74,6 +80,22 @@ fn next_quit(state: &CoreState, who: u8) -> Option<Answer>
     }
     match state.quit(who) {
         Some(code) => Some(got(state, Origin::Quit, Hwnd(0), names::WM_QUIT, code)),
+        None => None,
+    }
+}
+
+/// The first input that the thread may take and that passes, for the window that it goes to now.
+fn next_input(state: &CoreState, who: u8, filter: Filter) -> Option<Answer>
+    requires some { 0 < who }
+    requires known { who ≤ state.now.setup.threads }
+    ensures { result ≡ next_input state.now.setup state.now.past who filter }
+{
+    match state.next_input(who, filter) {
+        Some((number, msg)) => Some(Answer::Got {
+            origin: Origin::Input,
+            number,
+            msg,
+        }),
         None => None,
     }
 }
@@ -172,6 +194,16 @@ pub fn post_answer(state: &CoreState, who: u8, w: u64, number: u64) -> Answer
     if number > LAST_MESSAGE {
         return Answer::Refused(INVALID_PARAMETER);
     }
+    post_to_window(state, who, w)
+}
+
+/// The answer of a post of a message to a window, or for window 0 to the caller.
+fn post_to_window(state: &CoreState, who: u8, w: u64) -> Answer
+    requires room { is_full state.now.past ≡ false }
+    requires some { 0 < who }
+    requires known { who ≤ state.now.setup.threads }
+    ensures { result ≡ refuse (is_no_post_window state.now.past w) invalid_window_handle (post_to state.now.past (queue_of state.now.past who w)) }
+{
     if w == 0 {
         return post_to(state, u64::from(who));
     }
@@ -179,6 +211,26 @@ pub fn post_answer(state: &CoreState, who: u8, w: u64, number: u64) -> Answer
         return Answer::Refused(INVALID_WINDOW_HANDLE);
     }
     post_to(state, u64::from(state.thread_of(w)))
+}
+
+/// Whether the key makes a character: letters, digits and space do.
+fn has_character(key: u64) -> bool
+    ensures { result ≡ has_character key }
+{
+    (65 <= key && key <= 90) || (48 <= key && key <= 57) || key == names::VK_SPACE
+}
+
+/// The answer where the character of a key that goes down is to be posted, for a key that has one; else 0.
+pub fn translate_answer(state: &CoreState, who: u8, w: u64, number: u64, key: u64) -> Answer
+    requires room { is_full state.now.past ≡ false }
+    requires some { 0 < who }
+    requires known { who ≤ state.now.setup.threads }
+    ensures { result ≡ translate_reply state.now.past who w number key }
+{
+    if number == u64::from(names::WM_KEYDOWN) && has_character(key) {
+        return post_to_window(state, who, w);
+    }
+    Answer::Value(0)
 }
 
 /// The answer of a post to a thread.

@@ -10,9 +10,9 @@ use user_model::Call;
 pub enum Group {
     /// It asks for a message: a get or a peek.
     Retrieval,
-    /// It posts, dispatches, sends, is made inside or after a send, or registers a message.
+    /// It posts, also the character of a key, dispatches, sends, is made inside or after a send, or registers a message.
     Delivery,
-    /// It is about classes or windows, focus, active window, capture or attached threads, and `core_window` answers it.
+    /// It is about classes or windows, focus, active window, capture, attached threads, the mouse or keys, and `core_window` answers it.
     Window,
     /// It is about dirty pixels, painting, colours and frames, and `core_draw` answers it.
     Drawing,
@@ -38,31 +38,8 @@ fn group_of(call: Call) -> Group
         | Call::Leave(..)
         | Call::Reply(..)
         | Call::InSend
-        | Call::Message(..) => Group::Delivery,
-        Call::Register(..)
-        | Call::Unregister(..)
-        | Call::NewWindow(..)
-        | Call::Doom(..)
-        | Call::Unmake(..)
-        | Call::Drop(..)
-        | Call::Place(..)
-        | Call::Show(..)
-        | Call::Enable(..)
-        | Call::Find(..)
-        | Call::AwaitTitle(..)
-        | Call::NextTop(..)
-        | Call::WindowAt(..)
-        | Call::IsWindow(..)
-        | Call::Parent(..)
-        | Call::SetFocus(..)
-        | Call::SetActive(..)
-        | Call::SetCapture(..)
-        | Call::ReleaseCapture
-        | Call::GetFocus
-        | Call::GetActive
-        | Call::GetCapture
-        | Call::Attach(..)
-        | Call::Detach(..) => Group::Window,
+        | Call::Message(..)
+        | Call::Translate(..) => Group::Delivery,
         Call::Invalidate(..)
         | Call::Validate(..)
         | Call::UpdateRect(..)
@@ -79,6 +56,7 @@ fn group_of(call: Call) -> Group
         | Call::Yield
         | Call::Tick(..)
         | Call::Advance => Group::Other,
+        _ => Group::Window,
     }
 }
 
@@ -92,7 +70,7 @@ pub fn is_retrieval(call: Call) -> bool
     }
 }
 
-/// Whether the call posts, dispatches, sends, is made inside or after a send, or registers a message.
+/// Whether the call posts, also the character of a key, dispatches, sends, is made inside or after a send, or registers a message.
 pub fn is_delivery(call: Call) -> bool
     ensures { result ≡ is_delivery call }
 {
@@ -102,7 +80,7 @@ pub fn is_delivery(call: Call) -> bool
     }
 }
 
-/// Whether the call is about classes or windows.
+/// Whether the call is about classes, windows, groups of attached threads, the mouse or keys.
 pub fn is_window_call(call: Call) -> bool
     ensures { result ≡ is_window_call call }
 {

@@ -116,6 +116,33 @@ fn tell_sends(rt: &impl Print, state: &CoreState) -> anyhow::Result<()>
     Ok(())
 }
 
+fn tell_inputs(rt: &impl Print, state: &CoreState) -> anyhow::Result<()>
+    requires threads { state.now.setup.threads ≡ 2 }
+    requires room { is_full state.now.past ≡ false }
+{
+    println!(rt;
+        "mouse_home {} key_home {}",
+        state.mouse_home(0, 0),
+        state.key_home()
+    )?;
+    println!(rt;
+        "is_key_down {} lacks_place {}",
+        state.is_key_down(1, 16),
+        state.lacks_place(1, 512)
+    )?;
+    println!(rt;
+        "is_on_screen {} {}",
+        state.is_on_screen(7, 3),
+        state.is_on_screen(8, 0)
+    )?;
+    println!(rt;
+        "next_input {:?} next_input_number {}",
+        state.next_input(2, ALL),
+        state.next_input_number()
+    )?;
+    Ok(())
+}
+
 /// Asks a state of two threads without entries all of this.
 pub fn tell_all(rt: &impl Print, state: &CoreState) -> anyhow::Result<()>
     requires threads { state.now.setup.threads ≡ 2 }
@@ -126,5 +153,6 @@ pub fn tell_all(rt: &impl Print, state: &CoreState) -> anyhow::Result<()>
     tell_windows(rt, state)?;
     tell_classes(rt, state)?;
     tell_posts(rt, state)?;
-    tell_sends(rt, state)
+    tell_sends(rt, state)?;
+    tell_inputs(rt, state)
 }

@@ -1,10 +1,11 @@
 -- What the parts stand for after an entry, and what the change of an entry needs.
-use Rattle.std.proofs.Common.{◌≡◌, ℕ, ◌+◌, ◌<◌, ◌≤◌, true, false, List, ◌∷◌, length, Option, refl, ap, ◌∙◌, sym, subst, arith}
+use Rattle.std.proofs.Common.{◌≡◌, ℕ, ◌+◌, ◌<◌, ◌≤◌, Bool, true, false, List, ◌∷◌, length, Option, refl, ap, ◌∙◌, sym, subst, arith}
 use Rattle.std.proofs.lemmas.Bool.Decides.{nat_tests}
 use Rattle.win_num.specs.declared.message.Thread.{Thread}
 use Rattle.win_num.specs.declared.send.Cause.{Cause}
 use Rattle.win_num.specs.declared.shapes.Point.{Point}
 use Rattle.win_class.specs.ClassTable.{ClassTable, unregister_refusal}
+use Rattle.win_rows.specs.declared.window.Window.{Window as KeptWindow}
 use Rattle.win_rows.specs.Windows.{Windows}
 use Rattle.win_tree.specs.Kin.{doom_refusal, drop_refusal}
 use Rattle.user_model.specs.declared.call.Call.{Call}
@@ -14,14 +15,14 @@ use Rattle.user_model.specs.declared.entry.Answer.TheVariants as answers
 use Rattle.user_model.specs.declared.entry.Entry.{Entry}
 use Rattle.user_model.specs.declared.entry.Setup.{Setup}
 use Rattle.user_model.specs.Past.{Past, is_full, place_after}
-use Rattle.user_model.specs.Places.{cursor}
+use Rattle.user_model.specs.Keys.{is_shift_down}
 use Rattle.user_model.specs.Idle.{reply}
 use Rattle.user_model.specs.Legal.{IsLawful}
 use Rattle.user_model.specs.Threads.{is_running}
 use Rattle.user_model.proofs.DeliveryReplies.{post_told}
 use Rattle.user_model.proofs.ReplyLaws.{by_row}
 use Rattle.thread_queues.specs.Changes.{Change, changed, noted, count_kept, time_kept}
-use Rattle.thread_queues.specs.Deliveries.{adding_in, effect_in}
+use Rattle.thread_queues.specs.Deliveries.{adding_in, change_of_post, effect_in, posting}
 use Rattle.window_state.specs.Effects.{IsAddedBy, IsAffected, added_classes, affected_classes}
 use Rattle.window_state.specs.Needs.{FitsLooking, FitsNaming, FitsUnmaking}
 use Rattle.win_order.specs.Layers.{Layers}
@@ -55,20 +56,33 @@ use Rattle.display_state.specs.Displays.{Shown, IsDisplayAt}
 use Rattle.timer_source.specs.declared.setting.Setting.{Setting}
 use Rattle.timer_state.specs.TimerLists.{timers_at}
 use Rattle.group_state.specs.GroupTables.{Kept, IsGroupsAt}
+use Rattle.input_queue.specs.declared.element.Element.{Element as KeptElement}
+use Rattle.pending_state.specs.declared.changes.Meant.{Meant}
+use Rattle.pending_state.specs.Changes.{FitsInjecting, added_by, counted_with, cursor_with, left_by}
+use Rattle.pending_state.specs.Meanings.{IsMeantBy}
+use Rattle.pending_state.specs.Pending.{untaken_at}
+use Rattle.pending_state.proofs.Cursors.{counted_with-next, cursor_with-next}
+use Rattle.pending_state.proofs.Needs.{fits_injecting}
+use Rattle.pending_state.proofs.Steps.{inputs_after}
+use Rattle.core_state.specs.declared.progress.Progress.{Progress}
 
 -- ---- what a change needs
 
-adding_by : (setup : Setup) (past : Past) (p : Parts) (point : Point) (who : Thread) (a : Answer) (call : Call) → Stands setup past p → point ≡ cursor past → a ≡ reply setup past who.0 call → FitsAdding p.classes p.tree p.threads p.time point who.0 a call
-adding_by setup past p point who (answers.Posted k) call st at right =
+adding_by : (setup : Setup) (past : Past) (p : Parts) (shift : Bool) (who : Thread) (a : Answer) (call : Call) → Stands setup past p → (is_running setup past who.0 ≡ true → shift ≡ is_shift_down past who.0) → a ≡ reply setup past who.0 call → FitsAdding p.classes p.tree p.threads p.time p.cursor shift who.0 a call
+adding_by setup past p shift who (answers.Posted k) call st down right =
     let row = by_row setup past who.0 call (answers.Posted k) (sym right) refl in
     let post = post_told setup past who.0 call k row.is_row in
-    (fits_post setup past p.tree.live who.0 k call post st.tree.windows, fits_posting setup past p.threads p.tree.live p.time point who.0 k call post st.lawful st.count st.each row.running st.tree.windows st.clock at)
-adding_by setup past p point who (answers.Value n) call st at right = subst (λ (t : ClassTable). FitsNaming t call) (sym st.classes) (fits_naming setup past who.0 n call (sym right))
-adding_by setup past p point who (answers.Window w) call st at right = fits_making setup past p.tree who w call st.lawful st.tree (sym right)
-adding_by setup past p point who _ call st at right = tt
+    (fits_post setup past p.tree.live shift who.0 k call post st.tree.windows (down row.running), fits_posting setup past p.threads p.tree.live p.time p.cursor shift who.0 k call post st.lawful st.count st.each row.running st.tree.windows st.clock st.cursor (down row.running))
+adding_by setup past p shift who (answers.Value n) call st down right = subst (λ (t : ClassTable). FitsNaming t call) (sym st.classes) (fits_naming setup past who.0 n call (sym right))
+adding_by setup past p shift who (answers.Window w) call st down right = fits_making setup past p.tree who w call st.lawful st.tree (sym right)
+adding_by setup past p shift who _ call st down right = tt
 
-pub growth_fits : (setup : Setup) (past : Past) (p : Parts) (point : Point) (e : Entry) → Stands setup past p → point ≡ cursor past → e.answer ≡ reply setup past e.who.0 e.call → FitsAdding p.classes p.tree p.threads p.time point e.who.0 e.answer e.call
-growth_fits setup past p point e st at right = adding_by setup past p point e.who e.answer e.call st at right
+pub growth_fits : (setup : Setup) (past : Past) (p : Parts) (shift : Bool) (e : Entry) → Stands setup past p → (is_running setup past e.who.0 ≡ true → shift ≡ is_shift_down past e.who.0) → e.answer ≡ reply setup past e.who.0 e.call → FitsAdding p.classes p.tree p.threads p.time p.cursor shift e.who.0 e.answer e.call
+growth_fits setup past p shift e st down right = adding_by setup past p shift e.who e.answer e.call st down right
+
+-- what an entry injects fits
+pub injecting_fits : (setup : Setup) (past : Past) (p : Parts) (meant : Meant) (e : Entry) → Stands setup past p → IsMeantBy setup past e.call meant → e.answer ≡ reply setup past e.who.0 e.call → FitsInjecting meant p.inputs e.answer e.call
+injecting_fits setup past p meant e st m right = subst (λ l. FitsInjecting meant l e.answer e.call) (sym st.untaken) (fits_injecting setup past e meant st.ready st.lawful m right)
 
 -- a thread that runs, after a change that keeps the count of threads
 one_of : (setup : Setup) (past : Past) (p : Parts) (threads : List ThreadView) (t : ℕ) → Stands setup past p → length threads ≡ length p.threads → is_running setup past t ≡ true → IsOne threads t
@@ -114,13 +128,24 @@ same_settling : (who : ℕ) (a : Answer) (call : Call) (old new : Windows) → I
 same_settling who (answers.Window w) call old new made = refl
 same_settling who a call old new made = ap (λ (t : Windows). effect_in t.live who a call) made
 
+-- Shift counts where a post is made, and then the caller runs
+same_adding : (setup : Setup) (past : Past) (ws : List KeptWindow) (time : ℕ) (point : Point) (shift : Bool) (who : ℕ) (a : Answer) (call : Call) → (is_running setup past who ≡ true → shift ≡ is_shift_down past who) → a ≡ reply setup past who call → adding_in ws time point shift who a call ≡ adding_in ws time point (is_shift_down past who) who a call
+same_adding setup past ws time point shift who (answers.Posted k) call down right = ap (λ b. change_of_post k (posting ws time point b who call)) (down (by_row setup past who call (answers.Posted k) (sym right) refl).running)
+same_adding setup past ws time point shift who _ call down right = refl
+
 -- what is kept of a thread follows the past
-thread_step : (setup : Setup) (past : Past) (p : Parts) (point : Point) (e : Entry) (tree : Windows) (t : ℕ) → Stands setup past p → point ≡ cursor past → e.answer ≡ reply setup past e.who.0 e.call → IsAddedBy e.who.0 e.answer e.call p.tree tree
-    → noted t e (changed t (effect_in tree.live e.who.0 e.answer e.call) (changed t (adding_in p.tree.live p.time point e.who.0 e.answer e.call) (thread_at past t))) ≡ thread_at (e ∷ past) t
-thread_step setup past p point e tree t st at right made =
-    ap (λ (c : Change). noted t e (changed t c (changed t (adding_in p.tree.live p.time point e.who.0 e.answer e.call) (thread_at past t)))) (same_settling e.who.0 e.answer e.call p.tree tree made)
-    ∙ ap (noted t e) (both_changes past p.tree.live p.time point t e.who.0 e.answer e.call (thread_at past t) st.tree.windows st.clock at)
+thread_step : (setup : Setup) (past : Past) (p : Parts) (shift : Bool) (e : Entry) (tree : Windows) (t : ℕ) → Stands setup past p → (is_running setup past e.who.0 ≡ true → shift ≡ is_shift_down past e.who.0) → e.answer ≡ reply setup past e.who.0 e.call → IsAddedBy e.who.0 e.answer e.call p.tree tree
+    → noted t e (changed t (effect_in tree.live e.who.0 e.answer e.call) (changed t (adding_in p.tree.live p.time p.cursor shift e.who.0 e.answer e.call) (thread_at past t))) ≡ thread_at (e ∷ past) t
+thread_step setup past p shift e tree t st down right made =
+    ap (λ (c : Change). noted t e (changed t c (changed t (adding_in p.tree.live p.time p.cursor shift e.who.0 e.answer e.call) (thread_at past t)))) (same_settling e.who.0 e.answer e.call p.tree tree made)
+    ∙ ap (noted t e) (both_changes past p.tree.live p.time p.cursor shift t e.who.0 e.answer e.call (thread_at past t) st.tree.windows st.clock st.cursor (same_adding setup past p.tree.live p.time p.cursor shift e.who.0 e.answer e.call down right))
     ∙ thread-next setup past t e st.lawful right
+
+-- the untaken input follows it too
+inputs_step : (setup : Setup) (past : Past) (p : Parts) (meant : Meant) (e : Entry) (inputs1 inputs2 : List KeptElement) → Stands setup past p → IsMeantBy setup past e.call meant → e.answer ≡ reply setup past e.who.0 e.call → inputs1 ≡ added_by meant e.answer e.call p.inputs → inputs2 ≡ left_by e.who e.answer e.call inputs1 → inputs2 ≡ untaken_at setup (e ∷ past)
+inputs_step setup past p meant e inputs1 inputs2 st m right added left =
+    left ∙ ap (left_by e.who e.answer e.call) (added ∙ ap (added_by meant e.answer e.call) st.untaken)
+    ∙ inputs_after setup past e meant st.ready st.lawful m right
 
 same_sends_by : (old new : Windows) (place who : ℕ) (a : Answer) (call : Call) (q : SendParts) → IsAddedBy who a call old new → affected_sends new.live place who a call q ≡ affected_sends old.live place who a call q
 same_sends_by old new place who (answers.Window w) call q made = refl
@@ -168,21 +193,24 @@ tally_step setup past p e place lost tree sends st right here made begun counted
     tally_fits past p.tally lost st.tally st.short (subst (λ n. n ≤ 1024) (sym same) (losses_few setup past e p.sends p.tree.live (st.lawful, right) st.sends st.tree.windows))
 
 -- the parts that were brought up to date stand for the past with the entry
-pub stands_step : (setup : Setup) (past : Past) (p : Parts) (point : Point) (e : Entry) (classes1 classes2 : ClassTable) (tree1 tree2 : Windows) (order1 order2 : Layers) (display2 : Shown) (threads1 threads2 threads3 : List ThreadView) (timers2 : List Setting) (groups2 : Kept) (sends1 sends2 : SendParts) (first : Option Cause) (lost : ℕ) (tally : Tally) (stories1 stories2 stories3 : List SendStory) (place : ℕ)
-    → is_full past ≡ false → e.answer ≡ reply setup past e.who.0 e.call → Stands setup past p → point ≡ cursor past
+pub stands_step : (setup : Setup) (past : Past) (p : Parts) (shift : Bool) (meant : Meant) (e : Entry) (classes1 classes2 : ClassTable) (tree1 tree2 : Windows) (order1 order2 : Layers) (display2 : Shown) (threads1 threads2 threads3 : List ThreadView) (timers2 : List Setting) (groups2 : Kept) (inputs1 inputs2 : List KeptElement) (progress : Progress) (sends1 sends2 : SendParts) (first : Option Cause) (lost : ℕ) (tally : Tally) (stories1 stories2 stories3 : List SendStory) (place : ℕ)
+    → is_full past ≡ false → e.answer ≡ reply setup past e.who.0 e.call → Stands setup past p → (is_running setup past e.who.0 ≡ true → shift ≡ is_shift_down past e.who.0) → IsMeantBy setup past e.call meant
     → classes1 ≡ added_classes e.answer e.call p.classes → classes2 ≡ affected_classes e.answer e.call classes1
     → IsAddedBy e.who.0 e.answer e.call p.tree tree1 → IsAffected e.who.0 e.answer e.call tree1 tree2
     → IsOrderAdded e.answer e.call p.tree tree1 p.order order1 → order2 ≡ affected_order e.answer e.call tree2 order1 → IsDisplayAt setup (e ∷ past) display2
-    → EachBy (λ t. changed t (adding_in p.tree.live p.time point e.who.0 e.answer e.call)) p.threads threads1
+    → EachBy (λ t. changed t (adding_in p.tree.live p.time p.cursor shift e.who.0 e.answer e.call)) p.threads threads1
     → EachBy (λ t. changed t (effect_in tree1.live e.who.0 e.answer e.call)) threads1 threads2
     → EachBy (λ t. noted t e) threads2 threads3
     → timers2 ≡ timers_at (e ∷ past)
     → IsGroupsAt setup (e ∷ past) groups2
+    → inputs1 ≡ added_by meant e.answer e.call p.inputs → inputs2 ≡ left_by e.who e.answer e.call inputs1
+    → progress ≡ record { posts = count_kept e.answer p.post_count; inputs = counted_with e.answer p.input_count; time = time_kept e p.time; cursor = cursor_with e.answer e.call p.cursor }
     → sends1 ≡ added_sends p.tree.live p.time place e.who e.answer e.call p.sends → sends2 ≡ affected_sends tree1.live place e.who.0 e.answer e.call sends1 → place ≡ place_after past
     → first ≡ first_cause p.sends e.who.0 e.answer e.call → lost ≡ losses_by tree1.live place e.who.0 e.answer e.call sends1 → tally ≡ tallied e.answer first lost p.tally
     → stories1 ≡ with_begun e.answer p.stories → EachStory (noted_losses tree1.live place e.who.0 e.answer e.call sends1) stories1 stories2 → EachStory (noted_answer e.answer (named_send p.sends e.who.0 e.answer e.call) place) stories2 stories3
-    → Stands setup (e ∷ past) (parts tree2 order2 display2 classes2 threads3 timers2 groups2 (count_kept e.answer p.post_count) (time_kept e p.time) sends2 tally stories3)
-stands_step setup past p point e classes1 classes2 tree1 tree2 order1 order2 display2 threads1 threads2 threads3 timers2 groups2 sends1 sends2 cause lost tally stories1 stories2 stories3 place room right st at grown settled made given ranked left_order seen first second note timed grouped begun left here named counted noted_tally story_more story_losses story_answers = record {
+    → Stands setup (e ∷ past) (parts tree2 order2 display2 classes2 threads3 timers2 groups2 inputs2 progress sends2 tally stories3)
+stands_step setup past p shift meant e classes1 classes2 tree1 tree2 order1 order2 display2 threads1 threads2 threads3 timers2 groups2 inputs1 inputs2 progress sends1 sends2 cause lost tally stories1 stories2 stories3 place room right st down m grown settled made given ranked left_order seen first second note timed grouped put taken went begun left here named counted noted_tally story_more story_losses story_answers = record {
+  ready = st.ready;
   lawful = (st.lawful, right);
   short = grind (arith, nat_tests, room);
   tree = tree_after setup past e p.tree tree1 tree2 st.lawful st.tree right made given;
@@ -196,13 +224,16 @@ stands_step setup past p point e classes1 classes2 tree1 tree2 order1 order2 dis
         let lt1 : i < length threads1 = omega (arith, lt2, second.same_length) in
         let lt0 : i < length p.threads = omega (arith, lt1, first.same_length) in
         note.at i d lt2
-        ∙ ap (noted (i + 1) e) (second.at i d lt1 ∙ ap (changed (i + 1) (effect_in tree1.live e.who.0 e.answer e.call)) (first.at i d lt0 ∙ ap (changed (i + 1) (adding_in p.tree.live p.time point e.who.0 e.answer e.call)) (st.each.at i d lt0)))
-        ∙ thread_step setup past p point e tree1 (i + 1) st at right made;
+        ∙ ap (noted (i + 1) e) (second.at i d lt1 ∙ ap (changed (i + 1) (effect_in tree1.live e.who.0 e.answer e.call)) (first.at i d lt0 ∙ ap (changed (i + 1) (adding_in p.tree.live p.time p.cursor shift e.who.0 e.answer e.call)) (st.each.at i d lt0)))
+        ∙ thread_step setup past p shift e tree1 (i + 1) st down right made;
   };
   timers = timed;
   groups = grouped;
-  posts = ap (count_kept e.answer) st.posts ∙ count_kept-next setup past e right;
-  clock = ap (time_kept e) st.clock ∙ time_kept-next e past;
+  untaken = inputs_step setup past p meant e inputs1 inputs2 st m right put taken;
+  posts = ap (λ (q : Progress). q.posts) went ∙ ap (count_kept e.answer) st.posts ∙ count_kept-next setup past e right;
+  injected = ap (λ (q : Progress). q.inputs) went ∙ ap (counted_with e.answer) st.injected ∙ counted_with-next setup past e right;
+  clock = ap (λ (q : Progress). q.time) went ∙ ap (time_kept e) st.clock ∙ time_kept-next e past;
+  cursor = ap (λ (q : Progress). q.cursor) went ∙ ap (cursor_with e.answer e.call) st.cursor ∙ cursor_with-next e past;
   sends = subst (PartsStand setup (e ∷ past)) (sym (left ∙ same_sends p.tree tree1 p.time place e sends1 made ∙ ap (affected_sends p.tree.live place e.who.0 e.answer e.call) begun))
       (sends_now setup past p e place (st.lawful, right) st here);
   tally = noted_tally ∙ ap (λ (c : Option Cause). tallied e.answer c lost p.tally) named ∙ ap (λ n. tallied e.answer (first_cause p.sends e.who.0 e.answer e.call) n p.tally) (counted ∙ losses_now p e place tree1 sends1 made begun ∙ ap (λ n. losses_by p.tree.live n e.who.0 e.answer e.call p.sends) here)

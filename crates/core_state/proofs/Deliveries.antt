@@ -12,19 +12,21 @@ use Rattle.win_rows.specs.declared.window.Window.{Window as KeptWindow}
 use Rattle.win_rows.specs.Windows as kept
 use Rattle.win_tree.specs.Kin as kept_kin
 use Rattle.user_model.specs.declared.call.Call.{Call}
-use Rattle.user_model.specs.declared.call.Call.TheVariants.{Post, PostThread, PostQuit, Drop}
+use Rattle.user_model.specs.declared.call.Call.TheVariants.{PostQuit, Drop}
 use Rattle.user_model.specs.declared.entry.Answer.{Answer}
 use Rattle.user_model.specs.declared.entry.Answer.TheVariants as answers
 use Rattle.user_model.specs.declared.entry.Origin.TheVariants as origins
 use Rattle.user_model.specs.declared.entry.Setup.{Setup}
 use Rattle.user_model.specs.Past.{Past}
 use Rattle.user_model.specs.Places.{clock, cursor}
+use Rattle.user_model.specs.Deeds.{Posting, to_window, to_thread, posting_of}
+use Rattle.user_model.specs.Keys.{is_shift_down}
 use Rattle.user_model.specs.Threads.{is_running}
 use Rattle.user_model.specs.Windows.{Window, live, find_window, is_live, thread_of, is_kin, is_below}
 use Rattle.user_model.specs.Filters.{passes_window}
 use Rattle.user_model.specs.Refusals.{is_no_message}
 use Rattle.user_model.specs.Retrievals.{removes}
-use Rattle.user_model.specs.Posts.{PostedMsg, message, posted, passes, first_post, queue_of}
+use Rattle.user_model.specs.Posts.{PostedMsg, message, posted, passes, first_post}
 use Rattle.user_model.proofs.AnswerFacts.{IsPost}
 use Rattle.user_model.specs.ReplyDelivery.{is_no_post_window}
 use Rattle.user_model.specs.Legal.{IsLawful}
@@ -32,10 +34,10 @@ use Rattle.user_model.proofs.ReplyLaws.{not_false}
 use Rattle.user_model.proofs.PostOwners.{message_of, post_runs}
 use Rattle.window_state.specs.Trees.{as_made}
 use Rattle.thread_state.specs.Threads.{ThreadView, as_kept, queue_at, thread_at, told_post}
-use Rattle.thread_queues.specs.Changes.{Change, posts as posts_one, purges, none, change_by, changed, kin_of}
+use Rattle.thread_queues.specs.Changes.{Change, posts as posts_one, purges, none, change_by, change_by_post, changed, kin_of}
 use Rattle.thread_state.specs.Passing.{passes_window_in, passes_here, passes_in}
 use Rattle.window_state.specs.Trees.{thread_in}
-use Rattle.thread_queues.specs.Deliveries.{posting, FitsPost, kin_in, change_of_post, adding_in, carried_in, effect_in}
+use Rattle.thread_queues.specs.Deliveries.{posting, posting_in, FitsPost, FitsPostIn, kin_in, change_of_post, adding_in, carried_in, effect_in}
 use Rattle.core_state.specs.Needs.{FitsPosting}
 use Rattle.thread_queues.specs.Queues.{IsOne, HasRoom}
 use Rattle.core_state.specs.States.{EachThread}
@@ -96,13 +98,13 @@ first_kept past ws t f e = find_kept_first (passes_in ws f) (passes past f) (λ 
 
 -- ---- what an entry changes
 
-posts_same : (past : Past) (ws : List KeptWindow) (who k w m p q : ℕ) → map as_made ws ≡ live past → change_of_post k (posting ws (clock past) (cursor past) who (Post w m p q)) ≡ posts_one (queue_of past who w) k (message w m p q (clock past) (cursor past))
-posts_same past ws who k w m p q e = ap (λ (t : ℕ). posts_one (cond (eqb w 0) who t) k (message w m p q (clock past) (cursor past))) (thread_in-is past ws w e)
+posted_same : (past : Past) (ws : List KeptWindow) (who k : ℕ) (o : Option Posting) → map as_made ws ≡ live past → change_of_post k (posting_in ws (clock past) (cursor past) who o) ≡ change_by_post past who k o
+posted_same past ws who k (Some (to_window w m p q)) e = ap (λ (t : ℕ). posts_one (cond (eqb w 0) who t) k (message w m p q (clock past) (cursor past))) (thread_in-is past ws w e)
+posted_same past ws who k (Some (to_thread to m p q)) e = refl
+posted_same past ws who k None e = refl
 
-growth_same : (past : Past) (ws : List KeptWindow) (who k : ℕ) (call : Call) → map as_made ws ≡ live past → change_of_post k (posting ws (clock past) (cursor past) who call) ≡ change_by past who (answers.Posted k) call
-growth_same past ws who k (Post w m p q) e = posts_same past ws who k w m p q e
-growth_same past ws who k (PostThread to m p q) e = refl
-growth_same past ws who k _ e = refl
+growth_same : (past : Past) (ws : List KeptWindow) (who k : ℕ) (call : Call) → map as_made ws ≡ live past → change_of_post k (posting ws (clock past) (cursor past) (is_shift_down past who) who call) ≡ change_by past who (answers.Posted k) call
+growth_same past ws who k call e = posted_same past ws who k (posting_of (is_shift_down past who) call) e
 
 carried_same : (past : Past) (ws : List KeptWindow) (who : ℕ) (call : Call) → map as_made ws ≡ live past → carried_in ws who call ≡ change_by past who answers.Okay call
 carried_same past ws who (Drop v) e = ap (purges who) (kin_in-is past ws v e)
@@ -113,29 +115,31 @@ none_twice : (t : ℕ) (b : Bool) (v : ThreadView) → changed t (cond b none no
 none_twice t true v = refl
 none_twice t false v = refl
 
-both_now : (past : Past) (ws : List KeptWindow) (t who : ℕ) (a : Answer) (call : Call) (v : ThreadView) → map as_made ws ≡ live past → changed t (effect_in ws who a call) (changed t (adding_in ws (clock past) (cursor past) who a call) v) ≡ changed t (change_by past who a call) v
+both_now : (past : Past) (ws : List KeptWindow) (t who : ℕ) (a : Answer) (call : Call) (v : ThreadView) → map as_made ws ≡ live past → changed t (effect_in ws who a call) (changed t (adding_in ws (clock past) (cursor past) (is_shift_down past who) who a call) v) ≡ changed t (change_by past who a call) v
 both_now past ws t who (answers.Posted k) call v e = ap (λ (c : Change). changed t c v) (growth_same past ws who k call e)
 both_now past ws t who answers.Okay call v e = ap (λ (c : Change). changed t c v) (carried_same past ws who call e)
 both_now past ws t who (answers.Got origins.Posted n m) call v e = refl
 both_now past ws t who (answers.Got origins.Quit n m) call v e = refl
+both_now past ws t who (answers.Got origins.Input n m) call v e = none_twice t (removes call) v
 both_now past ws t who (answers.Got origins.Paint n m) call v e = none_twice t (removes call) v
 both_now past ws t who (answers.Got origins.Timer n m) call v e = none_twice t (removes call) v
 both_now past ws t who _ call v e = refl
 
 -- what is added and then what is settled make the change of the entry
-pub both_changes : (past : Past) (ws : List KeptWindow) (time : ℕ) (point : Point) (t who : ℕ) (a : Answer) (call : Call) (v : ThreadView) → map as_made ws ≡ live past → time ≡ clock past → point ≡ cursor past → changed t (effect_in ws who a call) (changed t (adding_in ws time point who a call) v) ≡ changed t (change_by past who a call) v
-both_changes past ws time point t who a call v e now at =
-    ap (λ (c : ℕ). changed t (effect_in ws who a call) (changed t (adding_in ws c point who a call) v)) now
-    ∙ ap (λ (c : Point). changed t (effect_in ws who a call) (changed t (adding_in ws (clock past) c who a call) v)) at
+pub both_changes : (past : Past) (ws : List KeptWindow) (time : ℕ) (point : Point) (shift : Bool) (t who : ℕ) (a : Answer) (call : Call) (v : ThreadView) → map as_made ws ≡ live past → time ≡ clock past → point ≡ cursor past → adding_in ws time point shift who a call ≡ adding_in ws time point (is_shift_down past who) who a call → changed t (effect_in ws who a call) (changed t (adding_in ws time point shift who a call) v) ≡ changed t (change_by past who a call) v
+both_changes past ws time point shift t who a call v e now at down =
+    ap (λ (c : Change). changed t (effect_in ws who a call) (changed t c v)) down
+    ∙ ap (λ (c : ℕ). changed t (effect_in ws who a call) (changed t (adding_in ws c point (is_shift_down past who) who a call) v)) now
+    ∙ ap (λ (c : Point). changed t (effect_in ws who a call) (changed t (adding_in ws (clock past) c (is_shift_down past who) who a call) v)) at
     ∙ both_now past ws t who a call v e
 
 -- ---- what a post needs
 
 -- the thread that a post goes to, and its message
-pub posting-is : (setup : Setup) (past : Past) (ws : List KeptWindow) (time : ℕ) (point : Point) (who k : ℕ) (call : Call) (p : IsPost setup past who call k) → map as_made ws ≡ live past → time ≡ clock past → point ≡ cursor past → posting ws time point who call ≡ Some (p.to, message_of p)
-posting-is setup past ws time point who k call p e now at = ap (λ (c : ℕ). posting ws c point who call) now ∙ ap (λ (c : Point). posting ws (clock past) c who call) at ∙ elim p.is_call [
-  | inl x ↦ ap (posting ws (clock past) (cursor past) who) x.0 ∙ ap (λ (t : ℕ). let y : ℕ × Msg = (t, message_of p) in Some y) (ap (λ (t : ℕ). cond (eqb p.hwnd 0) who t) (thread_in-is past ws p.hwnd e) ∙ sym x.1)
-  | inr x ↦ ap (posting ws (clock past) (cursor past) who) x.0 ∙ ap (λ (w : ℕ). let y : ℕ × Msg = (p.to, message w p.number p.wparam p.lparam (clock past) (cursor past)) in Some y) (sym x.1)
+pub posting-is : (setup : Setup) (past : Past) (ws : List KeptWindow) (time : ℕ) (point : Point) (shift : Bool) (who k : ℕ) (call : Call) (p : IsPost setup past who call k) → map as_made ws ≡ live past → time ≡ clock past → point ≡ cursor past → shift ≡ is_shift_down past who → posting ws time point shift who call ≡ Some (p.to, message_of p)
+posting-is setup past ws time point shift who k call p e now at down = ap (λ (c : ℕ). posting ws c point shift who call) now ∙ ap (λ (c : Point). posting ws (clock past) c shift who call) at ∙ ap (λ (b : Bool). posting ws (clock past) (cursor past) b who call) down ∙ elim p.is_call [
+  | inl x ↦ ap (posting_in ws (clock past) (cursor past) who) x.0 ∙ ap (λ (t : ℕ). let y : ℕ × Msg = (t, message_of p) in Some y) (ap (λ (t : ℕ). cond (eqb p.hwnd 0) who t) (thread_in-is past ws p.hwnd e) ∙ sym x.1)
+  | inr x ↦ ap (posting_in ws (clock past) (cursor past) who) x.0 ∙ ap (λ (w : ℕ). let y : ℕ × Msg = (p.to, message w p.number p.wparam p.lparam (clock past) (cursor past)) in Some y) (sym x.1)
 ]
 
 -- a running thread is one of the threads
@@ -158,9 +162,9 @@ post_has_room setup past threads who k call p lawful count each running =
     }
 
 -- the change of a post can be made
-pub fits_posting : (setup : Setup) (past : Past) (threads : List ThreadView) (ws : List KeptWindow) (time : ℕ) (point : Point) (who k : ℕ) (call : Call) (p : IsPost setup past who call k) → IsLawful setup past → length threads ≡ setup.threads → EachThread past threads → is_running setup past who ≡ true → map as_made ws ≡ live past → time ≡ clock past → point ≡ cursor past → FitsPosting threads k (posting ws time point who call)
-fits_posting setup past threads ws time point who k call p lawful count each running e now at =
-    subst (FitsPosting threads k) (sym (posting-is setup past ws time point who k call p e now at)) (post_has_room setup past threads who k call p lawful count each running)
+pub fits_posting : (setup : Setup) (past : Past) (threads : List ThreadView) (ws : List KeptWindow) (time : ℕ) (point : Point) (shift : Bool) (who k : ℕ) (call : Call) (p : IsPost setup past who call k) → IsLawful setup past → length threads ≡ setup.threads → EachThread past threads → is_running setup past who ≡ true → map as_made ws ≡ live past → time ≡ clock past → point ≡ cursor past → shift ≡ is_shift_down past who → FitsPosting threads k (posting ws time point shift who call)
+fits_posting setup past threads ws time point shift who k call p lawful count each running e now at down =
+    subst (FitsPosting threads k) (sym (posting-is setup past ws time point shift who k call p e now at down)) (post_has_room setup past threads who k call p lawful count each running)
 
 small_number : (m : ℕ) → is_no_message m ≡ false → m ≤ 65535
 small_number m h = grind (arith, nat_tests, h)
@@ -169,8 +173,8 @@ window_fits : (past : Past) (ws : List KeptWindow) (w : ℕ) → map as_made ws 
 window_fits past ws w e h = ap (λ b. eqb w 0 || b) (is_live-is past ws w e) ∙ not_false (eqb w 0 || is_live past w) h
 
 -- the call of a post is a message's to a live window or to none
-pub fits_post : (setup : Setup) (past : Past) (ws : List KeptWindow) (who k : ℕ) (call : Call) (p : IsPost setup past who call k) → map as_made ws ≡ live past → FitsPost ws call
-fits_post setup past ws who k call p e = elim p.is_call [
-  | inl x ↦ subst (FitsPost ws) (sym x.0) (window_fits past ws p.hwnd e x.2, small_number p.number p.fits)
-  | inr x ↦ subst (FitsPost ws) (sym x.0) (small_number p.number p.fits)
+pub fits_post : (setup : Setup) (past : Past) (ws : List KeptWindow) (shift : Bool) (who k : ℕ) (call : Call) (p : IsPost setup past who call k) → map as_made ws ≡ live past → shift ≡ is_shift_down past who → FitsPost ws shift call
+fits_post setup past ws shift who k call p e down = elim p.is_call [
+  | inl x ↦ subst (FitsPostIn ws) (sym (ap (λ b. posting_of b call) down ∙ x.0)) (window_fits past ws p.hwnd e x.2, small_number p.number p.fits)
+  | inr x ↦ subst (FitsPostIn ws) (sym (ap (λ b. posting_of b call) down ∙ x.0)) (small_number p.number p.fits)
 ]

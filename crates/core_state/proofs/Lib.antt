@@ -2,6 +2,8 @@ pub mod Appended
 pub mod Deliveries
 pub mod FreshSends
 pub mod GoingWindows
+pub mod Homes
+pub mod Injections
 pub mod ScreenReads
 pub mod DisplaySteps
 pub mod SendCounts

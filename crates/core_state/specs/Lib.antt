@@ -1,4 +1,6 @@
 pub mod Frames
+pub mod Inputs
 pub mod Needs
+pub mod Progress
 pub mod Sendings
 pub mod States

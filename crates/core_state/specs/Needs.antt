@@ -1,5 +1,5 @@
 -- What the change of an entry needs of the parts.
-use Rattle.std.specs.Prelude.{◌≡◌, ℕ, false, List, Option, Some, None}
+use Rattle.std.specs.Prelude.{◌≡◌, ℕ, Bool, false, List, Option, Some, None}
 use Rattle.win_num.specs.declared.message.Msg.{Msg}
 use Rattle.win_num.specs.declared.shapes.Point.{Point}
 use Rattle.win_class.specs.ClassTable.{ClassTable, unregister_refusal}
@@ -19,11 +19,11 @@ FitsPosting threads k None = Unit {0}
 FitsPosting threads k (Some p) = HasRoom threads p.0 k
 
 -- what an answer that takes memory needs
-abbrev pub FitsAdding : ClassTable → Windows → List ThreadView → ℕ → Point → ℕ → Answer → Call → Type 0
-FitsAdding classes tree threads time point who (PostMade k) call = FitsPost tree.live call × FitsPosting threads k (posting tree.live time point who call)
-FitsAdding classes tree threads time point who (Value v) call = FitsNaming classes call
-FitsAdding classes tree threads time point who (Window w) call = FitsMaking who call tree
-FitsAdding classes tree threads time point who _ call = Unit {0}
+abbrev pub FitsAdding : ClassTable → Windows → List ThreadView → ℕ → Point → Bool → ℕ → Answer → Call → Type 0
+FitsAdding classes tree threads time point shift who (PostMade k) call = FitsPost tree.live shift call × FitsPosting threads k (posting tree.live time point shift who call)
+FitsAdding classes tree threads time point shift who (Value v) call = FitsNaming classes call
+FitsAdding classes tree threads time point shift who (Window w) call = FitsMaking who call tree
+FitsAdding classes tree threads time point shift who _ call = Unit {0}
 
 -- what a call needs that is answered by ok
 abbrev pub FitsCarrying : ClassTable → Windows → List ThreadView → ℕ → Call → Type 0

@@ -2,9 +2,15 @@
 use Rattle.std.specs.Prelude.{◌≡◌, ℕ, ◌+◌, ◌<◌, ◌≤◌, List, length, slice_index_or}
 use Rattle.user_model.specs.declared.entry.Setup.{Setup}
 use Rattle.user_model.specs.Past.{Past}
-use Rattle.user_model.specs.Places.{clock}
+use Rattle.user_model.specs.Places.{clock, cursor}
 use Rattle.user_model.specs.Posts.{posts}
+use Rattle.user_model.specs.Inputs.{inputs}
 use Rattle.user_model.specs.Legal.{IsLawful}
+use Rattle.user_model.specs.Setups.{IsSetup}
+use Rattle.win_num.specs.declared.shapes.Point.{Point}
+use Rattle.input_queue.specs.declared.element.Element.{Element as KeptElement}
+use Rattle.pending_state.specs.Pending.{untaken_at}
+use Rattle.core_state.specs.declared.progress.Progress.{Progress}
 use Rattle.win_rows.specs.Windows.{Windows}
 use Rattle.win_class.specs.ClassTable.{ClassTable}
 use Rattle.send_state.specs.Parts.{SendParts}
@@ -37,22 +43,26 @@ pub record Parts : Type 0 where
   pub threads : List ThreadView
   pub timers : List Setting
   pub groups : Kept
+  pub inputs : List KeptElement
   pub post_count : ℕ
+  pub input_count : ℕ
   pub time : ℕ
+  pub cursor : Point
   pub sends : SendParts
   pub tally : Tally
   pub stories : List SendStory
 
 -- the parts from their values
-abbrev pub parts : Windows → Layers → Shown → ClassTable → List ThreadView → List Setting → Kept → ℕ → ℕ → SendParts → Tally → List SendStory → Parts
-parts tree order display classes threads timers groups post_count time sends tally stories = record { tree = tree; order = order; display = display; classes = classes; threads = threads; timers = timers; groups = groups; post_count = post_count; time = time; sends = sends; tally = tally; stories = stories }
+abbrev pub parts : Windows → Layers → Shown → ClassTable → List ThreadView → List Setting → Kept → List KeptElement → Progress → SendParts → Tally → List SendStory → Parts
+parts tree order display classes threads timers groups inputs progress sends tally stories = record { tree = tree; order = order; display = display; classes = classes; threads = threads; timers = timers; groups = groups; inputs = inputs; post_count = progress.posts; input_count = progress.inputs; time = progress.time; cursor = progress.cursor; sends = sends; tally = tally; stories = stories }
 
 -- each thread's part is what the past says of the thread
 pub record EachThread (past : Past) (threads : List ThreadView) : Type 0 where
   pub at : (i : ℕ) (d : ThreadView) → i < length threads → slice_index_or threads i d ≡ thread_at past (i + 1)
 
--- the past is lawful and no longer than allowed, and each part is what the past says
+-- the setup is one of a machine, the past is lawful and no longer than allowed, and each part is what the past says
 pub record Stands (setup : Setup) (past : Past) (p : Parts) : Type 0 where
+  pub ready : IsSetup setup
   pub lawful : IsLawful setup past
   pub short : length past ≤ 2097152
   pub tree : IsTreeAt past p.tree
@@ -63,8 +73,11 @@ pub record Stands (setup : Setup) (past : Past) (p : Parts) : Type 0 where
   pub each : EachThread past p.threads
   pub timers : p.timers ≡ timers_at past
   pub groups : IsGroupsAt setup past p.groups
+  pub untaken : p.inputs ≡ untaken_at setup past
   pub posts : p.post_count ≡ length (posts past)
+  pub injected : p.input_count ≡ length (inputs past)
   pub clock : p.time ≡ clock past
+  pub cursor : p.cursor ≡ cursor past
   pub sends : PartsStand setup past p.sends
   pub tally : p.tally ≡ tally_at past
   pub stories : StoriesStand past p.stories

@@ -12,11 +12,14 @@ ghost use Rattle.thread_queues.specs.Queues.{EachBy};
 ghost use Rattle.display_state.specs.Displays.{DrawsDisplay, IsPainting};
 ghost use Rattle.screen_state.specs.Screens.{draws};
 ghost use Rattle.timer_state.specs.Changes.{FitsAddedTimers, added_timers};
+ghost use Rattle.pending_state.specs.Changes.{FitsInjecting, added_by};
 ghost use Rattle.win_num.specs.Clocks.{clock_limit};
 ghost use Rattle.window_state.specs.Orders.{FitsLeaving, FitsOrder, FitsOrderEffect, FitsReordering, IsOrderAdded, affected_order, carried_order, reordered_by};
 
 use crate::sendings::begin;
 use display_state::Display;
+use input_queue::Inputs;
+use pending_state::{Meant, add_input};
 use send_state::SendState;
 use std::alloc::{AllocError, Global};
 use thread_queues::{Stamp, end, post, posting, purge_kin, set_quit, take};
@@ -32,7 +35,7 @@ use window_state::{
     doom, drop_window, leave, make, name, relook, reorder, unmake, unregister, window_or_none,
 };
 
-/// Adds a post, a class, a message's name, a window, a send or a timer, puts a window elsewhere among its siblings, changes
+/// Adds a post, a class, a message's name, a window, a send, a timer or an input, puts a window elsewhere among its siblings, changes
 /// dirty pixels, begun painting and colours, or keeps a frame, as the answer says. After want of memory nothing has changed.
 pub fn add_item(
     classes: &mut Classes,
@@ -40,23 +43,27 @@ pub fn add_item(
     order: &mut Order,
     threads: &mut Vec<ThreadState>,
     timers: &mut Timers,
+    inputs: &mut Inputs,
     sends: &mut SendState,
     display: &mut Display,
     stamp: Stamp,
+    meant: Meant,
     entry: Entry,
 ) -> Result<(), AllocError>
-    requires parts { FitsAdding classes.old tree.old threads.old.items stamp.time stamp.cursor entry.who.0 entry.answer entry.call }
+    requires parts { FitsAdding classes.old tree.old threads.old.items stamp.time stamp.cursor stamp.shift entry.who.0 entry.answer entry.call }
     requires order { FitsOrder entry.who.0 entry.answer entry.call tree.old order.old }
     requires sends { FitsAddedSends tree.old.live stamp.time stamp.place entry.who entry.answer entry.call sends.old }
     requires drawing { IsPainting tree.old classes.old entry }
     requires timers { FitsAddedTimers tree.old.live entry.who timers.old entry.answer entry.call }
+    requires inputs { FitsInjecting meant inputs.old entry.answer entry.call }
     requires early { stamp.time < clock_limit }
     ensures classes { OnOk result (classes.new ≡ added_classes entry.answer entry.call classes.old) }
     ensures tree { OnOk result (IsAddedBy entry.who.0 entry.answer entry.call tree.old tree.new) }
     ensures order { OnOk result (IsOrderAdded entry.answer entry.call tree.old tree.new order.old order.new) }
-    ensures threads { OnOk result (EachBy (λ t. changed t (adding_in tree.old.live stamp.time stamp.cursor entry.who.0 entry.answer entry.call)) threads.old.items threads.new.items) }
+    ensures threads { OnOk result (EachBy (λ t. changed t (adding_in tree.old.live stamp.time stamp.cursor stamp.shift entry.who.0 entry.answer entry.call)) threads.old.items threads.new.items) }
     ensures sends { OnOk result (sends.new ≡ added_sends tree.old.live stamp.time stamp.place entry.who entry.answer entry.call sends.old) }
     ensures timers { OnOk result (timers.new ≡ added_timers entry.who stamp.time entry.answer entry.call timers.old) }
+    ensures inputs { OnOk result (inputs.new ≡ added_by meant entry.answer entry.call inputs.old) }
     ensures drawn { OnOk result (draws entry.call entry.answer ≡ true → DrawsDisplay tree.old classes.old entry display.old display.new) }
     ensures display { OnOk result (draws entry.call entry.answer ≡ false → display.new ≡ display.old) }
     ensures classes_stay { OnErr result (classes.new ≡ classes.old) }
@@ -65,6 +72,7 @@ pub fn add_item(
     ensures threads_stay { OnErr result (threads.new.items ≡ threads.old.items) }
     ensures sends_stay { OnErr result (sends.new ≡ sends.old) }
     ensures timers_stay { OnErr result (timers.new ≡ timers.old) }
+    ensures inputs_stay { OnErr result (inputs.new ≡ inputs.old) }
     ensures display_stays { OnErr result (display.new ≡ display.old) }
 {
     let alloc = *threads.allocator();
@@ -80,6 +88,7 @@ pub fn add_item(
             Call::SetTimer(..) => set_timer(timers, tree, entry.who, entry.call, stamp.time),
             _ => display.draw(alloc, tree, classes, entry),
         },
+        Answer::Input(_) => add_input(inputs, entry, meant),
         Answer::Painting { .. } | Answer::Snap(_) => display.draw(alloc, tree, classes, entry),
         _ => Ok(()),
     }

@@ -43,15 +43,18 @@ ghost use Rattle.thread_state.specs.Threads.{code_of, fresh_thread, told_post, w
 ghost use Rattle.window_state.specs.Steps.{destruction_answer};
 
 use crate::change::{add_item, take_effect};
+use crate::progress::Progress;
 use crate::sendings::settle_sends;
 use band_region::Region;
 use display_state::Display;
 use group_state::{GroupState, Slot};
+use input_queue::Inputs;
+use pending_state::follow_inputs;
 use screen_state::UpdateBox;
 use send_state::{SendRow, SendState, Tally, first_cause, named_send};
 use std::alloc::{AllocError, Global};
 use std::marker::Model;
-use thread_queues::{Stamp, count_after, note_entry, time_after};
+use thread_queues::{Stamp, note_entry};
 use thread_state::ThreadState;
 use timer_source::{Timer, Timers};
 use timer_state::{due_timer, follow_timers, has_timer, next_due, timers_are_full};
@@ -64,6 +67,8 @@ use window_state::{
     Placing, is_disabled, is_shown, owner_at, parent_of, placing_changes, step_told, thread_of,
     titled, up, window_or_none,
 };
+
+mod inputs;
 
 /// The history so far, and parts that answer in short time what the definitions say of it.
 #[derive(Drop)]
@@ -80,12 +85,11 @@ pub struct CoreState {
     /// What is kept of each thread, from thread 1 on.
     threads: Vec<ThreadState>,
     timers: Timers,
-    /// Attached threads, focus, active windows and captures.
+    /// Attached threads, focus, active windows, captures and keys.
     groups: GroupState,
-    /// How many posts there were.
-    post_count: u32,
-    /// Milliseconds of the virtual clock.
-    time: u64,
+    /// The mouse and keyboard input that no thread has taken.
+    inputs: Inputs,
+    progress: Progress,
     sends: SendState,
     tally: Tally,
     /// What became of each send, from send 1 on.
@@ -100,7 +104,7 @@ impl Model for CoreState {
 
     ghost view = { λ s. record { setup = s.setup; past = reverse s.history.items } };
 
-    ghost invariant = { λ s. Stands s.setup (reverse s.history.items) (parts s.tree s.order s.display s.classes s.threads.items s.timers s.groups s.post_count s.time s.sends s.tally s.stories.items) };
+    ghost invariant = { λ s. Stands s.setup (reverse s.history.items) (parts s.tree s.order s.display s.classes s.threads.items s.timers s.groups s.inputs s.progress s.sends s.tally s.stories.items) };
 }
 
 impl CoreState {
@@ -119,8 +123,8 @@ impl CoreState {
             threads: fresh_threads(alloc, setup.threads)?,
             timers: Timers::new(alloc),
             groups: GroupState::new(alloc, setup.threads)?,
-            post_count: 0,
-            time: 0,
+            inputs: Inputs::new(alloc),
+            progress: Progress::new(),
             sends: SendState::new(alloc, setup.threads)?,
             tally: Tally::new(),
             stories: Vec::new(alloc),
@@ -164,14 +168,14 @@ impl CoreState {
         ensures time { result ≡ clock self.now.past }
         ensures early { result < clock_limit }
     {
-        self.time
+        self.progress.time
     }
 
     /// Where the cursor stands, in pixels of the screen.
     pub fn cursor(&self) -> Point
         ensures { result ≡ cursor self.now.past }
     {
-        Point { x: 0, y: 0 }
+        self.progress.cursor
     }
 
     /// Whether it is the number of a thread. Any other number is never idle.
@@ -242,7 +246,7 @@ impl CoreState {
         requires { is_full self.now.past ≡ false }
         ensures { result ≡ next_post_number self.now.past }
     {
-        self.post_count + 1
+        self.progress.posts + 1
     }
 
     /// The newest frame of a thread.
@@ -407,7 +411,13 @@ impl CoreState {
     pub fn due_timer(&self, thread: u8, filter: Filter) -> Option<Timer>
         ensures { result ≡ option_map (as_due self.now.past) (due self.now.past thread filter) }
     {
-        due_timer(&self.timers, &self.tree, Thread(thread), filter, self.time)
+        due_timer(
+            &self.timers,
+            &self.tree,
+            Thread(thread),
+            filter,
+            self.progress.time,
+        )
     }
 
     /// Whether a live window has a timer with the id.
@@ -733,9 +743,11 @@ impl CoreState {
     {
         let stamp = Stamp {
             place: self.history.len() as u32,
-            time: self.time,
-            cursor: self.cursor(),
+            time: self.progress.time,
+            cursor: self.progress.cursor,
+            shift: self.is_shift_down(entry.who.0),
         };
+        let meant = self.meant_by(entry.call);
         let named = named_send(&self.sends, entry);
         let first = first_cause(&self.sends, named);
         let alloc = *self.history.allocator();
@@ -749,9 +761,11 @@ impl CoreState {
             &mut self.order,
             &mut self.threads,
             &mut self.timers,
+            &mut self.inputs,
             &mut self.sends,
             &mut self.display,
             stamp,
+            meant,
             entry,
         )?;
         let lost = settle_sends(
@@ -764,6 +778,7 @@ impl CoreState {
         );
         follow_timers(&mut self.timers, &self.tree, entry, stamp.time);
         self.groups.follow(entry, stamp.place);
+        follow_inputs(&mut self.inputs, entry);
         take_effect(
             &mut self.classes,
             &mut self.tree,
@@ -773,8 +788,7 @@ impl CoreState {
         );
         self.display.take_over(change);
         note_entry(&mut self.threads, entry);
-        self.post_count = count_after(self.post_count, entry.answer);
-        self.time = time_after(self.time, entry);
+        self.progress = self.progress.followed_by(entry);
         self.tally = self.tally.with(entry.answer, first, lost);
         self.history.push(entry).unwrap();
         Ok(())

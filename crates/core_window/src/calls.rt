@@ -1,4 +1,4 @@
-//! The calls on classes, windows and groups of attached threads: what each answers, and its entry.
+//! The calls on classes, windows, groups of attached threads, the mouse and keys: what each answers, and its entry.
 
 ghost use Rattle.std.specs.Prelude.{◌≡◌, ◌<◌, ◌≤◌, true, false, IfOk, OnOk, OnErr};
 ghost use Rattle.core_deliver.specs.Groups.{is_window_call};
@@ -12,6 +12,7 @@ use crate::groups::{
     attach_answer, detach_answer, set_active_answer, set_capture_answer, set_focus_answer,
     value_answer, was_answer,
 };
+use crate::inputs::{key_answer, key_state_answer, mouse_answer};
 use crate::windows::{
     NewWindow, await_title_answer, doom_answer, drop_answer, enable_answer, find_answer,
     is_window_answer, new_window_answer, next_top_answer, parent_answer, place_answer,
@@ -24,7 +25,7 @@ use std::alloc::AllocError;
 use user_model::{Answer, Call};
 use win_num::Thread;
 
-/// The answer of a call on classes, windows or groups to a running thread, where its stack allows it.
+/// The answer of a call on classes, windows, groups or input to a running thread, where its stack allows it.
 fn window_row(state: &CoreState, thread: u8, call: Call) -> Answer
     requires group { is_window_call call ≡ true }
     requires room { is_full state.now.past ≡ false }
@@ -65,10 +66,11 @@ fn window_row(state: &CoreState, thread: u8, call: Call) -> Answer
     }
 }
 
-/// The answer of a call that looks for windows, or of one on focus, active window, capture or attached threads.
+/// The answer of a call that looks for windows, or of one on focus, active window, capture, attached threads, the mouse or keys.
 fn lookup_row(state: &CoreState, thread: u8, call: Call) -> Answer
     requires group { is_window_call call ≡ true }
     requires looks { IsLookup call }
+    requires room { is_full state.now.past ≡ false }
     requires some { 0 < thread }
     requires known { thread ≤ state.now.setup.threads }
     ensures { result ≡ row state.now.setup state.now.past thread call }
@@ -89,6 +91,9 @@ fn lookup_row(state: &CoreState, thread: u8, call: Call) -> Answer
         Call::GetCapture => value_answer(state, thread, Slot::Capture),
         Call::Attach(t, u) => attach_answer(state, t, u),
         Call::Detach(t, u) => detach_answer(state, t, u),
+        Call::Mouse(number, x, y) => mouse_answer(state, number, x, y),
+        Call::Key(down, key) => key_answer(state, down, key),
+        Call::KeyState(key) => key_state_answer(state, thread, key),
         _ => unreachable!(),
     }
 }

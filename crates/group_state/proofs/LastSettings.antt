@@ -1,4 +1,4 @@
--- What a group's threads set last is what the one set that set last.
+-- What a group's threads set last is what the one set that set last. The same holds of all that entries tell of the threads that made them.
 use Rattle.std.proofs.Common.{◌≡◌, ◌≢◌, ◌⊎◌, ℕ, zero, suc, ◌+◌, ◌<◌, ◌≤◌, Bool, true, false, cond, eqb, List, [], ◌∷◌, length, Option, Some, None, get_or, refl, ap, ◌∙◌, sym, subst, inl, inr, arith}
 use Rattle.std.specs.Prelude.{◌&&◌, nat_lt, option_map, unwrap_or}
 use Rattle.std.proofs.lemmas.Bool.{and_parts, cases_eq, eq-eqb, false≢true, le-ltb, lt-ltb, ne_eqb}
@@ -6,13 +6,12 @@ use Rattle.input_state.specs.Groups.{has_bit}
 use Rattle.input_state.specs.State.{cell, later, latest_below}
 use Rattle.user_model.specs.declared.entry.Entry.{Entry}
 use Rattle.user_model.specs.declared.entry.Setup.{Setup}
-use Rattle.user_model.specs.Past.{Past, is_refused}
-use Rattle.user_model.specs.Focus.{Slot, if_among, last_set, set_in}
+use Rattle.user_model.specs.Past.{Past, is_refused, last_of}
+use Rattle.user_model.specs.Focus.{if_among}
+use Rattle.user_model.specs.Idle.{reply}
 use Rattle.user_model.specs.Legal.{IsLawful}
 use Rattle.user_model.proofs.DirtyLaws.{last_says, last_refused}
-use Rattle.user_model.proofs.GroupLaws.{last_set-next, last_set-refused}
-use Rattle.group_state.specs.GroupTables.{order_of, order_told}
-use Rattle.group_state.proofs.Setters.{setter_known}
+use Rattle.group_state.specs.GroupTables.{place_told}
 
 -- ---- the latest of some
 
@@ -102,109 +101,138 @@ best_is P o t (suc n) passes above low = by (cases_eq t n) (λ less. best_is P o
     by (inl e) before = last e (cases_eq (best P o n) t)
     by (inr ne) before = earlier ne (before (omega (arith, low, ne)))
 
--- ---- orders
+-- ---- what entries tell
 
-pub order_of-next : (t : ℕ) (slot : Slot) (e : Entry) (past : Past) → is_refused e ≡ false → order_of t slot (e ∷ past) ≡ unwrap_or (option_map (λ w. length past + 1) (if_among (λ u. eqb u t) e.who.0 (set_in slot e.call))) (order_of t slot past)
-order_of-next t slot e past h = last_says (order_told t slot) e past 0 h
+-- what an entry of one of these threads tells
+abbrev pub told_among : {A : Type 0} → (Entry → Option A) → (ℕ → Bool) → Entry → Past → Option A
+told_among tells among e before = if_among among e.who.0 (tells e)
 
-pub order_of-refused : (t : ℕ) (slot : Slot) (e : Entry) (past : Past) → is_refused e ≡ true → order_of t slot (e ∷ past) ≡ order_of t slot past
-order_of-refused t slot e past h = ap (λ o. unwrap_or o 0) (last_refused (order_told t slot) e past h)
+-- what the last of them told, or d
+abbrev pub last_told : {A : Type 0} → (Entry → Option A) → A → (ℕ → Bool) → Past → A
+last_told tells d among past = unwrap_or (last_of (told_among tells among) past) d
 
--- what is set by a thread, where it is t
-pub order_set : (t : ℕ) (slot : Slot) (e : Entry) (past : Past) (w : ℕ) → is_refused e ≡ false → set_in slot e.call ≡ Some w → order_of t slot (e ∷ past) ≡ cond (eqb e.who.0 t) (length past + 1) (order_of t slot past)
-order_set t slot e past w fine sets =
-    order_of-next t slot e past fine
-    ∙ ap (λ o. unwrap_or (option_map (λ w. length past + 1) (if_among (λ u. eqb u t) e.who.0 o)) (order_of t slot past)) sets
-    ∙ by (eqb e.who.0 t)
-  where
-    by : (b : Bool) → unwrap_or (option_map (λ (k : ℕ). length past + 1) (cond b (Some w) None)) (order_of t slot past) ≡ cond b (length past + 1) (order_of t slot past)
-    by true = refl
-    by false = refl
+-- one above the place of the last entry of t that tells, or 0
+abbrev pub place_of : {A : Type 0} → (Entry → Option A) → ℕ → Past → ℕ
+place_of tells t past = unwrap_or (last_of (place_told (told_among tells (λ u. eqb u t))) past) 0
 
-pub order_unset : (t : ℕ) (slot : Slot) (e : Entry) (past : Past) → is_refused e ≡ false → set_in slot e.call ≡ None → order_of t slot (e ∷ past) ≡ order_of t slot past
-order_unset t slot e past fine none =
-    order_of-next t slot e past fine
-    ∙ ap (λ o. unwrap_or (option_map (λ w. length past + 1) (if_among (λ u. eqb u t) e.who.0 o)) (order_of t slot past)) none
+-- the one of these threads that told last
+abbrev pub teller : {A : Type 0} → (Entry → Option A) → (ℕ → Bool) → Past → ℕ
+teller tells P past = best P (λ t. place_of tells t past) 16
 
-pub last_set-set : (among : ℕ → Bool) (slot : Slot) (e : Entry) (past : Past) (w : ℕ) → is_refused e ≡ false → set_in slot e.call ≡ Some w → last_set among slot (e ∷ past) ≡ cond (among e.who.0) w (last_set among slot past)
-last_set-set among slot e past w fine sets =
-    last_set-next among slot e past fine
-    ∙ ap (λ o. unwrap_or (if_among among e.who.0 o) (last_set among slot past)) sets
-    ∙ by (among e.who.0)
-  where
-    by : (b : Bool) → unwrap_or (cond b (Some w) None) (last_set among slot past) ≡ cond b w (last_set among slot past)
-    by true = refl
-    by false = refl
+-- what this one told last
+abbrev by_one : {A : Type 0} → (Entry → Option A) → A → ℕ → Past → A
+by_one tells d k past = last_told tells d (λ u. eqb u k) past
 
-pub last_set-unset : (among : ℕ → Bool) (slot : Slot) (e : Entry) (past : Past) → is_refused e ≡ false → set_in slot e.call ≡ None → last_set among slot (e ∷ past) ≡ last_set among slot past
-last_set-unset among slot e past fine none =
-    last_set-next among slot e past fine
-    ∙ ap (λ o. unwrap_or (if_among among e.who.0 o) (last_set among slot past)) none
+-- who tells is a thread
+abbrev pub AreKnown : {A : Type 0} → (Entry → Option A) → Setup → Type 0
+AreKnown {A} tells setup = (past : Past) (e : Entry) (a : A) → e.answer ≡ reply setup past e.who.0 e.call → is_refused e ≡ false → tells e ≡ Some a → (1 ≤ e.who.0) × (e.who.0 ≤ setup.threads)
 
--- orders are not above the length of the past
-pub order_low : (t : ℕ) (slot : Slot) (past : Past) → order_of t slot past ≤ length past
-order_low t slot [] = omega arith
-order_low t slot (e ∷ past) = by (is_refused e) refl (set_in slot e.call) refl (order_low t slot past)
-  where
-    cut : (b : Bool) → order_of t slot past ≤ length past → cond b (length past + 1) (order_of t slot past) ≤ suc (length past)
-    cut true h = omega arith
-    cut false h = omega (arith, h)
+module _ {A : Type 0} (tells : Entry → Option A) where
+  -- ---- places
 
-    by : (b : Bool) → is_refused e ≡ b → (o : Option ℕ) → set_in slot e.call ≡ o → order_of t slot past ≤ length past → order_of t slot (e ∷ past) ≤ suc (length past)
-    by true h o k low = subst (λ n. n ≤ suc (length past)) (sym (order_of-refused t slot e past h)) (omega (arith, low))
-    by false h None k low = subst (λ n. n ≤ suc (length past)) (sym (order_unset t slot e past h k)) (omega (arith, low))
-    by false h (Some w) k low = subst (λ n. n ≤ suc (length past)) (sym (order_set t slot e past w h k)) (cut (eqb e.who.0 t) low)
+  place-next : (t : ℕ) (e : Entry) (past : Past) → is_refused e ≡ false → place_of tells t (e ∷ past) ≡ unwrap_or (option_map (λ a. length past + 1) (if_among (λ u. eqb u t) e.who.0 (tells e))) (place_of tells t past)
+  place-next t e past h = last_says (place_told (told_among tells (λ u. eqb u t))) e past 0 h
 
--- ---- what was set last
+  pub place-refused : (t : ℕ) (e : Entry) (past : Past) → is_refused e ≡ true → place_of tells t (e ∷ past) ≡ place_of tells t past
+  place-refused t e past h = ap (λ o. unwrap_or o 0) (last_refused (place_told (told_among tells (λ u. eqb u t))) e past h)
 
--- the one of these threads that set the slot last
-abbrev pub setter : (ℕ → Bool) → Slot → Past → ℕ
-setter P slot past = best P (λ t. order_of t slot past) 16
+  -- what is told by a thread, where it is t
+  pub place-told : (t : ℕ) (e : Entry) (past : Past) (a : A) → is_refused e ≡ false → tells e ≡ Some a → place_of tells t (e ∷ past) ≡ cond (eqb e.who.0 t) (length past + 1) (place_of tells t past)
+  place-told t e past a fine told =
+      place-next t e past fine
+      ∙ ap (λ o. unwrap_or (option_map (λ a. length past + 1) (if_among (λ u. eqb u t) e.who.0 o)) (place_of tells t past)) told
+      ∙ by (eqb e.who.0 t)
+    where
+      by : (b : Bool) → unwrap_or (option_map (λ (k : A). length past + 1) (cond b (Some a) None)) (place_of tells t past) ≡ cond b (length past + 1) (place_of tells t past)
+      by true = refl
+      by false = refl
 
-abbrev by_one : ℕ → Slot → Past → ℕ
-by_one k slot past = last_set (λ u. eqb u k) slot past
+  pub place-untold : (t : ℕ) (e : Entry) (past : Past) → is_refused e ≡ false → tells e ≡ None → place_of tells t (e ∷ past) ≡ place_of tells t past
+  place-untold t e past fine none =
+      place-next t e past fine
+      ∙ ap (λ o. unwrap_or (option_map (λ a. length past + 1) (if_among (λ u. eqb u t) e.who.0 o)) (place_of tells t past)) none
 
-pub last_setter : (setup : Setup) (past : Past) (P : ℕ → Bool) (slot : Slot) → IsLawful setup past → setup.threads ≤ 15 → by_one (setter P slot past) slot past ≡ last_set P slot past
-last_setter setup [] P slot lawful few = refl
-last_setter setup (e ∷ past) P slot lawful few = by (last_setter setup past P slot lawful.0 few) (is_refused e) refl (set_in slot e.call) refl
-  where
-    same_setter : ((t : ℕ) → t < 16 → (t ≡ 0) ⊎ (P t ≡ true) → order_of t slot (e ∷ past) ≡ order_of t slot past) → setter P slot (e ∷ past) ≡ setter P slot past
-    same_setter orders = best_same P P (λ t. order_of t slot (e ∷ past)) (λ t. order_of t slot past) 16 16 (omega arith) (λ t l. refl) orders
+  -- places are not above the length of the past
+  place_low : (t : ℕ) (past : Past) → place_of tells t past ≤ length past
+  place_low t [] = omega arith
+  place_low t (e ∷ past) = by (is_refused e) refl (tells e) refl (place_low t past)
+    where
+      cut : (b : Bool) → place_of tells t past ≤ length past → cond b (length past + 1) (place_of tells t past) ≤ suc (length past)
+      cut true h = omega arith
+      cut false h = omega (arith, h)
 
-    set_by : by_one (setter P slot past) slot past ≡ last_set P slot past → (w : ℕ) → is_refused e ≡ false → set_in slot e.call ≡ Some w → (b : Bool) → P e.who.0 ≡ b → by_one (setter P slot (e ∷ past)) slot (e ∷ past) ≡ last_set P slot (e ∷ past)
-    set_by before w fine sets true passes =
-        let known = setter_known setup past e slot w lawful.1 fine sets in
-        let low : e.who.0 < 16 = omega (arith, known.1, few) in
-        let own : order_of e.who.0 slot (e ∷ past) ≡ length past + 1 = order_set e.who.0 slot e past w fine sets ∙ ap (λ b. cond b (length past + 1) (order_of e.who.0 slot past)) (eq-eqb e.who.0 e.who.0 refl) in
-        let is : setter P slot (e ∷ past) ≡ e.who.0 = best_is P (λ t. order_of t slot (e ∷ past)) e.who.0 16 passes (λ u ne. less u ne own) low in
-        ap (λ k. by_one k slot (e ∷ past)) is
-        ∙ last_set-set (λ u. eqb u e.who.0) slot e past w fine sets
-        ∙ ap (λ b. cond b w (by_one e.who.0 slot past)) (eq-eqb e.who.0 e.who.0 refl)
-        ∙ sym (last_set-set P slot e past w fine sets ∙ ap (λ b. cond b w (last_set P slot past)) passes)
+      by : (b : Bool) → is_refused e ≡ b → (o : Option A) → tells e ≡ o → place_of tells t past ≤ length past → place_of tells t (e ∷ past) ≤ suc (length past)
+      by true h o k low = subst (λ n. n ≤ suc (length past)) (sym (place-refused t e past h)) (omega (arith, low))
+      by false h None k low = subst (λ n. n ≤ suc (length past)) (sym (place-untold t e past h k)) (omega (arith, low))
+      by false h (Some a) k low = subst (λ n. n ≤ suc (length past)) (sym (place-told t e past a h k)) (cut (eqb e.who.0 t) low)
+
+  module _ (d : A) where
+    -- ---- what was told last
+
+    told-next : (among : ℕ → Bool) (e : Entry) (past : Past) → is_refused e ≡ false → last_told tells d among (e ∷ past) ≡ unwrap_or (if_among among e.who.0 (tells e)) (last_told tells d among past)
+    told-next among e past h = last_says (told_among tells among) e past d h
+
+    pub told-refused : (among : ℕ → Bool) (e : Entry) (past : Past) → is_refused e ≡ true → last_told tells d among (e ∷ past) ≡ last_told tells d among past
+    told-refused among e past h = ap (λ o. unwrap_or o d) (last_refused (told_among tells among) e past h)
+
+    pub told-told : (among : ℕ → Bool) (e : Entry) (past : Past) (a : A) → is_refused e ≡ false → tells e ≡ Some a → last_told tells d among (e ∷ past) ≡ cond (among e.who.0) a (last_told tells d among past)
+    told-told among e past a fine told =
+        told-next among e past fine
+        ∙ ap (λ o. unwrap_or (if_among among e.who.0 o) (last_told tells d among past)) told
+        ∙ by (among e.who.0)
       where
-        less : (u : ℕ) → u ≢ e.who.0 → order_of e.who.0 slot (e ∷ past) ≡ length past + 1 → order_of u slot (e ∷ past) < order_of e.who.0 slot (e ∷ past)
-        less u ne own =
-            let other : order_of u slot (e ∷ past) ≡ order_of u slot past = order_set u slot e past w fine sets ∙ ap (λ b. cond b (length past + 1) (order_of u slot past)) (ne_eqb e.who.0 u (λ k. ne (sym k))) in
-            let low : order_of u slot past ≤ length past = order_low u slot past in
-            omega (arith, other, own, low)
-    set_by before w fine sets false passes_not =
-        let known = setter_known setup past e slot w lawful.1 fine sets in
-        let same : setter P slot (e ∷ past) ≡ setter P slot past = same_setter (λ t l k. order_set t slot e past w fine sets ∙ ap (λ b. cond b (length past + 1) (order_of t slot past)) (ne_eqb e.who.0 t (apart t k known.0))) in
-        ap (λ k. by_one k slot (e ∷ past)) same
-        ∙ last_set-set (λ u. eqb u (setter P slot past)) slot e past w fine sets
-        ∙ ap (λ b. cond b w (by_one (setter P slot past) slot past)) (ne_eqb e.who.0 (setter P slot past) (apart (setter P slot past) (best_member P (λ t. order_of t slot past) 16) known.0))
-        ∙ before
-        ∙ sym (last_set-set P slot e past w fine sets ∙ ap (λ b. cond b w (last_set P slot past)) passes_not)
-      where
-        apart : (t : ℕ) → (t ≡ 0) ⊎ (P t ≡ true) → 1 ≤ e.who.0 → e.who.0 ≡ t → ⊥
-        apart t (inl zero_is) some e_is = omega (arith, zero_is, some, e_is)
-        apart t (inr passes) some e_is = false≢true (sym passes_not ∙ ap P e_is ∙ passes)
+        by : (b : Bool) → unwrap_or (cond b (Some a) None) (last_told tells d among past) ≡ cond b a (last_told tells d among past)
+        by true = refl
+        by false = refl
 
-    by : by_one (setter P slot past) slot past ≡ last_set P slot past → (b : Bool) → is_refused e ≡ b → (o : Option ℕ) → set_in slot e.call ≡ o → by_one (setter P slot (e ∷ past)) slot (e ∷ past) ≡ last_set P slot (e ∷ past)
-    by before true refused o k =
-        let same = same_setter (λ t l m. order_of-refused t slot e past refused) in
-        ap (λ k. by_one k slot (e ∷ past)) same ∙ last_set-refused (λ u. eqb u (setter P slot past)) slot e past refused ∙ before ∙ sym (last_set-refused P slot e past refused)
-    by before false fine None none =
-        let same = same_setter (λ t l m. order_unset t slot e past fine none) in
-        ap (λ k. by_one k slot (e ∷ past)) same ∙ last_set-unset (λ u. eqb u (setter P slot past)) slot e past fine none ∙ before ∙ sym (last_set-unset P slot e past fine none)
-    by before false fine (Some w) sets = set_by before w fine sets (P e.who.0) refl
+    pub told-untold : (among : ℕ → Bool) (e : Entry) (past : Past) → is_refused e ≡ false → tells e ≡ None → last_told tells d among (e ∷ past) ≡ last_told tells d among past
+    told-untold among e past fine none =
+        told-next among e past fine
+        ∙ ap (λ o. unwrap_or (if_among among e.who.0 o) (last_told tells d among past)) none
+
+    -- what these threads told last is what that one told last
+    pub last_teller : (setup : Setup) (past : Past) (P : ℕ → Bool) → AreKnown tells setup → IsLawful setup past → setup.threads ≤ 15 → by_one tells d (teller tells P past) past ≡ last_told tells d P past
+    last_teller setup [] P known lawful few = refl
+    last_teller setup (e ∷ past) P known lawful few = by (last_teller setup past P known lawful.0 few) (is_refused e) refl (tells e) refl
+      where
+        same_teller : ((t : ℕ) → t < 16 → (t ≡ 0) ⊎ (P t ≡ true) → place_of tells t (e ∷ past) ≡ place_of tells t past) → teller tells P (e ∷ past) ≡ teller tells P past
+        same_teller places = best_same P P (λ t. place_of tells t (e ∷ past)) (λ t. place_of tells t past) 16 16 (omega arith) (λ t l. refl) places
+
+        told_by : by_one tells d (teller tells P past) past ≡ last_told tells d P past → (a : A) → is_refused e ≡ false → tells e ≡ Some a → (b : Bool) → P e.who.0 ≡ b → by_one tells d (teller tells P (e ∷ past)) (e ∷ past) ≡ last_told tells d P (e ∷ past)
+        told_by before a fine told true passes =
+            let bounds = known past e a lawful.1 fine told in
+            let high : e.who.0 ≤ setup.threads = bounds.1 in
+            let low : e.who.0 < 16 = omega (arith, high, few) in
+            let own : place_of tells e.who.0 (e ∷ past) ≡ length past + 1 = place-told e.who.0 e past a fine told ∙ ap (λ b. cond b (length past + 1) (place_of tells e.who.0 past)) (eq-eqb e.who.0 e.who.0 refl) in
+            let is : teller tells P (e ∷ past) ≡ e.who.0 = best_is P (λ t. place_of tells t (e ∷ past)) e.who.0 16 passes (λ u ne. less u ne own) low in
+            ap (λ k. by_one tells d k (e ∷ past)) is
+            ∙ told-told (λ u. eqb u e.who.0) e past a fine told
+            ∙ ap (λ b. cond b a (by_one tells d e.who.0 past)) (eq-eqb e.who.0 e.who.0 refl)
+            ∙ sym (told-told P e past a fine told ∙ ap (λ b. cond b a (last_told tells d P past)) passes)
+          where
+            less : (u : ℕ) → u ≢ e.who.0 → place_of tells e.who.0 (e ∷ past) ≡ length past + 1 → place_of tells u (e ∷ past) < place_of tells e.who.0 (e ∷ past)
+            less u ne own =
+                let other : place_of tells u (e ∷ past) ≡ place_of tells u past = place-told u e past a fine told ∙ ap (λ b. cond b (length past + 1) (place_of tells u past)) (ne_eqb e.who.0 u (λ k. ne (sym k))) in
+                let low : place_of tells u past ≤ length past = place_low u past in
+                omega (arith, other, own, low)
+        told_by before a fine told false passes_not =
+            let bounds = known past e a lawful.1 fine told in
+            let same : teller tells P (e ∷ past) ≡ teller tells P past = same_teller (λ t l k. place-told t e past a fine told ∙ ap (λ b. cond b (length past + 1) (place_of tells t past)) (ne_eqb e.who.0 t (apart t k bounds.0))) in
+            ap (λ k. by_one tells d k (e ∷ past)) same
+            ∙ told-told (λ u. eqb u (teller tells P past)) e past a fine told
+            ∙ ap (λ b. cond b a (by_one tells d (teller tells P past) past)) (ne_eqb e.who.0 (teller tells P past) (apart (teller tells P past) (best_member P (λ t. place_of tells t past) 16) bounds.0))
+            ∙ before
+            ∙ sym (told-told P e past a fine told ∙ ap (λ b. cond b a (last_told tells d P past)) passes_not)
+          where
+            apart : (t : ℕ) → (t ≡ 0) ⊎ (P t ≡ true) → 1 ≤ e.who.0 → e.who.0 ≡ t → ⊥
+            apart t (inl zero_is) some e_is = omega (arith, zero_is, some, e_is)
+            apart t (inr passes) some e_is = false≢true (sym passes_not ∙ ap P e_is ∙ passes)
+
+        by : by_one tells d (teller tells P past) past ≡ last_told tells d P past → (b : Bool) → is_refused e ≡ b → (o : Option A) → tells e ≡ o → by_one tells d (teller tells P (e ∷ past)) (e ∷ past) ≡ last_told tells d P (e ∷ past)
+        by before true refused o k =
+            let same = same_teller (λ t l m. place-refused t e past refused) in
+            ap (λ k. by_one tells d k (e ∷ past)) same ∙ told-refused (λ u. eqb u (teller tells P past)) e past refused ∙ before ∙ sym (told-refused P e past refused)
+        by before false fine None none =
+            let same = same_teller (λ t l m. place-untold t e past fine none) in
+            ap (λ k. by_one tells d k (e ∷ past)) same ∙ told-untold (λ u. eqb u (teller tells P past)) e past fine none ∙ before ∙ sym (told-untold P e past fine none)
+        by before false fine (Some a) told = told_by before a fine told (P e.who.0) refl

@@ -1,7 +1,9 @@
 pub mod Empty
 pub mod GroupSteps
+pub mod KeySteps
 pub mod LastSettings
 pub mod LinkSteps
+pub mod Nobody
 pub mod Reaching
 pub mod Setters
 pub mod SettingSteps

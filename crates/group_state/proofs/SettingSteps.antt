@@ -13,9 +13,9 @@ use Rattle.user_model.specs.declared.entry.Entry.{Entry}
 use Rattle.user_model.specs.Past.{Past, is_refused}
 use Rattle.user_model.specs.Focus.{last_set, set_in}
 use Rattle.user_model.specs.ZOrder.{hwnd}
-use Rattle.user_model.proofs.GroupLaws.{last_set-refused}
 use Rattle.group_state.specs.GroupTables.{HasSetting, named, order_of}
-use Rattle.group_state.proofs.LastSettings.{last_set-set, last_set-unset, order_of-refused, order_set, order_unset}
+use Rattle.group_state.proofs.LastSettings.{place-refused, place-told, place-untold, told-refused, told-told, told-untold}
+use Rattle.group_state.proofs.Setters.{setting_in}
 
 -- ---- cells
 
@@ -24,12 +24,12 @@ row_low Focus = omega arith
 row_low Active = omega arith
 row_low Capture = omega arith
 
-pub cell_low : (r t : ℕ) → r < 3 → t < 16 → cell r t < 48
-cell_low r t lr lt = omega (arith, lr, lt)
+pub cell_low : (rows r t : ℕ) → r < rows → t < 16 → cell r t < 16 * rows
+cell_low rows r t lr lt = omega (arith, lr, lt)
 
 -- one cell of a table was written
-cell_written : {X : Type 0} (xs : List X) (r s t u : ℕ) (x d : X) → length xs ≡ 48 → r < 3 → t < 16 → u < 16 → get_or (set xs (cell r t) x) (cell s u) d ≡ cond (eqb r s && eqb t u) x (get_or xs (cell s u) d)
-cell_written xs r s t u x d long lr lt lu = by (cases_eq r s) (cases_eq t u)
+pub cell_written : {X : Type 0} (rows : ℕ) (xs : List X) (r s t u : ℕ) (x d : X) → length xs ≡ 16 * rows → r < rows → t < 16 → u < 16 → get_or (set xs (cell r t) x) (cell s u) d ≡ cond (eqb r s && eqb t u) x (get_or xs (cell s u) d)
+cell_written rows xs r s t u x d long lr lt lu = by (cases_eq r s) (cases_eq t u)
   where
     apart : cell s u ≢ cell r t → (eqb r s && eqb t u) ≡ false → get_or (set xs (cell r t) x) (cell s u) d ≡ cond (eqb r s && eqb t u) x (get_or xs (cell s u) d)
     apart ne other = get_or-set_other xs (cell r t) (cell s u) x d ne ∙ sym (ap (λ b. cond b x (get_or xs (cell s u) d)) other)
@@ -41,7 +41,7 @@ cell_written xs r s t u x d long lr lt lu = by (cases_eq r s) (cases_eq t u)
     by : (r ≡ s) ⊎ (r ≡ s → ⊥) → (t ≡ u) ⊎ (t ≡ u → ⊥) → get_or (set xs (cell r t) x) (cell s u) d ≡ cond (eqb r s && eqb t u) x (get_or xs (cell s u) d)
     by (inl e) (inl f) =
         ap (λ k. get_or (set xs (cell r t) x) k d) (ap (λ k. cell k u) (sym e) ∙ ap (cell r) (sym f))
-        ∙ get_or-set_same xs (cell r t) x d (let low : cell r t < 48 = cell_low r t lr lt in omega (arith, low, long))
+        ∙ get_or-set_same xs (cell r t) x d (let low : cell r t < 16 * rows = cell_low rows r t lr lt in omega (arith, low, long))
         ∙ sym (ap (λ b. cond (b && eqb t u) x (get_or xs (cell s u) d)) (eq-eqb r s e) ∙ ap (λ b. cond b x (get_or xs (cell s u) d)) (eq-eqb t u f))
     by (inr ne) f = apart (λ k. ne (let h : 16 * s + u ≡ 16 * r + t = k in omega (arith, h, lt, lu))) (ap (λ b. b && eqb t u) (ne_eqb r s ne))
     by (inl e) (inr nf) = apart (λ k. nf (let h : 16 * s + u ≡ 16 * r + t = k in omega (arith, h, e))) (ap (λ b. eqb r s && b) (ne_eqb t u nf) ∙ none (eqb r s))
@@ -92,14 +92,14 @@ sets_release = record { sets = release_alone }
 
 pub settings_refused : (e : Entry) (past : Past) (s : State) (slot : Slot) (t : ℕ) → is_refused e ≡ true → HasSetting past s slot t → HasSetting (e ∷ past) s slot t
 settings_refused e past s slot t h has = record {
-  window = has.window ∙ ap hwnd (sym (last_set-refused (λ u. eqb u t) (named slot) e past h));
-  order = has.order ∙ sym (order_of-refused t (named slot) e past h);
+  window = has.window ∙ ap hwnd (sym (told-refused (setting_in (named slot)) 0 (λ u. eqb u t) e past h));
+  order = has.order ∙ sym (place-refused (setting_in (named slot)) t e past h);
 }
 
 pub settings_rest : (e : Entry) (past : Past) (s : State) (slot : Slot) (t : ℕ) → is_refused e ≡ false → SetsNone e.call → HasSetting past s slot t → HasSetting (e ∷ past) s slot t
 settings_rest e past s slot t fine none has = record {
-  window = has.window ∙ ap hwnd (sym (last_set-unset (λ u. eqb u t) (named slot) e past fine (none slot)));
-  order = has.order ∙ sym (order_unset t (named slot) e past fine (none slot));
+  window = has.window ∙ ap hwnd (sym (told-untold (setting_in (named slot)) 0 (λ u. eqb u t) e past fine (none slot)));
+  order = has.order ∙ sym (place-untold (setting_in (named slot)) t e past fine (none slot));
 }
 
 -- one is set
@@ -107,12 +107,12 @@ pub setting_made : (e : Entry) (past : Past) (s : State) (slot : Slot) (w : ℕ)
     → (x : Slot) (t : ℕ) → t < 16 → HasSetting past s x t → HasSetting (e ∷ past) (with_window s e.who slot v place) x t
 setting_made e past s slot w v place fine call is at low long longer x t lt has = record {
   window =
-      cell_written s.windows (row_number slot) (row_number x) e.who.0 t v (hwnd 0) long (row_low slot) low lt
+      cell_written 3 s.windows (row_number slot) (row_number x) e.who.0 t v (hwnd 0) long (row_low slot) low lt
       ∙ ap (λ k. cond (eqb (row_number slot) (row_number x) && eqb e.who.0 t) v k) has.window
       ∙ ap (λ k. cond (eqb (row_number slot) (row_number x) && eqb e.who.0 t) k (hwnd (last_set (λ u. eqb u t) (named x) past))) is
       ∙ windows (eqb (row_number slot) (row_number x)) refl;
   order =
-      cell_written s.window_orders (row_number slot) (row_number x) e.who.0 t (place + 1) 0 longer (row_low slot) low lt
+      cell_written 3 s.window_orders (row_number slot) (row_number x) e.who.0 t (place + 1) 0 longer (row_low slot) low lt
       ∙ ap (λ k. cond (eqb (row_number slot) (row_number x) && eqb e.who.0 t) (place + 1) k) has.order
       ∙ ap (λ k. cond (eqb (row_number slot) (row_number x) && eqb e.who.0 t) (k + 1) (order_of t (named x) past)) at
       ∙ orders (eqb (row_number slot) (row_number x)) refl;
@@ -126,9 +126,9 @@ setting_made e past s slot w v place fine call is at low long longer x t lt has 
     in_hwnd false m = refl
 
     windows : (b : Bool) → eqb (row_number slot) (row_number x) ≡ b → cond (b && eqb e.who.0 t) (hwnd w) (hwnd (last_set (λ u. eqb u t) (named x) past)) ≡ hwnd (last_set (λ u. eqb u t) (named x) (e ∷ past))
-    windows true h = in_hwnd (eqb e.who.0 t) (last_set (λ u. eqb u t) (named x) past) ∙ ap hwnd (sym (last_set-set (λ u. eqb u t) (named x) e past w fine (told true h)))
-    windows false h = ap hwnd (sym (last_set-unset (λ u. eqb u t) (named x) e past fine (told false h)))
+    windows true h = in_hwnd (eqb e.who.0 t) (last_set (λ u. eqb u t) (named x) past) ∙ ap hwnd (sym (told-told (setting_in (named x)) 0 (λ u. eqb u t) e past w fine (told true h)))
+    windows false h = ap hwnd (sym (told-untold (setting_in (named x)) 0 (λ u. eqb u t) e past fine (told false h)))
 
     orders : (b : Bool) → eqb (row_number slot) (row_number x) ≡ b → cond (b && eqb e.who.0 t) (length past + 1) (order_of t (named x) past) ≡ order_of t (named x) (e ∷ past)
-    orders true h = sym (order_set t (named x) e past w fine (told true h))
-    orders false h = sym (order_unset t (named x) e past fine (told false h))
+    orders true h = sym (place-told (setting_in (named x)) t e past w fine (told true h))
+    orders false h = sym (place-untold (setting_in (named x)) t e past fine (told false h))

@@ -9,21 +9,23 @@ use Rattle.win_rows.specs.Windows as rows
 use Rattle.win_rows.specs.Windows.{Windows}
 use Rattle.input_state.specs.declared.state.Slot.{Slot}
 use Rattle.input_state.specs.Groups.{Joins, Reaches, has_bit}
-use Rattle.input_state.specs.State.{cell, group_of, latest_below, row_number, window_of}
+use Rattle.input_state.specs.State.{cell, group_of, is_down, latest_below, row_number, window_of}
 use Rattle.user_model.specs.declared.entry.Setup.{Setup}
 use Rattle.user_model.specs.Past.{Past}
 use Rattle.user_model.specs.Windows.{Window, find_window, is_live, thread_of, window}
 use Rattle.user_model.specs.Focus.{last_set, value_of}
 use Rattle.user_model.specs.Groups.{are_attached, is_in_group}
+use Rattle.user_model.specs.Keys.{is_key_down}
 use Rattle.user_model.specs.Legal.{IsLawful}
 use Rattle.user_model.specs.ZOrder.{hwnd}
 use Rattle.user_model.proofs.GroupThreads.{running_is_thread}
 use Rattle.user_model.proofs.WindowFacts.{live_running}
 use Rattle.window_state.specs.Trees.{IsTreeAt, as_made}
 use Rattle.window_state.proofs.Bridges.{window_made}
-use Rattle.group_state.specs.GroupTables.{IsGroupsAt, Kept, named, order_of}
+use Rattle.group_state.specs.GroupTables.{IsGroupsAt, Kept, key_order_of, named, order_of}
 use Rattle.group_state.specs.Steps.{holds_in}
-use Rattle.group_state.proofs.LastSettings.{best, best_less, best_same, last_setter, latest_is, setter}
+use Rattle.group_state.proofs.LastSettings.{best, best_less, best_same, last_teller, latest_is, teller}
+use Rattle.group_state.proofs.Setters.{key_in, setters_known, setting_in, takers_known}
 use Rattle.group_state.proofs.Reaching.{HasLinks, attached_bounds, group_is, thread_bounds}
 
 -- ---- a window of a group
@@ -65,12 +67,12 @@ module _ (setup : Setup) (past : Past) (t : Windows) (g : Kept) (lawful : IsLawf
       let P = is_in_group past who in
       let k = latest_below mask g.inputs.window_orders row 16 in
       let first : k ≡ best (has_bit mask) (λ u. get_or g.inputs.window_orders (cell row u) 0) 16 = latest_is mask g.inputs.window_orders row 16 in
-      let second : best (has_bit mask) (λ u. get_or g.inputs.window_orders (cell row u) 0) 16 ≡ setter P (named slot) past = best_same (has_bit mask) P (λ u. get_or g.inputs.window_orders (cell row u) 0) (λ u. order_of u (named slot) past) 16 16 (omega arith) member_is (λ u low j. (groups.settings slot u low).order) in
-      let low : setter P (named slot) past < 16 = best_less P (λ u. order_of u (named slot) past) 15 in
+      let second : best (has_bit mask) (λ u. get_or g.inputs.window_orders (cell row u) 0) 16 ≡ teller (setting_in (named slot)) P past = best_same (has_bit mask) P (λ u. get_or g.inputs.window_orders (cell row u) 0) (λ u. order_of u (named slot) past) 16 16 (omega arith) member_is (λ u low j. (groups.settings slot u low).order) in
+      let low : teller (setting_in (named slot)) P past < 16 = best_less P (λ u. order_of u (named slot) past) 15 in
       ap (λ m. get_or g.inputs.windows (cell row (latest_below m g.inputs.window_orders row 16)) (hwnd 0)) (sym same)
       ∙ ap (λ j. get_or g.inputs.windows (cell row j) (hwnd 0)) (first ∙ second)
-      ∙ (groups.settings slot (setter P (named slot) past) low).window
-      ∙ ap hwnd (last_setter setup past P (named slot) lawful groups.few)
+      ∙ (groups.settings slot (teller (setting_in (named slot)) P past) low).window
+      ∙ ap hwnd (last_teller (setting_in (named slot)) 0 setup past P (setters_known setup (named slot)) lawful groups.few)
 
   -- it counts where it is a live window of the group
   pub value_held : (slot : Slot) (w : ℕ) → w ≡ last_set (is_in_group past who) (named slot) past → holds_in t.live mask w ≡ true → w ≡ value_of past who (named slot)
@@ -78,6 +80,21 @@ module _ (setup : Setup) (past : Past) (t : Windows) (g : Kept) (lawful : IsLawf
 
   pub value_none : (slot : Slot) (w : ℕ) → w ≡ last_set (is_in_group past who) (named slot) past → holds_in t.live mask w ≡ false → 0 ≡ value_of past who (named slot)
   value_none slot w is lost = sym (ap (λ b. cond b (last_set (is_in_group past who) (named slot) past) 0) (sym (ap (λ k. is_live past k && is_in_group past who (thread_of past k)) is) ∙ sym (holds_is w) ∙ lost))
+
+-- ---- keys
+
+-- whether a key is down by the last input of it that the group's threads took
+pub key_last : (setup : Setup) (past : Past) (g : Kept) → IsLawful setup past → IsGroupsAt setup past g → (who mask : ℕ) → ((u : ℕ) → u < 16 → (bit_at mask u ≡ 1) ↔ Reaches (Joins g.inputs.links) who u) → (key : ℕ) (thread : Thread) → key < 256 → mask ≡ group_of g.inputs thread → is_down g.inputs thread key ≡ is_key_down past who key
+key_last setup past g lawful groups who mask members key thread fits same =
+    let P = is_in_group past who in
+    let member : (u : ℕ) → u < 16 → has_bit mask u ≡ P u = λ u low. group_is setup past g.inputs.links who u mask lawful groups.few groups.links (members u low) in
+    let first : latest_below mask g.inputs.key_orders key 16 ≡ best (has_bit mask) (λ u. get_or g.inputs.key_orders (cell key u) 0) 16 = latest_is mask g.inputs.key_orders key 16 in
+    let second : best (has_bit mask) (λ u. get_or g.inputs.key_orders (cell key u) 0) 16 ≡ teller (key_in key) P past = best_same (has_bit mask) P (λ u. get_or g.inputs.key_orders (cell key u) 0) (λ u. key_order_of u key past) 16 16 (omega arith) member (λ u low j. (groups.keys key u fits low).order) in
+    let low : teller (key_in key) P past < 16 = best_less P (λ u. key_order_of u key past) 15 in
+    ap (λ m. get_or g.inputs.downs (cell key (latest_below m g.inputs.key_orders key 16)) false) (sym same)
+    ∙ ap (λ j. get_or g.inputs.downs (cell key j) false) (first ∙ second)
+    ∙ (groups.keys key (teller (key_in key) P past) fits low).down
+    ∙ last_teller (key_in key) false setup past P (takers_known setup key) lawful groups.few
 
 -- ---- attached threads
 

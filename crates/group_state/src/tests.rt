@@ -16,5 +16,7 @@ fn nothing_was_set(rt: HostRuntime) -> Result<(), AllocError> {
     assert_eq!(rt; groups.foreground(), 0);
     assert!(rt; !groups.are_attached(1, 2));
     assert!(rt; !groups.are_attached(16, 300));
+    assert!(rt; !groups.is_key_down(Thread(1), 16));
+    assert_eq!(rt; groups.group(Thread(3)), 8);
     Ok(())
 }

@@ -1,1 +1,6 @@
+mod Changing
 mod ElementLemmas
+mod Halving
+mod Merging
+mod Reading
+mod Sorting

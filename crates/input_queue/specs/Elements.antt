@@ -1,5 +1,5 @@
 -- Input elements that no thread has taken yet, in the order of their injection.
-use Rattle.std.specs.Prelude.{if◌then◌else◌, ◌≡◌, ℕ, ◌<◌, ◌==◌, Bool, not, List, [], ◌∷◌, ◌++◌, filter, find, take_while, AllPairs, Option, Some, None}
+use Rattle.std.specs.Prelude.{if◌then◌else◌, ◌≡◌, ℕ, suc, ◌<◌, ◌==◌, Bool, not, ◌&&◌, nat_le, List, [], ◌∷◌, ◌++◌, filter, find, length, take_while, AllPairs, Option, Some, None, is_none}
 use Rattle.std.specs.Int.{bit_at}
 use Rattle.std.specs.Fn.{Shared}
 use denote.Ref.{Bor}
@@ -42,9 +42,17 @@ abbrev pub move_number : Option Element → Option ℕ
 move_number None = None
 move_number (Some x) = if is_move x then Some x.number else None
 
--- the number of the element that the new one replaces: of two moves with none of the group between them the first
+-- the number of the element that a new one with this message replaces: of two moves with none of the group between them the first
+abbrev pub replaced_in : ℕ → ℕ → List Element → Option ℕ
+replaced_in message group elements = if message == WM_MOUSEMOVE then move_number (last_of (of_group group elements)) else None
+
+-- the same of the new one
 abbrev pub replaced : Element → ℕ → List Element → Option ℕ
-replaced e group elements = if is_move e then move_number (last_of (of_group group elements)) else None
+replaced e group elements = replaced_in e.message group elements
+
+-- whether a new element with this message has no place: it replaces none, and the group has 512
+abbrev pub lacks_place : ℕ → ℕ → List Element → Bool
+lacks_place message group elements = is_none (replaced_in message group elements) && nat_le 512 (length (of_group group elements))
 
 -- the elements but the one that is replaced
 abbrev pub without_replaced : Option ℕ → List Element → List Element
@@ -58,6 +66,11 @@ with_element e group elements = without_replaced (replaced e group elements) ele
 -- the first element that passes, among those before which the whole group's are the thread's too
 abbrev pub first_takeable : Thread → (Element → Thread) → (Element → Bool) → List Element → Option Element
 first_takeable t target test elements = find test (take_while (λ x. (target x).0 == t.0) elements)
+
+-- how many elements are read: those up to the first one with another target, or the first one that passes
+abbrev pub reads_of : Thread → (Element → Thread) → (Element → Bool) → List Element → ℕ
+reads_of t target test [] = 0
+reads_of t target test (x ∷ elements) = if ((target x).0 == t.0) && not (test x) then suc (reads_of t target test elements) else 1
 
 -- each call of the closure answers what the function says of the element
 abbrev pub Answers : {F K : Type 0} → Shared F (Bor Element × Unit {0}) K → (Element → K) → F → Type 0

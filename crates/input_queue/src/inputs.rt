@@ -1,37 +1,40 @@
 //! All elements that are untaken.
 
-ghost use Rattle.std.specs.Prelude.{◌≡◌, ◌↔◌, ◌≤◌, ◌<◌, ◌⊎◌, ◌==◌, [], ◌∷◌, ◌++◌, length, find, All, Bool, true, None, IsTrue, IfErr, IfSome, OnOk, OnErr, vec_len};
-ghost use Rattle.std.specs.Vec.{vec_capacity};
+ghost use Rattle.std.specs.Prelude.{◌≡◌, ◌↔◌, ◌+◌, ◌≤◌, ◌<◌, ◌⊎◌, ◌==◌, [], length, find, All, Bool, true, None, IsTrue, IfErr, IfSome, OnOk, OnErr};
 ghost use Rattle.std.specs.Fn.{FnReturnsAt};
 ghost use Rattle.win_num.specs.declared.message.Thread.{Thread};
 ghost use Rattle.input_queue.specs.declared.element.Element.{Element};
-ghost use Rattle.input_queue.specs.Elements.{AreRising, is_in, of_group, without, without_home, last_of, replaced, without_replaced, with_element, first_takeable, Answers};
+ghost use Rattle.input_queue.specs.Elements.{AreRising, is_in, of_group, without, without_home, lacks_place, reads_of, replaced, with_element, first_takeable, Answers};
 
 use crate::element::Element;
+use crate::row::Row;
+use crate::rows::{
+    MOST, clear, count_of, first_in, no_rows, push, replaced_by, take, take_replaced,
+};
+use crate::steps::Steps;
 use std::alloc::Global;
-use std::marker::Model;
-use win_num::names::WM_MOUSEMOVE;
+use std::marker::{Brand, Model};
+use std::sync::ledger::{Blank, Ledger};
 use win_num::{Code, Fault, Thread};
-
-/// How many untaken elements a group may have.
-const MOST: usize = 512;
 
 /// The untaken elements of all threads, by rising number.
 #[derive(Drop)]
 pub struct Inputs {
-    elements: Vec<Element>,
+    /// Those of each home, by its number. No element has the home 0.
+    rows: [Row; 16],
 }
 
 impl Model for Inputs {
     ghost use Rattle.std.specs.Prelude.{List};
     ghost use Rattle.input_queue.specs.declared.element.Element.{Element};
-    ghost use Rattle.input_queue.specs.Elements.{AreRising};
 
     ghost Value = { List Element };
 
-    ghost view = { λ a. a.elements.items };
+    ghost use Rattle.input_queue.specs.Rows.{IsKept, merged};
 
-    ghost invariant = { λ a. AreRising a.elements.items };
+    ghost view = { λ a. merged a.rows };
+
+    ghost invariant = { λ a. IsKept a.rows };
 }
 
 impl Inputs {
@@ -40,7 +43,7 @@ impl Inputs {
         ensures { result ≡ [] }
     {
         Inputs {
-            elements: Vec::new(alloc),
+            rows: no_rows(alloc),
         }
     }
 
@@ -57,16 +60,22 @@ impl Inputs {
         ensures other { IfErr result (λ code. (code ≡ Fault.Refused Code.Full) ⊎ (code ≡ Fault.Memory)) }
         ensures err { OnErr result (self.new ≡ self.old) }
     {
-        let before = replaced_by(&self.elements, &e, group);
-        if before.is_none() && count_of(&self.elements, group) >= MOST {
+        let before = replaced_by(&self.rows, e.message, group);
+        if before.is_none() && count_of(&self.rows, group) >= MOST {
             return Err(Fault::Refused(Code::Full));
         }
-        if self.elements.reserve(1).is_err() {
+        if push(&mut self.rows, e).is_err() {
             return Err(Fault::Memory);
         }
-        take_out_replaced(&mut self.elements, before);
-        self.elements.push(e).unwrap();
+        take_replaced(&mut self.rows, before);
         Ok(())
+    }
+
+    /// Whether a new element with this message has no place in the group: it replaces none, and the group has at least 512 elements.
+    pub fn lacks_place(&self, message: u32, group: u16) -> bool
+        ensures { result ≡ lacks_place message group self.now }
+    {
+        replaced_by(&self.rows, message, group).is_none() && count_of(&self.rows, group) >= MOST
     }
 
     /// The first element of the group that thread `t` may take: its target is `t`, it passes, and no element
@@ -85,7 +94,27 @@ impl Inputs {
         ensures passed { IfSome result (λ x. FnReturnsAt F.Fn pass x true) }
         ensures rising { AreRising self.now }
     {
-        first_in(&self.elements, t, group, target, pass)
+        first_uncounted::<T, F, Brand>(Blank::new(1), self, t, group, target, pass)
+    }
+
+    /// The same, in one step for each element that it reads: those of the group from the first on, up to the first one with another
+    /// target than `t`, or the first one that passes, whichever comes first.
+    pub fn first_counted<T: Fn(&Element) -> Thread, F: Fn(&Element) -> bool, L: Ledger>(
+        &self,
+        t: Thread,
+        group: u16,
+        target: T,
+        pass: F,
+        steps: &mut Steps<L>,
+    ) -> Option<Element>
+        requires targeted { T.IsAlwaysCallable target }
+        requires tested { F.IsAlwaysCallable pass }
+        ensures value { (target_of : Element → Thread) (test : Element → Bool) → Answers T.Fn target_of target → Answers F.Fn test pass → result ≡ first_takeable t target_of test (of_group group self.now) }
+        ensures reads { (target_of : Element → Thread) (test : Element → Bool) → Answers T.Fn target_of target → Answers F.Fn test pass → steps.new ≡ steps.old + reads_of t target_of test (of_group group self.now) }
+        ensures passed { IfSome result (λ x. FnReturnsAt F.Fn pass x true) }
+        ensures rising { AreRising self.now }
+    {
+        first_in(&self.rows, t, group, target, pass, steps)
     }
 
     /// Takes the element of this number out. `None` comes exactly where there is none.
@@ -93,123 +122,35 @@ impl Inputs {
         ensures value { result ≡ find (λ x. x.number == number) self.old }
         ensures left { self.new ≡ without number self.old }
     {
-        let found = find_number(&self.elements, number);
-        take_out(&mut self.elements, number);
-        found
+        take(&mut self.rows, number)
     }
 
     /// Takes all elements with this home out.
     pub fn purge(&mut self, home: Thread)
         ensures { self.new ≡ without_home home self.old }
     {
-        take_out_home(&mut self.elements, home);
+        clear(&mut self.rows, home);
     }
 }
 
-/// Whether the group has the thread: it has bit t for thread t.
-fn has(group: u16, t: Thread) -> bool
-    ensures { result ≡ is_in group t }
-{
-    if t.0 >= 16 {
-        return false;
-    }
-    (group >> t.0) & 1 == 1
-}
-
-/// The first element of the group that thread `t` may take.
-fn first_in<T: Fn(&Element) -> Thread, F: Fn(&Element) -> bool>(
-    elements: &[Element],
+/// The first element that thread `t` may take, in steps that nobody counts.
+fn first_uncounted<T: Fn(&Element) -> Thread, F: Fn(&Element) -> bool, L: Ledger>(
+    blank: Blank,
+    inputs: &Inputs,
     t: Thread,
     group: u16,
     target: T,
     pass: F,
 ) -> Option<Element>
+    requires name { blank.name ≡ L.name }
+    requires parts { blank.parts ≡ L.parts }
+    requires one { blank.parts ≡ 1 }
     requires targeted { T.IsAlwaysCallable target }
     requires tested { F.IsAlwaysCallable pass }
-    ensures value { (target_of : Element → Thread) (test : Element → Bool) → Answers T.Fn target_of target → Answers F.Fn test pass → result ≡ first_takeable t target_of test (of_group group elements.now) }
+    ensures value { (target_of : Element → Thread) (test : Element → Bool) → Answers T.Fn target_of target → Answers F.Fn test pass → result ≡ first_takeable t target_of test (of_group group inputs.now) }
     ensures passed { IfSome result (λ x. FnReturnsAt F.Fn pass x true) }
+    ensures rising { AreRising inputs.now }
 {
-    for element in elements {
-        if has(group, element.home) {
-            if target(element) != t {
-                return None;
-            }
-            if pass(element) {
-                return Some(*element);
-            }
-        }
-    }
-    None
-}
-
-/// How many elements the group has.
-fn count_of(elements: &[Element], group: u16) -> usize
-    ensures { result ≡ length (of_group group elements.now) }
-{
-    elements.iter().filter(|x| has(group, x.home)).count()
-}
-
-/// The group's last element.
-fn last_in(elements: &[Element], group: u16) -> Option<Element>
-    ensures { result ≡ last_of (of_group group elements.now) }
-{
-    let mut last = None;
-    for element in elements {
-        if has(group, element.home) {
-            last = Some(*element);
-        }
-    }
-    last
-}
-
-/// The number of the element that the new one replaces.
-fn replaced_by(elements: &[Element], e: &Element, group: u16) -> Option<u32>
-    ensures { result ≡ replaced e.now group elements.now }
-{
-    if e.message != WM_MOUSEMOVE {
-        return None;
-    }
-    match last_in(elements, group) {
-        Some(last) if last.message == WM_MOUSEMOVE => Some(last.number),
-        _ => None,
-    }
-}
-
-/// The element of this number.
-fn find_number(elements: &[Element], number: u32) -> Option<Element>
-    ensures { result ≡ find (λ x. x.number == number) elements.now }
-{
-    for element in elements {
-        if element.number == number {
-            return Some(*element);
-        }
-    }
-    None
-}
-
-/// Takes the element of this number out, and gives no room back.
-fn take_out(elements: &mut Vec<Element>, number: u32)
-    ensures items { elements.new.items ≡ without number elements.old.items }
-    ensures len { vec_len elements.new ≤ vec_len elements.old }
-    ensures room { vec_capacity elements.new ≡ vec_capacity elements.old }
-{
-    elements.retain(|x| x.number != number);
-}
-
-/// Takes the element out that is replaced, if one is.
-fn take_out_replaced(elements: &mut Vec<Element>, number: Option<u32>)
-    ensures items { elements.new.items ≡ without_replaced number elements.old.items }
-    ensures len { vec_len elements.new ≤ vec_len elements.old }
-    ensures room { vec_capacity elements.new ≡ vec_capacity elements.old }
-{
-    if let Some(number) = number {
-        take_out(elements, number);
-    }
-}
-
-/// Takes the elements with this home out.
-fn take_out_home(elements: &mut Vec<Element>, home: Thread)
-    ensures { elements.new.items ≡ without_home home elements.old.items }
-{
-    elements.retain(|x| x.home != home);
+    let mut steps = Steps::<L>::new(blank);
+    inputs.first_counted(t, group, target, pass, &mut steps)
 }

@@ -5,9 +5,15 @@
 #![tactic(auto)]
 
 mod element;
+mod glance;
 mod inputs;
+mod row;
+mod rows;
+mod sealed;
+mod steps;
 #[cfg(test)]
 mod tests;
 
 pub use element::Element;
 pub use inputs::Inputs;
+pub use steps::Steps;

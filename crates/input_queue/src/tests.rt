@@ -3,6 +3,9 @@ ghost use Rattle.input_queue.specs.Elements.{is_in};
 
 use crate::element::Element;
 use crate::inputs::Inputs;
+use crate::steps::Steps;
+use std::marker::Brand;
+use std::sync::ledger::{Blank, Ledger};
 use std::test::Fail;
 use win_num::names::{WM_KEYDOWN, WM_LBUTTONDOWN, WM_MOUSEMOVE};
 use win_num::{Code, Fault, Point, Thread};
@@ -31,6 +34,18 @@ fn add(inputs: &mut Inputs, e: Element, group: u16) -> Result<(), Fault>
     inputs.add(e, group)
 }
 
+/// The number of the first element that thread `t` may take, where each goes to its home.
+fn first_counted<L: Ledger>(blank: Blank, inputs: &Inputs, t: Thread, group: u16) -> Option<u32>
+    requires name { blank.name ≡ L.name }
+    requires parts { blank.parts ≡ L.parts }
+    requires one { blank.parts ≡ 1 }
+{
+    let mut steps = Steps::<L>::new(blank);
+    inputs
+        .first_counted(t, group, |x: &Element| x.home, |_| true, &mut steps)
+        .map(|x| x.number)
+}
+
 #[test]
 fn five_hundred_and_thirteen_keys(rt: HostRuntime) -> Result<(), Fail> {
     let mut inputs = Inputs::new(rt.alloc());
@@ -39,6 +54,8 @@ fn five_hundred_and_thirteen_keys(rt: HostRuntime) -> Result<(), Fail> {
     }
     let full = Err(Fault::Refused(Code::Full));
     assert_eq!(rt; add(&mut inputs, input(513, 1, WM_KEYDOWN), 2), full);
+    assert!(rt; inputs.lacks_place(WM_KEYDOWN, 2));
+    assert!(rt; !inputs.lacks_place(WM_KEYDOWN, 4));
     assert_eq!(rt;
         add(&mut inputs, input(514, 2, WM_MOUSEMOVE), 4),
         Ok(()),
@@ -74,6 +91,8 @@ fn an_element_waits_for_the_earlier_ones(rt: HostRuntime) -> Result<(), Fail> {
     assert_eq!(rt; first(1, both), None, "2 is before 3, and 2 replaced 1");
     assert_eq!(rt; first(2, both), Some(2));
     assert_eq!(rt; first(1, 2), Some(3), "alone in its group");
+    let counted = first_counted::<Brand>(Blank::new(1), &inputs, Thread(2), both);
+    assert_eq!(rt; counted, Some(2));
     let keys = |x: &Element| x.message == WM_KEYDOWN;
     let key = inputs.first_for(Thread(1), 2, home, keys);
     assert_eq!(rt; key, Some(input(4, 1, WM_KEYDOWN)));

@@ -183,7 +183,8 @@ impl InputState {
     /// took one that it went down (Microsoft, GetKeyState function).
     pub fn key_down(&self, t: Thread, key: u8) -> bool
         requires { (1 ≤ t.0) × (t.0 ≤ self.now.threads) }
-        ensures { result ≡ is_down self.now t key }
+        ensures value { result ≡ is_down self.now t key }
+        ensures members { (u : ℕ) → u < 16 → (bit_at (group_of self.now t) u ≡ 1) ↔ Reaches (Joins self.now.links) t.0 u }
     {
         let row = usize::from(key);
         let setter = latest(&self.key_orders, row, self.groups[usize::from(t.0)]);

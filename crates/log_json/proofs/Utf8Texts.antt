@@ -111,6 +111,7 @@ procedure_utf8 (p ∷ procedures) (suc k) n h = procedure_utf8 procedures k n h.
 source_utf8 : (o : Origin) → IsUtf8 (source_word o)
 source_utf8 origins.Posted = plain (codes "posted") refl
 source_utf8 origins.Quit = plain (codes "quit") refl
+source_utf8 origins.Input = plain (codes "input") refl
 source_utf8 origins.Paint = plain (codes "paint") refl
 source_utf8 origins.Timer = plain (codes "timer") refl
 

@@ -225,6 +225,7 @@ procedure_at_is_word s n h lt =
 source_is_word : (o : Origin) → is_word (source_word o) ≡ true
 source_is_word origins.Posted = refl
 source_is_word origins.Quit = refl
+source_is_word origins.Input = refl
 source_is_word origins.Paint = refl
 source_is_word origins.Timer = refl
 

@@ -123,6 +123,7 @@ pub source_again : (o : Origin) → source_at (source_word o) ≡ Some o
 unfolding source_at
 source_again origins.Posted = refl
 source_again origins.Quit = refl
+source_again origins.Input = refl
 source_again origins.Paint = refl
 source_again origins.Timer = refl
 

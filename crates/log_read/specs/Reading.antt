@@ -55,7 +55,7 @@ abbrev pub short_message_at : List ℕ → ℕ
 short_message_at word = min (message_at word) (2 ^ 32 - 1)
 
 abbrev pub all_sources : List Origin
-all_sources = origins.Posted ∷ origins.Quit ∷ origins.Paint ∷ origins.Timer ∷ []
+all_sources = origins.Posted ∷ origins.Quit ∷ origins.Input ∷ origins.Paint ∷ origins.Timer ∷ []
 
 unfoldable pub source_at : List ℕ → Option Origin
 source_at word = find (λ o. bytes_eq (source_word o) word) all_sources

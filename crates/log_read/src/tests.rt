@@ -209,7 +209,17 @@ fn lines(rt: HostRuntime) -> Result<(), Fail> {
             false,
         ),
         (
-            b"1 get 0 0 0 = got input 1 16 WM_USER 5 6 0 0 0\nend done\n",
+            b"1 mouse WM_MOUSEMOVE 3 -2 = input 1\n1 key 1 65 = input 4294967295\nend done\n",
+            true,
+        ),
+        (b"1 mouse 512 3 2 = input 1\nend done\n", false),
+        (b"1 key 1 65 = input 4294967296\nend done\n", false),
+        (
+            b"1 get 0 0 0 = got input 1 16 WM_MOUSEMOVE 0 65539 0 3 1\nend done\n",
+            true,
+        ),
+        (
+            b"1 get 0 0 0 = got mouse 1 16 WM_MOUSEMOVE 0 65539 0 3 1\nend done\n",
             false,
         ),
     ] {

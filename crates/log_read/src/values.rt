@@ -17,7 +17,13 @@ use script_tree::{Name, Procedure, Script};
 use user_model::Origin;
 use win_num::{Cause, Code, Hwnd, SendId, Thread};
 
-static SOURCES: [Origin; 4] = [Origin::Posted, Origin::Quit, Origin::Paint, Origin::Timer];
+static SOURCES: [Origin; 5] = [
+    Origin::Posted,
+    Origin::Quit,
+    Origin::Input,
+    Origin::Paint,
+    Origin::Timer,
+];
 
 static CAUSES: [Cause; 4] = [Cause::Proc, Cause::Reply, Cause::Loss, Cause::Timeout];
 

@@ -34,7 +34,7 @@
 //! ```
 //!
 //! and those that make one call: the word of the call, and an operand or a name for each of its fields,
-//! but for `dispatch`, which is a word alone. `call_table` has the words and the fields,
+//! but for `dispatch` and `translate`, each a word alone. `call_table` has the words and the fields,
 //! `statement_table` says which calls have a statement, and the README of the repository tables them.
 //!
 //! V is a letter of a to h. An operand (A, B and the operands of calls) is a decimal number from 0 to

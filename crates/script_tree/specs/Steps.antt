@@ -5,7 +5,7 @@ use Rattle.win_num.specs.declared.send.Frame.TheVariants.{Entered, Inside as Ins
 use Rattle.user_model.specs.declared.call.Call.{Call}
 use Rattle.user_model.specs.declared.call.Call.TheVariants.{Dispatch, Send, SendTimeout, SendNotify, SendCallback, Await, Leave, Doom, Clock, SleepUntil, Yield, EndThread}
 use Rattle.user_model.specs.declared.entry.Answer.{Answer}
-use Rattle.user_model.specs.declared.entry.Answer.TheVariants.{Okay, Ended, Nothing, Wait, Stuck, Gone, Value, Window as WindowMade, Was, Posted, Called, Inside, Begun, Left as LeftOf, Tell, Last, Advanced, Busy, Update, Painting, Snap, Enter, Callback, Done, Got, Refused}
+use Rattle.user_model.specs.declared.entry.Answer.TheVariants.{Okay, Ended, Nothing, Wait, Stuck, Gone, Value, Window as WindowMade, Was, Posted, Input, Called, Inside, Begun, Left as LeftOf, Tell, Last, Advanced, Busy, Update, Painting, Snap, Enter, Callback, Done, Got, Refused}
 use Rattle.user_model.specs.Stacks.{leaves, waits}
 use Rattle.script_tree.specs.declared.statement.Statement.{Statement, items-the_row-Statement}
 use Rattle.script_tree.specs.declared.statement.Statement.TheVariants.{Let, Compute, If', IfElse', While', Return, Call as CallOf, Sleep, Create, Destroy, Default as DefaultOf}
@@ -144,6 +144,7 @@ result_of Gone = 0
 result_of (WindowMade w) = 0
 result_of (Was w) = 0
 result_of (Posted number) = 0
+result_of (Input number) = 0
 result_of (Called proc_no) = 0
 result_of (Inside s proc_no) = 0
 result_of (Begun s) = 0

@@ -5,9 +5,9 @@ use Rattle.win_num.specs.declared.message.Msg.{Msg}
 use Rattle.win_num.specs.Codes.{number_of}
 use Rattle.name_table.specs.Constants.{constant_values}
 use Rattle.user_model.specs.declared.call.Call.{Call}
-use Rattle.user_model.specs.declared.call.Call.TheVariants.{Peek, Get, Post, PostThread, PostQuit, Dispatch, Send, SendTimeout, SendNotify, SendCallback, Reply, InSend, Message as MessageCall, Register, Unregister, NewWindow, Find, AwaitTitle, NextTop, WindowAt, IsWindow, Parent, GetFocus, GetActive, GetCapture, Attach, Detach, Invalidate, Validate, UpdateRect, EndPaint, Fill, Snap, SetTimer, KillTimer, Clock, Yield}
+use Rattle.user_model.specs.declared.call.Call.TheVariants.{Peek, Get, Post, PostThread, PostQuit, Dispatch, Translate, Send, SendTimeout, SendNotify, SendCallback, Reply, InSend, Message as MessageCall, Register, Unregister, NewWindow, Find, AwaitTitle, NextTop, WindowAt, IsWindow, Parent, GetFocus, GetActive, GetCapture, Attach, Detach, Mouse, Key, KeyState, Invalidate, Validate, UpdateRect, EndPaint, Fill, Snap, SetTimer, KillTimer, Clock, Yield}
 use Rattle.user_model.specs.declared.entry.Answer.{Answer}
-use Rattle.user_model.specs.declared.entry.Answer.TheVariants.{Okay, Ended, Nothing, Wait, Stuck, Gone, Value, Window as WindowAnswer, Was, Posted, Called, Inside, Begun, Left, Tell, Last, Advanced, Busy, Update, Painting, Snap as SnapAnswer, Enter, Callback, Done, Got, Refused}
+use Rattle.user_model.specs.declared.entry.Answer.TheVariants.{Okay, Ended, Nothing, Wait, Stuck, Gone, Value, Window as WindowAnswer, Was, Posted, Input, Called, Inside, Begun, Left, Tell, Last, Advanced, Busy, Update, Painting, Snap as SnapAnswer, Enter, Callback, Done, Got, Refused}
 use Rattle.win_num.specs.declared.send.Cause.{Cause}
 use Rattle.win_num.specs.declared.send.Cause.TheVariants.{Loss, Timeout}
 use Rattle.script_tree.specs.declared.operand.Letter.{Letter}
@@ -22,7 +22,7 @@ use Rattle.script_tree.specs.declared.operand.Comparison.{Comparison}
 use Rattle.script_tree.specs.declared.operand.Comparison.TheVariants.{Equal, Different, Below}
 use Rattle.script_tree.specs.declared.operand.Test.{Test}
 use Rattle.script_tree.specs.declared.statement.CallStatement.{CallStatement}
-use Rattle.script_tree.specs.declared.statement.CallStatement.TheVariants.{Peek as PeekStatement, Get as GetStatement, Post as PostStatement, PostThread as PostThreadStatement, PostQuit as PostQuitStatement, Dispatch as DispatchStatement, Send as SendStatement, SendTimeout as SendTimeoutStatement, SendNotify as SendNotifyStatement, SendCallback as SendCallbackStatement, Reply as ReplyStatement, InSend as InSendStatement, Message as MessageStatement, Register as RegisterStatement, Unregister as UnregisterStatement, IsWindow as IsWindowStatement, Parent as ParentStatement, NextTop as NextTopStatement, Find as FindStatement, AwaitTitle as AwaitTitleStatement, WindowAt as WindowAtStatement, GetFocus as GetFocusStatement, GetActive as GetActiveStatement, GetCapture as GetCaptureStatement, Attach as AttachStatement, Detach as DetachStatement, Invalidate as InvalidateStatement, Validate as ValidateStatement, UpdateRect as UpdateRectStatement, EndPaint as EndPaintStatement, Fill as FillStatement, Snap as SnapStatement, SetTimer as SetTimerStatement, KillTimer as KillTimerStatement, Clock as ClockStatement, Yield as YieldStatement}
+use Rattle.script_tree.specs.declared.statement.CallStatement.TheVariants.{Peek as PeekStatement, Get as GetStatement, Post as PostStatement, PostThread as PostThreadStatement, PostQuit as PostQuitStatement, Dispatch as DispatchStatement, Translate as TranslateStatement, Send as SendStatement, SendTimeout as SendTimeoutStatement, SendNotify as SendNotifyStatement, SendCallback as SendCallbackStatement, Reply as ReplyStatement, InSend as InSendStatement, Message as MessageStatement, Register as RegisterStatement, Unregister as UnregisterStatement, IsWindow as IsWindowStatement, Parent as ParentStatement, NextTop as NextTopStatement, Find as FindStatement, AwaitTitle as AwaitTitleStatement, WindowAt as WindowAtStatement, GetFocus as GetFocusStatement, GetActive as GetActiveStatement, GetCapture as GetCaptureStatement, Attach as AttachStatement, Detach as DetachStatement, Mouse as MouseStatement, Key as KeyStatement, KeyState as KeyStateStatement, Invalidate as InvalidateStatement, Validate as ValidateStatement, UpdateRect as UpdateRectStatement, EndPaint as EndPaintStatement, Fill as FillStatement, Snap as SnapStatement, SetTimer as SetTimerStatement, KillTimer as KillTimerStatement, Clock as ClockStatement, Yield as YieldStatement}
 use Rattle.script_tree.specs.declared.statement.Creation.{Creation}
 use Rattle.script_tree.specs.declared.variables.Letters.{Letters}
 use Rattle.script_tree.specs.declared.variables.Parameters.{Parameters}
@@ -87,6 +87,10 @@ holds t v = compared (value_of t.left v) t.comparison (value_of t.right v)
 abbrev pub dispatch_of : Msg → Call
 dispatch_of got = Dispatch got.hwnd.0 got.number got.wparam got.lparam
 
+-- the character of a key that is down is posted behind its message
+abbrev pub translate_of : Msg → Call
+translate_of got = Translate got.hwnd.0 got.number got.wparam got.lparam
+
 -- the call of a statement, with the values of its operands
 abbrev pub call_of : CallStatement → Variables → Call
 call_of (PeekStatement w min max flags) v = Peek (value_of w v) (value_of min v) (value_of max v) (value_of flags v)
@@ -95,6 +99,7 @@ call_of (PostStatement w m p q) v = Post (value_of w v) (value_of m v) (value_of
 call_of (PostThreadStatement t m p q) v = PostThread (value_of t v) (value_of m v) (value_of p v) (value_of q v)
 call_of (PostQuitStatement code) v = PostQuit (value_of code v)
 call_of DispatchStatement v = dispatch_of v.got
+call_of TranslateStatement v = translate_of v.got
 call_of (SendStatement w m p q) v = Send (value_of w v) (value_of m v) (value_of p v) (value_of q v)
 call_of (SendTimeoutStatement w m p q flags ms) v = SendTimeout (value_of w v) (value_of m v) (value_of p v) (value_of q v) (value_of flags v) (value_of ms v)
 call_of (SendNotifyStatement w m p q) v = SendNotify (value_of w v) (value_of m v) (value_of p v) (value_of q v)
@@ -115,6 +120,9 @@ call_of GetActiveStatement v = GetActive
 call_of GetCaptureStatement v = GetCapture
 call_of (AttachStatement t u) v = Attach (value_of t v) (value_of u v)
 call_of (DetachStatement t u) v = Detach (value_of t v) (value_of u v)
+call_of (MouseStatement m x y) v = Mouse (value_of m v) (edge_of x v) (edge_of y v)
+call_of (KeyStatement down k) v = Key (value_of down v) (value_of k v)
+call_of (KeyStateStatement k) v = KeyState (value_of k v)
 call_of (InvalidateStatement w l t r b erase) v = Invalidate (value_of w v) (edge_of l v) (edge_of t v) (edge_of r v) (edge_of b v) (value_of erase v)
 call_of (ValidateStatement w l t r b) v = Validate (value_of w v) (edge_of l v) (edge_of t v) (edge_of r v) (edge_of b v)
 call_of (UpdateRectStatement w) v = UpdateRect (value_of w v)
@@ -141,13 +149,17 @@ IsRectangle (ValidateStatement w l t r b) = Unit {0}
 IsRectangle (FillStatement w l t r b colour) = Unit {0}
 IsRectangle _ = ⊥
 
--- a statement about focus, active window, capture or attached threads
+-- a statement about focus, active window, capture, attached threads, the mouse or keys
 abbrev pub IsOfInput : CallStatement → Type 0
 IsOfInput GetFocusStatement = Unit {0}
 IsOfInput GetActiveStatement = Unit {0}
 IsOfInput GetCaptureStatement = Unit {0}
 IsOfInput (AttachStatement t u) = Unit {0}
 IsOfInput (DetachStatement t u) = Unit {0}
+IsOfInput (MouseStatement m x y) = Unit {0}
+IsOfInput (KeyStatement down k) = Unit {0}
+IsOfInput (KeyStateStatement k) = Unit {0}
+IsOfInput TranslateStatement = Unit {0}
 IsOfInput _ = ⊥
 
 -- a statement with three operands at most
@@ -254,6 +266,7 @@ settled v call Wait x = resulting v 1 0
 settled v call Stuck x = resulting v 1 0
 settled v call Gone x = resulting v 1 0
 settled v call (Posted number) x = resulting v 1 0
+settled v call (Input number) x = resulting v 1 0
 settled v call (Begun s) x = resulting v 1 0
 settled v call (Left s) x = resulting v 1 0
 settled v call (Tell w) x = resulting v 1 0

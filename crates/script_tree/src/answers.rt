@@ -14,7 +14,7 @@ pub fn result_of(answer: &Answer) -> u64
         Answer::Done { result, .. } => *result,
         Answer::Okay | Answer::Ended | Answer::Nothing | Answer::Wait => 0,
         Answer::Stuck | Answer::Gone | Answer::Window(_) | Answer::Was(_) => 0,
-        Answer::Posted(_) => 0,
+        Answer::Posted(_) | Answer::Input(_) => 0,
         Answer::Called(_) | Answer::Inside(_, _) | Answer::Begun(_) | Answer::Left(_) => 0,
         Answer::Tell(_) | Answer::Last(_) | Answer::Advanced(_) | Answer::Busy(_) => 0,
         Answer::Update { .. } | Answer::Painting { .. } | Answer::Snap(_) => 0,

@@ -19,6 +19,8 @@ pub enum CallStatement {
     PostQuit(Operand),
     /// `dispatch`, with the last message got (Microsoft, DispatchMessage function).
     Dispatch,
+    /// `translate`, with the last message got (Microsoft, TranslateMessage function).
+    Translate,
     /// `send W M P Q` (Microsoft, SendMessage function).
     Send(Operand, Operand, Operand, Operand),
     /// `send_timeout W M P Q FLAGS MS` (Microsoft, SendMessageTimeout function).
@@ -59,6 +61,12 @@ pub enum CallStatement {
     Attach(Operand, Operand),
     /// `detach T U` (Microsoft, AttachThreadInput function).
     Detach(Operand, Operand),
+    /// `mouse M X Y`; a value from 2^63 on is a number below 0, by two's complement (Microsoft, SendInput function).
+    Mouse(Operand, Operand, Operand),
+    /// `key DOWN VK` (Microsoft, SendInput function).
+    Key(Operand, Operand),
+    /// `key_state VK` (Microsoft, GetKeyState function).
+    KeyState(Operand),
     /// `invalidate W L T R B ERASE`; an edge from 2^63 on is a number below 0, by two's complement (Microsoft,
     /// InvalidateRect function).
     Invalidate(Operand, Operand, Operand, Operand, Operand, Operand),

@@ -1,7 +1,7 @@
 //! The values of operands and tests, and the calls of statements.
 
 ghost use Rattle.std.specs.Prelude.{◌≡◌};
-ghost use Rattle.script_tree.specs.Values.{value_of, edge_of, computed, compared, holds as holds_of, call_of, creation_call, dispatch_of, IsSend, IsRectangle, IsOfInput, IsShort};
+ghost use Rattle.script_tree.specs.Values.{value_of, edge_of, computed, compared, holds as holds_of, call_of, creation_call, dispatch_of, translate_of, IsSend, IsRectangle, IsOfInput, IsShort};
 
 use crate::operand::{Comparison, Operand, Operator, Test};
 use crate::statement::{CallStatement, Creation};
@@ -256,6 +256,16 @@ impl CallStatement {
             CallStatement::Detach(thread, other) => {
                 Call::Detach(thread.value(variables), other.value(variables))
             }
+            CallStatement::Mouse(number, x, y) => Call::Mouse(
+                number.value(variables),
+                x.edge(variables),
+                y.edge(variables),
+            ),
+            CallStatement::Key(down, key) => {
+                Call::Key(down.value(variables), key.value(variables))
+            }
+            CallStatement::KeyState(key) => Call::KeyState(key.value(variables)),
+            CallStatement::Translate => translate(&variables.got),
             _ => unreachable!(),
         }
     }
@@ -266,6 +276,18 @@ fn dispatch(got: &Msg) -> Call
     ensures { result ≡ dispatch_of got.now }
 {
     Call::Dispatch(
+        u64::from(got.hwnd.0),
+        u64::from(got.number),
+        got.wparam,
+        got.lparam,
+    )
+}
+
+/// Posts the character of the last message got, where that is of a key that is down.
+fn translate(got: &Msg) -> Call
+    ensures { result ≡ translate_of got.now }
+{
+    Call::Translate(
         u64::from(got.hwnd.0),
         u64::from(got.number),
         got.wparam,

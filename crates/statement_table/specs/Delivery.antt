@@ -18,6 +18,7 @@ split_delivery (calls.Post window message wparam lparam) = split (groups.Deliver
 split_delivery (calls.PostThread thread message wparam lparam) = split (groups.Delivery names.PostThread) (parts.Operand thread ∷ parts.Operand message ∷ parts.Operand wparam ∷ parts.Operand lparam ∷ [])
 split_delivery (calls.PostQuit code) = split (groups.Delivery names.PostQuit) (parts.Operand code ∷ [])
 split_delivery calls.Dispatch = split (groups.Delivery names.Dispatch) []
+split_delivery calls.Translate = split (groups.Delivery names.Translate) []
 split_delivery c = None
 
 -- the statement that makes this call, of the parts in their places; none makes the machine's own steps
@@ -28,3 +29,4 @@ made_delivery names.Post ps = Some (calls.Post (operand_in ps 0) (operand_in ps 
 made_delivery names.PostThread ps = Some (calls.PostThread (operand_in ps 0) (operand_in ps 1) (operand_in ps 2) (operand_in ps 3))
 made_delivery names.PostQuit ps = Some (calls.PostQuit (operand_in ps 0))
 made_delivery names.Dispatch ps = Some calls.Dispatch
+made_delivery names.Translate ps = Some calls.Translate

@@ -1,4 +1,4 @@
--- Statements on focus, active window, capture and attached threads, one row each.
+-- Statements on focus, active window, capture, attached threads, the mouse and keys, one row each.
 use Rattle.std.specs.Prelude.{List, [], ◌∷◌, Option, Some, None}
 use Rattle.call_table.specs.declared.calls.CallName.TheVariants as groups
 use Rattle.call_table.specs.declared.input.InputCall.{InputCall}
@@ -17,6 +17,9 @@ split_input calls.GetActive = split (groups.Input names.GetActive) []
 split_input calls.GetCapture = split (groups.Input names.GetCapture) []
 split_input (calls.Attach thread other) = split (groups.Input names.Attach) (parts.Operand thread ∷ parts.Operand other ∷ [])
 split_input (calls.Detach thread other) = split (groups.Input names.Detach) (parts.Operand thread ∷ parts.Operand other ∷ [])
+split_input (calls.Mouse number x y) = split (groups.Input names.Mouse) (parts.Operand number ∷ parts.Operand x ∷ parts.Operand y ∷ [])
+split_input (calls.Key down key) = split (groups.Input names.Key) (parts.Operand down ∷ parts.Operand key ∷ [])
+split_input (calls.KeyState key) = split (groups.Input names.KeyState) (parts.Operand key ∷ [])
 split_input c = None
 
 -- the statement that makes this call, of the parts in their places; none sets a window by its call alone
@@ -30,3 +33,6 @@ made_input names.GetActive ps = Some calls.GetActive
 made_input names.GetCapture ps = Some calls.GetCapture
 made_input names.Attach ps = Some (calls.Attach (operand_in ps 0) (operand_in ps 1))
 made_input names.Detach ps = Some (calls.Detach (operand_in ps 0) (operand_in ps 1))
+made_input names.Mouse ps = Some (calls.Mouse (operand_in ps 0) (operand_in ps 1) (operand_in ps 2))
+made_input names.Key ps = Some (calls.Key (operand_in ps 0) (operand_in ps 1))
+made_input names.KeyState ps = Some (calls.KeyState (operand_in ps 0))

@@ -32,7 +32,8 @@ place_of fields.Code = places.Operand
 abbrev pub field_places : CallName → List Place
 field_places n = map place_of (call_row n).fields
 
--- a dispatch takes the last message got, and so no operands
+-- these two take the last message got, and so no operands
 abbrev pub statement_places : CallName → List Place
 statement_places (groups.Delivery delivery.Dispatch) = []
+statement_places (groups.Delivery delivery.Translate) = []
 statement_places n = field_places n

@@ -34,6 +34,7 @@ pub fn split_delivery(call: CallStatement) -> Option<SplitStatement>
         ),
         CallStatement::PostQuit(code) => split_operands(Delivery(DeliveryCall::PostQuit), &[code]),
         CallStatement::Dispatch => split_operands(Delivery(DeliveryCall::Dispatch), &[]),
+        CallStatement::Translate => split_operands(Delivery(DeliveryCall::Translate), &[]),
         _ => None,
     }
 }
@@ -66,5 +67,6 @@ pub fn made_delivery(name: DeliveryCall, parts: &[Part]) -> Option<CallStatement
         )),
         DeliveryCall::PostQuit => Some(CallStatement::PostQuit(operands[0])),
         DeliveryCall::Dispatch => Some(CallStatement::Dispatch),
+        DeliveryCall::Translate => Some(CallStatement::Translate),
     }
 }

@@ -1,4 +1,4 @@
-//! Statements on focus, active window, capture and attached threads, one row each.
+//! Statements on focus, active window, capture, attached threads, the mouse and keys, one row each.
 
 ghost use Rattle.std.specs.Prelude.{◌≡◌, option_map};
 ghost use Rattle.statement_table.specs.Input.{split_input, made_input};
@@ -25,6 +25,11 @@ pub fn split_input(call: CallStatement) -> Option<SplitStatement>
         CallStatement::Detach(thread, other) => {
             split_operands(Input(InputCall::Detach), &[thread, other])
         }
+        CallStatement::Mouse(number, x, y) => {
+            split_operands(Input(InputCall::Mouse), &[number, x, y])
+        }
+        CallStatement::Key(down, key) => split_operands(Input(InputCall::Key), &[down, key]),
+        CallStatement::KeyState(key) => split_operands(Input(InputCall::KeyState), &[key]),
         _ => None,
     }
 }
@@ -45,5 +50,8 @@ pub fn made_input(name: InputCall, parts: &[Part]) -> Option<CallStatement>
         InputCall::GetCapture => Some(CallStatement::GetCapture),
         InputCall::Attach => Some(CallStatement::Attach(operands[0], operands[1])),
         InputCall::Detach => Some(CallStatement::Detach(operands[0], operands[1])),
+        InputCall::Mouse => Some(CallStatement::Mouse(operands[0], operands[1], operands[2])),
+        InputCall::Key => Some(CallStatement::Key(operands[0], operands[1])),
+        InputCall::KeyState => Some(CallStatement::KeyState(operands[0])),
     }
 }

@@ -43,12 +43,13 @@ pub fn field_places(name: CallName) -> Places
     places
 }
 
-/// The places of a statement that makes this call. A dispatch has none: it takes the last message got.
+/// The places of a statement that makes this call. `dispatch` and `translate` have none: they take the last message got.
 pub fn statement_places(name: CallName) -> Places
     ensures { result.items ≡ statement_places name }
 {
     match name {
         CallName::Delivery(DeliveryCall::Dispatch) => ArrayVec::new(),
+        CallName::Delivery(DeliveryCall::Translate) => ArrayVec::new(),
         _ => field_places(name),
     }
 }

@@ -17,6 +17,9 @@ fn statements_again(rt: HostRuntime) -> Result<(), Fail> {
         (CallStatement::WindowAt(h, one), 2),
         (CallStatement::GetFocus, 0),
         (CallStatement::Attach(one, h), 2),
+        (CallStatement::Mouse(one, h, one), 3),
+        (CallStatement::Key(one, h), 2),
+        (CallStatement::KeyState(h), 1),
         (CallStatement::Invalidate(one, h, one, h, one, h), 6),
         (CallStatement::Validate(one, h, one, h, one), 5),
         (CallStatement::UpdateRect(h), 1),
@@ -24,6 +27,7 @@ fn statements_again(rt: HostRuntime) -> Result<(), Fail> {
         (CallStatement::Fill(one, h, one, h, one, h), 6),
         (CallStatement::Snap, 0),
         (CallStatement::Dispatch, 0),
+        (CallStatement::Translate, 0),
         (CallStatement::Yield, 0),
     ] {
         let split = split_statement(call);

@@ -17,22 +17,23 @@ use Rattle.user_model.specs.Places.{clock, cursor, has_ended, is_end, if_clock, 
 use Rattle.user_model.specs.Windows.{thread_of}
 use Rattle.user_model.specs.Retrievals.{removes}
 use Rattle.user_model.specs.Posts.{PostedMsg, PostedQuit, message, post_after, quit_after, message_to, posts, posted, quit}
-use Rattle.user_model.specs.Deeds.{retrieves}
+use Rattle.user_model.specs.Deeds.{Posting, to_window, to_thread, posting_of, retrieves}
+use Rattle.user_model.specs.Keys.{is_shift_down}
 use Rattle.user_model.proofs.AnswerFacts.{IsPost}
 use Rattle.user_model.specs.Idle.{reply, last_entry}
 use Rattle.user_model.specs.Legal.{IsLawful}
 use Rattle.user_model.proofs.ClockLaws.{clock-next, last_entry-next}
 use Rattle.user_model.proofs.ReplyLaws.{by_row}
 use Rattle.user_model.proofs.ThreadLaws.{has_ended-same, has_ended-end}
-use Rattle.user_model.proofs.DeliveryReplies.{post_told, take_told, quit_told, paint_told, timer_told, end_told}
+use Rattle.user_model.proofs.DeliveryReplies.{post_told, take_told, quit_told, input_told, paint_told, timer_told, end_told}
 use Rattle.user_model.proofs.PostCounts.{count-next, count_after}
 use Rattle.user_model.proofs.PostOwners.{message_of, is_drop}
-use Rattle.user_model.proofs.PostLaws.{GoWithin, goes_with, is_plain, posted-plain, posted-okay, posted-post, posted-got, posted-quit, posted-paint, posted-timer, posted-drop, posted-drop-other, posted-end}
+use Rattle.user_model.proofs.PostLaws.{GoWithin, goes_with, is_plain, posted-plain, posted-okay, posted-post, posted-got, posted-quit, posted-input, posted-paint, posted-timer, posted-drop, posted-drop-other, posted-end}
 use Rattle.user_model.proofs.QuitLaws.{is_post_quit, is_got_quit, quit-plain, quit-posted, quit-taken, quit-other}
 use Rattle.user_model.proofs.WindowFacts.{kin_of_thread}
 use Rattle.user_model.proofs.WindowReplies.{drop_told}
 use Rattle.thread_state.specs.Threads.{ThreadView, as_kept, code_of, queue_with, thread_at, waiting_with, waiting_call}
-use Rattle.thread_queues.specs.Changes.{Change, posts as posts_one, takes, quits, none, change_by, change_of, kin_of, changed, noted, thread_after, count_kept, time_kept, time_told_to, queue_more, without_windows}
+use Rattle.thread_queues.specs.Changes.{Change, posts as posts_one, takes, quits, none, change_by, change_by_post, change_of, kin_of, changed, noted, thread_after, count_kept, time_kept, time_told_to, queue_more, without_windows}
 use Rattle.thread_queues.proofs.QueueLists.{without_number-kept, without_kin, kept_more}
 
 -- ---- one thread from its parts
@@ -81,8 +82,8 @@ note_view false xs q en e o = refl
 -- the change of a post
 pub change_posted : (setup : Setup) (past : Past) (who : ℕ) (call : Call) (k : ℕ) (p : IsPost setup past who call k) → change_by past who (answers.Posted k) call ≡ posts_one p.to k (message_of p)
 change_posted setup past who call k p = elim p.is_call [
-  | inl x ↦ ap (change_by past who (answers.Posted k)) x.0 ∙ ap (λ (to : ℕ). posts_one to k (message_of p)) (sym x.1)
-  | inr x ↦ ap (change_by past who (answers.Posted k)) x.0 ∙ ap (λ (w : ℕ). posts_one p.to k (message w p.number p.wparam p.lparam (clock past) (cursor past))) (sym x.1)
+  | inl x ↦ ap (change_by_post past who k) x.0 ∙ ap (λ (to : ℕ). posts_one to k (message_of p)) (sym x.1)
+  | inr x ↦ ap (change_by_post past who k) x.0 ∙ ap (λ (w : ℕ). posts_one p.to k (message w p.number p.wparam p.lparam (clock past) (cursor past))) (sym x.1)
 ]
 
 -- ---- one thread after each entry
@@ -91,8 +92,15 @@ changed_none : (setup : Setup) (past : Past) (t : ℕ) (e : Entry) → posted (e
 unfolding half view
 changed_none setup past t e f g lives = same_view (posted past t) (posted (e ∷ past) t) (quit past t) (quit (e ∷ past) t) (has_ended past t) (has_ended (e ∷ past) t) (waiting_call (last_entry past t)) f g (has_ended-same e past t lives)
 
+posts_no_quit : (shift : Bool) (call : Call) (p : Posting) → posting_of shift call ≡ Some p → is_post_quit call ≡ false
+posts_no_quit shift (PostQuit code) p e = let none : None ≡ Some p = e in absurd cc
+posts_no_quit shift _ p e = refl
+
 post_no_quit : (setup : Setup) (past : Past) (who : ℕ) (call : Call) (k : ℕ) → IsPost setup past who call k → is_post_quit call ≡ false
-post_no_quit setup past who call k p = elim p.is_call [ inl x ↦ ap is_post_quit x.0 | inr x ↦ ap is_post_quit x.0 ]
+post_no_quit setup past who call k p = elim p.is_call [
+  | inl x ↦ posts_no_quit (is_shift_down past who) call (to_window p.hwnd p.number p.wparam p.lparam) x.0
+  | inr x ↦ posts_no_quit (is_shift_down past who) call (to_thread p.to p.number p.wparam p.lparam) x.0
+]
 
 changed_post : (setup : Setup) (past : Past) (t k : ℕ) (e : Entry) → e.answer ≡ answers.Posted k → answers.Posted k ≡ reply setup past e.who.0 e.call → changed t (change_by past e.who.0 (answers.Posted k) e.call) (thread_at past t) ≡ half past t e
 unfolding half view
@@ -129,6 +137,11 @@ changed_quit setup past t n m e is right =
     quit_taken_view t e.who.0 (removes e.call) (thread_at past t)
     ∙ quit_view (removes e.call && eqb e.who.0 t) (posted past t) (quit past t) None (has_ended past t) (waiting_call (last_entry past t))
     ∙ same_view (posted past t) (posted (e ∷ past) t) (cond (removes e.call && eqb e.who.0 t) None (quit past t)) (quit (e ∷ past) t) (has_ended past t) (has_ended (e ∷ past) t) (waiting_call (last_entry past t)) (posted-quit e past t n m is (ap is_some told.is_call)) (quit-taken e past t n m is (ap is_some told.is_call)) (has_ended-same e past t (ap is_end is))
+
+changed_input : (setup : Setup) (past : Past) (t n : ℕ) (m : Msg) (e : Entry) → e.answer ≡ answers.Got origins.Input n m → answers.Got origins.Input n m ≡ reply setup past e.who.0 e.call → thread_at past t ≡ half past t e
+changed_input setup past t n m e is right =
+    let told = input_told setup past e.who.0 e.call n m (by_row setup past e.who.0 e.call (answers.Got origins.Input n m) (sym right) refl).is_row in
+    changed_none setup past t e (posted-input e past t n m is (ap is_some told.is_call)) (quit-other e past t (retrieves_no_quit e.call (ap is_some told.is_call)) (ap is_got_quit is)) (ap is_end is)
 
 changed_paint : (setup : Setup) (past : Past) (t n : ℕ) (m : Msg) (e : Entry) → e.answer ≡ answers.Got origins.Paint n m → answers.Got origins.Paint n m ≡ reply setup past e.who.0 e.call → thread_at past t ≡ half past t e
 changed_paint setup past t n m e is right =
@@ -178,6 +191,7 @@ changed_by : (setup : Setup) (past : Past) (t : ℕ) (e : Entry) (a : Answer) �
 changed_by setup past t e (answers.Posted k) lawful is right = changed_post setup past t k e is right
 changed_by setup past t e (answers.Got origins.Posted n m) lawful is right = changed_take setup past t n m e lawful is right
 changed_by setup past t e (answers.Got origins.Quit n m) lawful is right = changed_quit setup past t n m e is right
+changed_by setup past t e (answers.Got origins.Input n m) lawful is right = changed_input setup past t n m e is right
 changed_by setup past t e (answers.Got origins.Paint n m) lawful is right = changed_paint setup past t n m e is right
 changed_by setup past t e (answers.Got origins.Timer n m) lawful is right = changed_timer setup past t n m e is right
 changed_by setup past t e answers.Ended lawful is right = changed_end setup past t e lawful is right

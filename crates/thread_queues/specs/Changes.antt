@@ -14,6 +14,7 @@ use Rattle.user_model.specs.Windows.{live, is_kin}
 use Rattle.user_model.specs.Retrievals.{removes}
 use Rattle.user_model.specs.Posts.{message, queue_of}
 use Rattle.user_model.specs.Deeds.{Posting, to_window, to_thread, posting_of}
+use Rattle.user_model.specs.Keys.{is_shift_down}
 use Rattle.thread_state.specs.Threads.{ThreadView, waiting_with}
 
 -- a change at one thread: a post under its number, a post taken out, quit with a code or taken back, the messages of
@@ -42,7 +43,7 @@ change_by_post past who k None = none
 
 -- what an answer to a call of who changes
 abbrev pub change_by : Past → ℕ → Answer → Call → Change
-change_by past who (PostMade k) call = change_by_post past who k (posting_of call)
+change_by past who (PostMade k) call = change_by_post past who k (posting_of (is_shift_down past who) call)
 change_by past who (Got FromPosted n m) call = taken_if call (takes who n)
 change_by past who (Got FromQuit n m) call = taken_if call (quits who None)
 change_by past who Okay (PostQuit code) = quits who (Some code)

@@ -10,7 +10,7 @@ use Rattle.user_model.specs.declared.call.Call.TheVariants.{PostQuit, Drop}
 use Rattle.user_model.specs.declared.entry.Answer.{Answer}
 use Rattle.user_model.specs.declared.entry.Answer.TheVariants.{Okay, Ended, Posted as PostMade, Got}
 use Rattle.user_model.specs.declared.entry.Origin.{Origin}
-use Rattle.user_model.specs.declared.entry.Origin.TheVariants.{Posted as FromPosted, Quit as FromQuit, Paint as FromPaint, Timer as FromTimer}
+use Rattle.user_model.specs.declared.entry.Origin.TheVariants.{Posted as FromPosted, Quit as FromQuit, Input as FromInput, Paint as FromPaint, Timer as FromTimer}
 use Rattle.user_model.specs.Posts.{message}
 use Rattle.user_model.specs.Deeds.{Posting, to_window, to_thread, posting_of}
 use Rattle.window_state.specs.Trees.{thread_in}
@@ -22,9 +22,9 @@ posting_in ws time point who (Some (to_window w number wparam lparam)) = Some ((
 posting_in ws time point who (Some (to_thread to number wparam lparam)) = Some (to, message 0 number wparam lparam time point)
 posting_in ws time point who None = None
 
--- the same of a call
-abbrev pub posting : List Window → ℕ → Point → ℕ → Call → Option (ℕ × Msg)
-posting ws time point who call = posting_in ws time point who (posting_of call)
+-- the same of a call; shift is whether the caller's Shift is down
+abbrev pub posting : List Window → ℕ → Point → Bool → ℕ → Call → Option (ℕ × Msg)
+posting ws time point shift who call = posting_in ws time point who (posting_of shift call)
 
 -- a posted number is a message's, and a window that is posted to is live
 abbrev pub FitsPostIn : List Window → Option Posting → Type 0
@@ -33,8 +33,8 @@ FitsPostIn ws (Some (to_thread to number wparam lparam)) = number ≤ 65535
 FitsPostIn ws None = Unit {0}
 
 -- the same of a call
-abbrev pub FitsPost : List Window → Call → Type 0
-FitsPost ws call = FitsPostIn ws (posting_of call)
+abbrev pub FitsPost : List Window → Bool → Call → Type 0
+FitsPost ws shift call = FitsPostIn ws (posting_of shift call)
 
 -- the numbers of the windows that go with v
 abbrev pub kin_in : List Window → ℕ → List ℕ
@@ -50,9 +50,9 @@ change_of_post k None = none
 change_of_post k (Some p) = posts p.0 k p.1
 
 -- the change of an answer that takes memory
-abbrev pub adding_in : List Window → ℕ → Point → ℕ → Answer → Call → Change
-adding_in ws time point who (PostMade k) call = change_of_post k (posting ws time point who call)
-adding_in ws time point who _ call = none
+abbrev pub adding_in : List Window → ℕ → Point → Bool → ℕ → Answer → Call → Change
+adding_in ws time point shift who (PostMade k) call = change_of_post k (posting ws time point shift who call)
+adding_in ws time point shift who _ call = none
 
 -- the change of a call that was answered by ok
 abbrev pub carried_in : List Window → ℕ → Call → Change
@@ -60,10 +60,11 @@ carried_in ws who (PostQuit code) = quits who (Some code)
 carried_in ws who (Drop v) = purges who (kin_in ws v)
 carried_in ws who _ = none
 
--- the change of a retrieval that removes: WM_PAINT stays
+-- the change of a retrieval that removes: what is neither a post nor quit isn't kept here
 abbrev pub removal : ℕ → Origin → ℕ → Change
 removal who FromPosted n = takes who n
 removal who FromQuit n = quits who None
+removal who FromInput n = none
 removal who FromPaint n = none
 removal who FromTimer n = none
 

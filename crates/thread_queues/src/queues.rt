@@ -59,7 +59,7 @@ pub fn take(threads: &mut Vec<ThreadState>, entry: Entry, origin: Origin, number
     match origin {
         Origin::Posted => take_post(threads, entry.who, number),
         Origin::Quit => set_quit(threads, entry.who, None),
-        Origin::Paint | Origin::Timer => {}
+        Origin::Input | Origin::Paint | Origin::Timer => {}
     }
 }
 

@@ -152,6 +152,7 @@ plain_followed ws who time (answers.Got origins.Timer n m) call old no_end adds 
     by false = sym (after_none time old)
 plain_followed ws who time (answers.Got origins.Posted n m) call old no_end adds keeps = sym (after_none time old)
 plain_followed ws who time (answers.Got origins.Quit n m) call old no_end adds keeps = sym (after_none time old)
+plain_followed ws who time (answers.Got origins.Input n m) call old no_end adds keeps = sym (after_none time old)
 plain_followed ws who time (answers.Got origins.Paint n m) call old no_end adds keeps = sym (after_none time old)
 plain_followed ws who time _ call old no_end adds keeps = sym (after_none time old)
 

@@ -12,7 +12,7 @@ use Rattle.user_model.specs.declared.call.Call.TheVariants.{SetTimer, KillTimer,
 use Rattle.user_model.specs.declared.entry.Answer.{Answer}
 use Rattle.user_model.specs.declared.entry.Answer.TheVariants.{Okay, Ended, Got}
 use Rattle.user_model.specs.declared.entry.Origin.{Origin}
-use Rattle.user_model.specs.declared.entry.Origin.TheVariants.{Posted, Quit, Paint, Timer}
+use Rattle.user_model.specs.declared.entry.Origin.TheVariants.{Posted, Quit, Input, Paint, Timer}
 use Rattle.user_model.specs.Retrievals.{removes}
 
 -- whether w is live, and goes with v
@@ -40,6 +40,7 @@ abbrev pub restarted_by : ℕ → Origin → Msg → Call → List Setting → L
 restarted_by time Timer m call old = if removes call then restarted m.hwnd m.wparam time old else old
 restarted_by time Posted m call old = old
 restarted_by time Quit m call old = old
+restarted_by time Input m call old = old
 restarted_by time Paint m call old = old
 
 -- what an answer leaves of them

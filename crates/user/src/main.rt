@@ -9,7 +9,7 @@ use user_app::io::{StdSink, StdSource};
 use user_app::{Status, user_plain};
 
 /// What the program can be asked for.
-const USAGE: &str = "usage: user run [--json] | make N";
+const USAGE: &str = "usage: user run [--json] | check | make N";
 
 fn main(rt: HostRuntime) -> ExitCode {
     let status = match words(&rt) {

@@ -1,3 +1,5 @@
+pub mod CheckEndings
+pub mod InputParts
 pub mod MadeScripts
 pub mod Requests
 pub mod RunEnds

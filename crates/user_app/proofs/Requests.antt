@@ -5,7 +5,7 @@ use Rattle.std.proofs.lemmas.Fmt.{decimal_is_IsNumeral}
 use Rattle.std.specs.Str.Parse.{digits_value}
 use Rattle.user_app.specs.declared.request.LogForm.{LogForm}
 use Rattle.user_app.specs.declared.request.LogForm.TheVariants.{Plain, Json}
-use Rattle.user_app.specs.Requests.{AskNothing, IsMake, make_words, run_words}
+use Rattle.user_app.specs.Requests.{AskNothing, IsMake, make_words, run_words, check_words}
 
 same_second : {X : Type 0} (a b c d : X) → a ∷ b ∷ [] ≡ c ∷ d ∷ [] → b ≡ d
 same_second a b c d e = cc
@@ -34,3 +34,11 @@ same_form words Json Json a b = refl
 pub asks_to_run : (words : List (List ℕ)) (form : LogForm) → words ≡ run_words form → AskNothing words → ⊥
 asks_to_run words Plain asks none = none.no_run asks
 asks_to_run words Json asks none = none.no_json asks
+
+-- whoever asks for a check asks for no run
+pub check_no_run : (words : List (List ℕ)) (form : LogForm) → words ≡ check_words → words ≡ run_words form → ⊥
+check_no_run words Plain a b = let e : check_words ≡ run_words Plain = sym a ∙ b in absurd cc
+check_no_run words Json a b = let e : check_words ≡ run_words Json = sym a ∙ b in absurd cc
+
+pub check_no_make : (words : List (List ℕ)) (n : ℕ) → words ≡ check_words → IsMake words n → ⊥
+check_no_make words n a b = let e : check_words ≡ make_words n = sym a ∙ b.words_are in absurd cc

@@ -90,6 +90,7 @@ IsWhole statuses.Done = Unit {0}
 IsWhole statuses.Stuck = Unit {0}
 IsWhole statuses.Spent = Unit {0}
 IsWhole statuses.Script = Unit {0}
+IsWhole statuses.Illegal = Unit {0}
 IsWhole _ = ⊥
 
 -- the line of a refusal

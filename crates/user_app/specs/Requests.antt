@@ -1,5 +1,5 @@
 -- What the words ask for.
-use Rattle.std.specs.Prelude.{◌≡◌, ◌≢◌, ℕ, ◌<◌, ◌≤◌, List, [], ◌∷◌, codes, decimal}
+use Rattle.std.specs.Prelude.{◌≡◌, ◌≢◌, ◌⊎◌, ℕ, ◌<◌, ◌≤◌, List, [], ◌∷◌, codes, decimal}
 use Rattle.user_app.specs.declared.request.LogForm.{LogForm}
 use Rattle.user_app.specs.declared.request.LogForm.TheVariants.{Plain, Json}
 use Rattle.user_app.specs.declared.request.Request.{Request}
@@ -14,9 +14,17 @@ run_words Json = codes "run" ∷ codes "--json" ∷ []
 abbrev pub make_words : ℕ → List (List ℕ)
 make_words n = codes "make" ∷ decimal n ∷ []
 
+-- a check of the log in the input
+abbrev pub check_words : List (List ℕ)
+check_words = codes "check" ∷ []
+
 -- a run of the script in the input, in whatever form
 abbrev pub AskToRun : List (List ℕ) → Type 0
 AskToRun words = (form : LogForm) × (words ≡ run_words form)
+
+-- whatever reads the input
+abbrev pub AskToRead : List (List ℕ) → Type 0
+AskToRead words = AskToRun words ⊎ (words ≡ check_words)
 
 -- the number is from 1 to 60,000
 pub record IsMake (words : List (List ℕ)) (n : ℕ) : Type 0 where
@@ -28,10 +36,12 @@ pub record IsMake (words : List (List ℕ)) (n : ℕ) : Type 0 where
 pub record AskNothing (words : List (List ℕ)) : Type 0 where
   pub no_run : words ≢ run_words Plain
   pub no_json : words ≢ run_words Json
+  pub no_check : words ≢ check_words
   pub no_make : (n : ℕ) → IsMake words n → ⊥
 
 -- the words are those of the request
 abbrev pub AskFor : List (List ℕ) → Request → Type 0
 AskFor words (requests.Run form) = words ≡ run_words form
 AskFor words (requests.Make n) = IsMake words n
+AskFor words requests.Check = words ≡ check_words
 AskFor words requests.Nothing = AskNothing words

@@ -14,6 +14,7 @@ number_of statuses.Words = 2
 number_of statuses.Script = 3
 number_of statuses.Stuck = 4
 number_of statuses.Spent = 5
+number_of statuses.Illegal = 6
 number_of statuses.ReadFault = 7
 number_of statuses.WriteFault = 8
 number_of statuses.Memory = 9

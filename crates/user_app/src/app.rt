@@ -7,9 +7,11 @@ ghost use Rattle.user_io.specs.Outside.{Rose, AppendsPart};
 ghost use Rattle.script_text.specs.Limits.{IsScript};
 ghost use Rattle.log_text.specs.Ends.{setup_of};
 ghost use Rattle.user_app.specs.declared.request.LogForm.{LogForm};
-ghost use Rattle.user_app.specs.Requests.{AskNothing, AskToRun, IsMake, run_words};
+ghost use Rattle.user_app.specs.Checks.{CheckEnds};
+ghost use Rattle.user_app.specs.Requests.{AskNothing, AskToRead, IsMake, run_words, check_words};
 ghost use Rattle.user_app.specs.Outcomes.{Ran, RunEnds, MakeEnds, ReadNoScript, Refuses, IsWhole, refusal_text};
 
+use crate::check::check_input;
 use crate::history::write_history;
 use crate::made::made_script;
 use crate::request::{LogForm, Request, read_words};
@@ -48,10 +50,11 @@ pub fn user_plain<S: Source, K: Sink>(
     ensures spent { (form : LogForm) → map string_bytes words.now ≡ run_words form → result ≡ Status.Spent → Ran form (S.left source.old) (S.left source.new) (K.holds sink.old) (K.holds sink.new) (K.faults sink.old) (K.faults sink.new) Status.Spent }
 
     // No script.
-    ensures refused { result ≡ Status.Script → AskToRun (map string_bytes words.now) × ReadNoScript (S.left source.old) (S.left source.new) × Appends (K.holds sink.old) (K.holds sink.new) refusal_text }
+    ensures refused { (form : LogForm) → map string_bytes words.now ≡ run_words form → result ≡ Status.Script → ReadNoScript (S.left source.old) (S.left source.new) × Appends (K.holds sink.old) (K.holds sink.new) refusal_text }
+    ensures read { result ≡ Status.Script → AskToRead (map string_bytes words.now) }
 
     // Faults come only from the source and the sink.
-    ensures read_fault { result ≡ Status.ReadFault → AskToRun (map string_bytes words.now) × Rose (S.faults source.old) (S.faults source.new) × (sink.new ≡ sink.old) }
+    ensures read_fault { result ≡ Status.ReadFault → AskToRead (map string_bytes words.now) × Rose (S.faults source.old) (S.faults source.new) × (sink.new ≡ sink.old) }
     ensures write_fault { result ≡ Status.WriteFault → Rose (K.faults sink.old) (K.faults sink.new) }
 
     // All is written only where neither the source nor the sink has failed in this call.
@@ -63,10 +66,15 @@ pub fn user_plain<S: Source, K: Sink>(
 
     // A script that is made: nothing is read, and what was written is the summary of its run.
     ensures made { (n : ℕ) → IsMake (map string_bytes words.now) n → (source.new ≡ source.old) × MakeEnds n (K.holds sink.old) (K.holds sink.new) (K.faults sink.old) (K.faults sink.new) result }
+
+    // A check: the input is a script with the log of a run, whose length was written; or with another log, whose first bad place and its reason were written; or it is neither.
+    ensures checked { map string_bytes words.now ≡ check_words → CheckEnds (S.left source.old) (S.left source.new) (S.faults source.old) (S.faults source.new) (K.holds sink.old) (K.holds sink.new) (K.faults sink.old) (K.faults sink.new) result }
+    ensures illegal { result ≡ Status.Illegal → map string_bytes words.now ≡ check_words }
 {
     match read_words(words) {
         Request::Run(form) => run_input(alloc, form, source, sink),
         Request::Make(number) => run_made(alloc, number, sink),
+        Request::Check => check_input(alloc, source, sink),
         Request::Nothing => Status::Words,
     }
 }
@@ -79,6 +87,7 @@ fn run_input<S: Source, K: Sink>(
     sink: &mut K,
 ) -> Status
     ensures words { result ≡ Status.Words → ⊥ }
+    ensures no_check { result ≡ Status.Illegal → ⊥ }
     ensures done { result ≡ Status.Done → Ran form (S.left source.old) (S.left source.new) (K.holds sink.old) (K.holds sink.new) (K.faults sink.old) (K.faults sink.new) Status.Done }
     ensures stuck { result ≡ Status.Stuck → Ran form (S.left source.old) (S.left source.new) (K.holds sink.old) (K.holds sink.new) (K.faults sink.old) (K.faults sink.new) Status.Stuck }
     ensures spent { result ≡ Status.Spent → Ran form (S.left source.old) (S.left source.new) (K.holds sink.old) (K.holds sink.new) (K.faults sink.old) (K.faults sink.new) Status.Spent }
@@ -102,8 +111,8 @@ fn run_input<S: Source, K: Sink>(
     }
 }
 
-/// Says that the input is no script.
-fn refuse<K: Sink>(sink: &mut K) -> Status
+/// Says that the input is no script, or no script with a log.
+pub fn refuse<K: Sink>(sink: &mut K) -> Status
     ensures written { Refuses (K.holds sink.old) (K.holds sink.new) (K.faults sink.old) (K.faults sink.new) result }
     ensures whole { IsWhole result → K.faults sink.new ≡ K.faults sink.old }
 {
@@ -114,7 +123,7 @@ fn refuse<K: Sink>(sink: &mut K) -> Status
 }
 
 /// The machine for a script.
-fn machine(alloc: Global, script: &Script) -> Result<User, AllocError>
+pub fn machine(alloc: Global, script: &Script) -> Result<User, AllocError>
     requires { IsScript script.now }
     ensures { IfOk result (λ user. user ≡ record { setup = setup_of script.now; past = [] }) }
 {

@@ -2,9 +2,12 @@
 #![tactic(auto)]
 
 mod app;
+mod check;
 mod history;
+mod input;
 mod laws;
 mod made;
+mod parts;
 mod request;
 mod status;
 

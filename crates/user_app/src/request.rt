@@ -25,6 +25,8 @@ pub enum Request {
     Run(LogForm),
     /// `make N`: a run of the script that is made from the number, 1 to 60000.
     Make(u32),
+    /// `check`: whether the log in the input is that of a run of the script before it.
+    Check,
     /// Nothing that the program does.
     Nothing,
 }
@@ -60,6 +62,9 @@ fn one_word(word: &str) -> Request
 {
     if same_text(word.as_bytes(), b"run") {
         return Request::Run(LogForm::Plain);
+    }
+    if same_text(word.as_bytes(), b"check") {
+        return Request::Check;
     }
     Request::Nothing
 }

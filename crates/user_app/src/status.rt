@@ -18,6 +18,8 @@ pub enum Status {
     Stuck,
     /// Some thread could go on, and each such thread has used up its budget.
     Spent,
+    /// The log isn't that of a run of the script.
+    Illegal,
     /// The source failed.
     ReadFault,
     /// The sink failed.
@@ -37,6 +39,7 @@ impl Status {
             Status::Script => 3,
             Status::Stuck => 4,
             Status::Spent => 5,
+            Status::Illegal => 6,
             Status::ReadFault => 7,
             Status::WriteFault => 8,
             Status::Memory => 9,

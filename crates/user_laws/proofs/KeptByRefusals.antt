@@ -1,6 +1,6 @@
 -- A refused entry changes nothing, and posts leave in posted order.
 use Rattle.std.proofs.Common.{◌≡◌, ◌≢◌, ◌≤◌, ◌<◌, ℕ, suc, not, Bool, true, false, cond, eqb, List, [], ◌∷◌, length, Option, Some, None, refl, sym, ap, ◌∙◌, subst, arith}
-use Rattle.std.specs.Prelude.{◌+◌, ◌&&◌, nat_le, nat_lt, find, unwrap_or}
+use Rattle.std.specs.Prelude.{◌+◌, ◌&&◌, ℤ, nat_le, nat_lt, find, is_none, unwrap_or}
 use Rattle.std.specs.List.{AllByRecursion}
 use Rattle.std.proofs.lemmas.Bool.{false≢true, eqb-true}
 use Rattle.std.proofs.lemmas.Bool.Decides.{nat_tests}
@@ -10,11 +10,12 @@ use Rattle.win_num.specs.declared.message.Hwnd.{Hwnd}
 use Rattle.win_num.specs.declared.shapes.Point.{Point}
 use Rattle.win_num.specs.PixelSets.{Box, kind_of}
 use Rattle.win_num.specs.declared.code.Code.{Code}
-use Rattle.win_num.specs.declared.code.Code.TheVariants.{Full, NotNow}
+use Rattle.win_num.specs.declared.code.Code.TheVariants.{Full, NoTarget, NotNow}
+use Rattle.win_num.specs.declared.names.TheConstants.{WM_MOUSEMOVE}
 use Rattle.user_model.specs.declared.call.Call.{Call}
-use Rattle.user_model.specs.declared.call.Call.TheVariants.{Peek, Get, UpdateRect, BeginPaint, Tick, Advance, WindowAt}
+use Rattle.user_model.specs.declared.call.Call.TheVariants.{Peek, Get, Mouse, UpdateRect, BeginPaint, Tick, Advance, WindowAt}
 use Rattle.user_model.specs.declared.entry.Answer.{Answer}
-use Rattle.user_model.specs.declared.entry.Answer.TheVariants.{Nothing, Refused, Value, Wait, Window as WindowTold}
+use Rattle.user_model.specs.declared.entry.Answer.TheVariants.{Input as InputMade, Nothing, Refused, Value, Wait, Window as WindowTold}
 use Rattle.user_model.specs.declared.entry.Entry.{Entry}
 use Rattle.user_model.specs.declared.entry.Setup.{Setup}
 use Rattle.user_model.specs.Past.{Past, is_full, is_refused, is_refusal}
@@ -29,7 +30,10 @@ use Rattle.user_model.specs.ReplyDrawing.{bounds_from, painting_begun, update_to
 use Rattle.user_model.specs.Replies.{is_barred_by, row, thread_reply}
 use Rattle.user_model.specs.Stacks.{top}
 use Rattle.user_model.specs.Threads.{is_running}
-use Rattle.user_model.specs.Windows.{is_live}
+use Rattle.user_model.specs.Windows.{is_live, thread_of}
+use Rattle.user_model.specs.Focus.{capture, foreground, value_of}
+use Rattle.user_model.specs.Inputs.{if_lives, last_element, move_number, of_group, or_window, untaken}
+use Rattle.user_model.specs.ReplyInput.{is_no_mouse, mouse_reply, next_input_number}
 use Rattle.user_model.specs.Idle.{reply, clock_row}
 use Rattle.user_model.specs.Legal.{IsLawful}
 use Rattle.user_model.specs.Machines.{entry_of}
@@ -73,6 +77,9 @@ changes_none past who call (Refused code) is = record {
   same_links = refl;
   same_settings = λ among slot. refl;
   same_foreground = refl;
+  same_inputs = λ setup. refl;
+  same_input_numbers = refl;
+  same_keys = λ t key. refl;
 }
 changes_none past who call _ is = absurd (false≢true is)
 
@@ -90,10 +97,19 @@ update_same past by asked code setup w tell =
     ap (λ (ps : List Point). tell (kind_of ps) (bounds_from (origin (entry_of by asked (Refused code) ∷ past) w) ps)) (pixels_kept past by asked code setup w)
     ∙ ap (λ (o : Point). tell (kind_of (dirty_pixels setup past w)) (bounds_from o (dirty_pixels setup past w))) (corner_kept past by asked code w)
 
+-- what a message of the mouse is answered that is meant for this thread
+abbrev injected : Setup → Past → ℕ → ℕ → Answer
+injected setup past number home = refuse (eqb home 0) NoTarget (refuse (is_none (cond (eqb number WM_MOUSEMOVE) (move_number (last_element (of_group past home (untaken setup past)))) None) && nat_le 512 (length (of_group past home (untaken setup past)))) Full (InputMade (next_input_number past)))
+
+mouse_same : (setup : Setup) (past : Past) (by : Thread) (asked : Call) (code : Code) (number : ℕ) (x y : ℤ) → mouse_reply setup (entry_of by asked (Refused code) ∷ past) number x y ≡ mouse_reply setup past number x y
+mouse_same setup past by asked code number x y =
+    ap (λ (w : Hwnd). refuse (is_no_mouse setup number (point x y)) invalid_parameter (injected setup past number (if_lives past (thread_of past (or_window (value_of past (foreground past) capture) w.0))))) (owner_kept past by asked code setup (point x y))
+
 row_same : (setup : Setup) (past : Past) (by : Thread) (asked : Call) (code : Code) (who : ℕ) (call : Call) → row setup (entry_of by asked (Refused code) ∷ past) who call ≡ row setup past who call
 row_same setup past by asked code who (WindowAt x y) = ap (λ (w : Hwnd). WindowTold w) (owner_kept past by asked code setup (point x y))
 row_same setup past by asked code who (Peek w min max flags) = ap (λ (o : Option Answer). refuse (nat_lt 3 flags) invalid_parameter (refuse (is_no_filter_window past who w) invalid_window_handle (unwrap_or o Nothing))) (next_kept past by asked code setup who (filter_of w min max))
 row_same setup past by asked code who (Get w min max) = ap (λ (o : Option Answer). refuse (is_no_filter_window past who w) invalid_window_handle (unwrap_or o Wait)) (next_kept past by asked code setup who (filter_of w min max))
+row_same setup past by asked code who (Mouse number x y) = mouse_same setup past by asked code number x y
 row_same setup past by asked code who (UpdateRect w) = update_same past by asked code setup w (λ n b. if_live past w (update_told n b))
 row_same setup past by asked code who (BeginPaint w) = update_same past by asked code setup w (λ n b. refuse (is_live past w && is_painting past w) invalid_parameter (if_own past who w (painting_begun (must_erase setup past w) b)))
 row_same setup past by asked code who _ = refl

@@ -1,6 +1,6 @@
--- A refused entry leaves who owns each pixel, which pixels are dirty, and which window is painted next.
-use Rattle.std.proofs.Common.{◌≡◌, ◌∙◌, ℕ, zero, suc, Bool, true, false, eqb, List, [], ◌∷◌, ◌++◌, cond, length, Option, Some, refl, ap}
-use Rattle.std.specs.Prelude.{◌&&◌, not, find, pos, reverse, option_map, unwrap_or}
+-- A refused entry leaves who owns each pixel, which pixels are dirty, where input goes, and what comes next.
+use Rattle.std.proofs.Common.{◌≡◌, ◌∙◌, ℕ, zero, suc, Bool, true, false, eqb, List, [], ◌∷◌, ◌++◌, cond, length, Option, Some, None, refl, ap, sym}
+use Rattle.std.specs.Prelude.{◌&&◌, ◌+◌, ◌*◌, ◌-ℤ◌, not, find, pos, reverse, option_map, take_while, unwrap_or}
 use Rattle.std.specs.List.{flat_map}
 use Rattle.win_num.specs.declared.message.Thread.{Thread}
 use Rattle.win_num.specs.declared.message.Filter.{Filter}
@@ -11,12 +11,18 @@ use Rattle.win_num.specs.declared.names.TheConstants.{WM_PAINT}
 use Rattle.win_num.specs.Numbers.{passes_range}
 use Rattle.region_box.specs.Screens.{screen_points}
 use Rattle.user_model.specs.declared.call.Call.{Call}
-use Rattle.user_model.specs.declared.entry.Answer.TheVariants.{Refused}
+use Rattle.user_model.specs.declared.entry.Answer.{Answer}
+use Rattle.user_model.specs.declared.entry.Answer.TheVariants.{Got, Refused}
+use Rattle.user_model.specs.declared.entry.Origin.TheVariants.{Input}
 use Rattle.user_model.specs.declared.entry.Setup.{Setup}
 use Rattle.user_model.specs.Past.{Past, last_of, or_else}
 use Rattle.user_model.specs.Filters.{passes_window}
-use Rattle.user_model.specs.Looks.{place_of}
-use Rattle.user_model.specs.Next.{got_paint, next, next_posted, next_quit, next_timer, next_ready}
+use Rattle.user_model.specs.Looks.{is_disabled, place_of}
+use Rattle.user_model.specs.Focus.{capture, if_of_group, value_of}
+use Rattle.user_model.specs.Inputs.{Element, or_window, untaken_of}
+use Rattle.user_model.specs.Targets.{enabled_at, enabled_within, is_of_mouse, key_window, low_word, message_for, passes_input, taker, taker_at, target, to_take}
+use Rattle.user_model.specs.Posts.{message}
+use Rattle.user_model.specs.Next.{got_input, got_paint, next, next_input, next_paint, next_posted, next_quit, next_timer, next_ready}
 use Rattle.user_model.specs.Pixels.{corner_from, origin, origin_within, owner, point}
 use Rattle.user_model.specs.Windows.{live, parent_in, thread_of}
 use Rattle.user_model.specs.ZOrder.{siblings}
@@ -25,11 +31,22 @@ use Rattle.user_model.specs.Painting.{painted_below, painting_order, to_paint, w
 use Rattle.user_model.specs.Machines.{entry_of}
 use Rattle.user_model.proofs.ListLaws.{filter_same}
 use Rattle.user_model.proofs.OwnersKept.{owner_same}
+use Rattle.std.proofs.lemmas.List.Sums.{take_while-cons}
 
 -- tests that agree find the same
 found_same : {X : Type 0} (f g : X → Bool) → ((x : X) → f x ≡ g x) → (xs : List X) → find f xs ≡ find g xs
 found_same f g e [] = refl
 found_same f g e (x ∷ xs) = ap (λ b. cond b (Some x) (find f xs)) (e x) ∙ ap (λ o. cond (g x) (Some x) o) (found_same f g e xs)
+
+-- tests that agree take the same from the front
+front_same : {X : Type 0} (f g : X → Bool) → ((x : X) → f x ≡ g x) → (xs : List X) → take_while f xs ≡ take_while g xs
+front_same f g e [] = refl
+front_same f g e (x ∷ xs) = take_while-cons f x xs ∙ ap (λ b. cond b (x ∷ take_while f xs) []) (e x) ∙ ap (λ l. cond (g x) (x ∷ l) []) (front_same f g e xs) ∙ sym (take_while-cons g x xs)
+
+-- what is found passes the same way on
+mapped_same : {X Y : Type 0} (f g : X → Y) → ((x : X) → f x ≡ g x) → (o : Option X) → option_map f o ≡ option_map g o
+mapped_same f g e None = refl
+mapped_same f g e (Some x) = ap (λ y. Some y) (e x)
 
 -- lists that agree join to the same
 joined_same : {X Y : Type 0} (f g : X → List Y) → ((x : X) → f x ≡ g x) → (xs : List X) → flat_map f xs ≡ flat_map g xs
@@ -66,5 +83,35 @@ module _ (past : Past) (by : Thread) (asked : Call) (code : Code) where
   to_paint_kept : (setup : Setup) (t : ℕ) (f : Filter) → to_paint setup later t f ≡ to_paint setup past t f
   to_paint_kept setup t f = ap (find (wants_paint setup later t f)) (below_kept (length (live past)) 0) ∙ found_same (wants_paint setup later t f) (wants_paint setup past t f) (wants_kept setup t f) (painting_order past)
 
+  -- ---- input
+
+  within_kept : (n w : ℕ) → enabled_within n later w ≡ enabled_within n past w
+  within_kept zero w = refl
+  within_kept (suc n) w = ap (λ (v : ℕ). elim (eqb w 0) [ true ↦ 0 | false ↦ elim (is_disabled past w) [ true ↦ v | false ↦ w ] ]) (within_kept n (parent_in (live past) w))
+
+  pub target_kept : (setup : Setup) (x : Element) → target setup later x ≡ target setup past x
+  target_kept setup x = ap (λ (v : ℕ). cond (is_of_mouse x.message) (or_window (value_of past x.home capture) (if_of_group past x.home v)) (key_window past x.home)) (ap (λ (h : Hwnd). enabled_at later h.0) (owner_kept setup x.point) ∙ within_kept (owner setup past x.point).0 (owner setup past x.point).0)
+
+  taker_kept : (setup : Setup) (t : ℕ) (x : Element) → eqb (taker setup later x) t ≡ eqb (taker setup past x) t
+  taker_kept setup t x = ap (λ w. eqb (taker_at past x w) t) (target_kept setup x)
+
+  passes_kept : (setup : Setup) (f : Filter) (x : Element) → passes_input setup later f x ≡ passes_input setup past f x
+  passes_kept setup f x = ap (λ w. passes_range f.min f.max x.message && passes_window past f.hwnd w) (target_kept setup x)
+
+  to_take_kept : (setup : Setup) (t : ℕ) (f : Filter) → to_take setup later t f ≡ to_take setup past t f
+  to_take_kept setup t f =
+      ap (find (passes_input setup later f)) (front_same (λ x. eqb (taker setup later x) t) (λ x. eqb (taker setup past x) t) (taker_kept setup t) (untaken_of setup past t))
+      ∙ found_same (passes_input setup later f) (passes_input setup past f) (passes_kept setup f) (take_while (λ x. eqb (taker setup past x) t) (untaken_of setup past t))
+
+  got_input_kept : (setup : Setup) (x : Element) → got_input setup later x ≡ got_input setup past x
+  got_input_kept setup x =
+      ap (λ w. Got Input x.number (message_for later x w)) (target_kept setup x)
+      ∙ ap (λ (o : Point). Got Input x.number (cond (is_of_mouse x.message) (message (target setup past x) x.message 0 (low_word (x.point.x -ℤ o.x) + 65536 * low_word (x.point.y -ℤ o.y)) x.time x.point) (message (target setup past x) x.message x.key 1 x.time x.point))) (corner_kept (target setup past x))
+
+  next_input_kept : (setup : Setup) (t : ℕ) (f : Filter) → next_input setup later t f ≡ next_input setup past t f
+  next_input_kept setup t f = ap (option_map (got_input setup later)) (to_take_kept setup t f) ∙ mapped_same (got_input setup later) (got_input setup past) (got_input_kept setup) (to_take setup past t f)
+
   pub next_kept : (setup : Setup) (t : ℕ) (f : Filter) → next setup later t f ≡ next setup past t f
-  next_kept setup t f = ap (λ (o : Option Hwnd). or_else (next_ready past t) (or_else (next_posted past t f) (or_else (next_quit past t) (or_else (option_map (got_paint past) o) (next_timer past t f))))) (to_paint_kept setup t f)
+  next_kept setup t f =
+      ap (λ (o : Option Hwnd). or_else (next_ready past t) (or_else (next_posted past t f) (or_else (next_quit past t) (or_else (next_input setup later t f) (or_else (option_map (got_paint past) o) (next_timer past t f)))))) (to_paint_kept setup t f)
+      ∙ ap (λ (o : Option Answer). or_else (next_ready past t) (or_else (next_posted past t f) (or_else (next_quit past t) (or_else o (or_else (next_paint setup past t f) (next_timer past t f)))))) (next_input_kept setup t f)

@@ -21,6 +21,8 @@ use Rattle.user_model.specs.Ready.{ready}
 use Rattle.user_model.specs.Timers.{WinTimer, base, timers}
 use Rattle.user_model.specs.Groups.{attached}
 use Rattle.user_model.specs.Focus.{Slot, foreground, last_set}
+use Rattle.user_model.specs.Inputs.{inputs, untaken}
+use Rattle.user_model.specs.Keys.{is_key_down}
 
 -- after the entry each value is the one before it
 pub record ChangesNothing (past : Past) (e : Entry) : Type 0 where
@@ -58,3 +60,6 @@ pub record ChangesNothing (past : Past) (e : Entry) : Type 0 where
   pub same_links : attached (e ∷ past) ≡ attached past
   pub same_settings : (among : ℕ → Bool) (slot : Slot) → last_set among slot (e ∷ past) ≡ last_set among slot past
   pub same_foreground : foreground (e ∷ past) ≡ foreground past
+  pub same_inputs : (setup : Setup) → untaken setup (e ∷ past) ≡ untaken setup past
+  pub same_input_numbers : inputs (e ∷ past) ≡ inputs past
+  pub same_keys : (t key : ℕ) → is_key_down (e ∷ past) t key ≡ is_key_down past t key

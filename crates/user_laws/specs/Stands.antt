@@ -1,10 +1,11 @@
--- What stands of windows and of posts.
+-- What stands of windows, of posts and of input.
 use Rattle.std.specs.Prelude.{◌≡◌, ◌≢◌, ◌⊎◌, ◌<◌, ℕ, Bool, List, [], ◌∷◌, true}
 use Rattle.std.specs.List.{AllByRecursion}
 use Rattle.user_model.specs.declared.entry.Entry.{Entry}
 use Rattle.user_model.specs.Past.{Past}
 use Rattle.user_model.specs.Windows.{Window, live, above, made_by, drops, is_live, thread_of}
 use Rattle.user_model.specs.Posts.{PostedMsg}
+use Rattle.user_model.specs.Inputs.{Element}
 use Rattle.user_model.specs.Ready.{ReadyMsg, to_enter, to_call_back, place_of}
 
 -- the window that the entry makes
@@ -23,6 +24,11 @@ IsForItsThread past t x = (x.msg.hwnd.0 ≡ 0) ⊎ ((is_live past x.msg.hwnd.0 �
 abbrev pub RisesByNumber : List PostedMsg → Type 0
 RisesByNumber [] = Unit {0}
 RisesByNumber (x ∷ xs) = AllByRecursion (λ y. x.number < y.number) xs × RisesByNumber xs
+
+-- the same of input
+abbrev pub RisesByInput : List Element → Type 0
+RisesByInput [] = Unit {0}
+RisesByInput (x ∷ xs) = AllByRecursion (λ y. x.number < y.number) xs × RisesByInput xs
 
 -- the number of the send that is ready to be entered, or whose result is ready
 abbrev pub number_ready : ReadyMsg → ℕ

@@ -4,6 +4,7 @@
 
 mod colours;
 mod groups;
+mod inputs;
 mod machines;
 mod orders;
 mod painting;
@@ -16,6 +17,7 @@ mod words;
 
 pub use colours::{clips_follow, colours_follow, frames_stay};
 pub use groups::{groups_follow, settings_follow};
+pub use inputs::{inputs_follow, keys_follow};
 pub use machines::{send_law, sum_law};
 pub use orders::{destruction_is_in_order, kin_are_destroyed_once, kin_go_before_what_is_above};
 pub use painting::{dirty_pixels_follow, painted_windows_are_live};

@@ -1,5 +1,5 @@
 -- What an answered call can be: for each answer what it says of its call, and of the past before it.
-use Rattle.std.proofs.Common.{◌≡◌, ℕ, suc, Bool, true, false, not, eqb, List, [], length, Option, Some, None}
+use Rattle.std.proofs.Common.{◌≡◌, ℕ, suc, Bool, true, false, eqb, [], length, Option, Some, None}
 use Rattle.std.specs.Prelude.{◌⊎◌, ◌||◌, nat_le}
 use Rattle.win_num.specs.declared.message.Filter.{Filter}
 use Rattle.win_num.specs.declared.message.Hwnd.{Hwnd}
@@ -14,7 +14,7 @@ use Rattle.win_num.specs.declared.code.Code.{Code}
 use Rattle.win_num.specs.declared.code.Code.TheVariants.{NotNow}
 use Rattle.win_num.specs.declared.names.TheConstants.{WM_PAINT, WM_QUIT, WM_TIMER}
 use Rattle.user_model.specs.declared.call.Call.{Call}
-use Rattle.user_model.specs.declared.call.Call.TheVariants.{Post, PostThread, Dispatch, Await, Leave, Unmake, Snap, EndThread}
+use Rattle.user_model.specs.declared.call.Call.TheVariants.{Dispatch, Await, Leave, Unmake, Snap, EndThread}
 use Rattle.user_model.specs.declared.entry.Answer.{Answer}
 use Rattle.user_model.specs.declared.entry.Answer.TheVariants as answers
 use Rattle.user_model.specs.declared.entry.Origin.TheVariants as origins
@@ -22,19 +22,23 @@ use Rattle.user_model.specs.declared.entry.Setup.{Setup}
 use Rattle.user_model.specs.Past.{Past}
 use Rattle.user_model.specs.Places.{clock, cursor}
 use Rattle.user_model.specs.Threads.{is_running}
-use Rattle.user_model.specs.Deeds.{SendParts, parts_of, retrieves, is_serving}
+use Rattle.user_model.specs.Deeds.{to_window, to_thread, posting_of, SendParts, parts_of, retrieves, is_serving}
+use Rattle.user_model.specs.Keys.{is_shift_down}
+use Rattle.user_model.specs.Inputs.{Element, Injection, injection, home_of}
+use Rattle.user_model.specs.Targets.{target, message_for, to_take}
 use Rattle.user_model.specs.Windows.{is_live, thread_of}
 use Rattle.user_model.specs.Classes.{proc_of}
 use Rattle.user_model.specs.Posts.{PostedMsg, PostedQuit, message, posted, queue_of, first_post, quit}
 use Rattle.user_model.specs.Stacks.{top, has_room, waits}
 use Rattle.user_model.specs.Sends.{SentMsg, Outcome, send, answer, unfinished}
-use Rattle.user_model.specs.Ready.{ReadyMsg, to_enter, to_call_back, ready_head}
+use Rattle.user_model.specs.Ready.{to_enter, to_call_back, ready_head}
 use Rattle.user_model.specs.Next.{next, next_ready, next_quit, result_of}
 use Rattle.user_model.specs.Painting.{to_paint}
 use Rattle.user_model.specs.Timers.{WinTimer, due}
 use Rattle.user_model.specs.Colours.{snapped}
 use Rattle.user_model.specs.Refusals.{is_no_message}
 use Rattle.user_model.specs.ReplyDelivery.{next_post_number, is_no_post_window}
+use Rattle.user_model.specs.ReplyInput.{next_input_number, has_no_place}
 use Rattle.user_model.specs.ReplySends.{next_send_number, deadline, has_come}
 use Rattle.user_model.proofs.ReplyLaws.{is_of_clock}
 
@@ -47,7 +51,7 @@ pub record IsPost (setup : Setup) (past : Past) (who : ℕ) (call : Call) (k : �
   pub number : ℕ
   pub wparam : ℕ
   pub lparam : ℕ
-  pub is_call : (call ≡ Post hwnd number wparam lparam) × (to ≡ queue_of past who hwnd) × (is_no_post_window past hwnd ≡ false) ⊎ (call ≡ PostThread to number wparam lparam) × (hwnd ≡ 0) × (is_running setup past to ≡ true)
+  pub is_call : (posting_of (is_shift_down past who) call ≡ Some (to_window hwnd number wparam lparam)) × (to ≡ queue_of past who hwnd) × (is_no_post_window past hwnd ≡ false) ⊎ (posting_of (is_shift_down past who) call ≡ Some (to_thread to number wparam lparam)) × (hwnd ≡ 0) × (is_running setup past to ≡ true)
   pub short : nat_le 10000 (length (posted past to)) ≡ false
   pub fits : is_no_message number ≡ false
   pub is_next : k ≡ next_post_number past
@@ -74,25 +78,39 @@ pub record IsQuit (past : Past) (who : ℕ) (call : Call) (n : ℕ) (m : Msg) : 
   pub is_zero : n ≡ 0
   pub is_message : m ≡ message 0 WM_QUIT of.code 0 (clock past) (cursor past)
 
--- WM_PAINT was retrieved: nothing is ready, no post passes, quit doesn't come, and the window is the first that wants it
+-- an input was retrieved: nothing is ready, no post passes, quit doesn't come, and it is the first that the thread may take and that passes
+pub record IsInput (setup : Setup) (past : Past) (who : ℕ) (call : Call) (n : ℕ) (m : Msg) : Type 0 where
+  pub pass : Filter
+  pub is_call : retrieves call ≡ Some pass
+  pub is_unready : next_ready past who ≡ None
+  pub is_none : first_post past who pass ≡ None
+  pub no_quit : next_quit past who ≡ None
+  pub of : Element
+  pub is_first : to_take setup past who pass ≡ Some of
+  pub is_number : n ≡ of.number
+  pub is_message : m ≡ message_for past of (target setup past of)
+
+-- WM_PAINT was retrieved: nothing is ready, no post passes, quit and input don't come, and the window is the first that wants it
 pub record IsPaint (setup : Setup) (past : Past) (who : ℕ) (call : Call) (n : ℕ) (m : Msg) : Type 0 where
   pub pass : Filter
   pub is_call : retrieves call ≡ Some pass
   pub is_unready : next_ready past who ≡ None
   pub is_none : first_post past who pass ≡ None
   pub no_quit : next_quit past who ≡ None
+  pub no_input : to_take setup past who pass ≡ None
   pub of : Hwnd
   pub is_first : to_paint setup past who pass ≡ Some of
   pub is_zero : n ≡ 0
   pub is_message : m ≡ message of.0 WM_PAINT 0 0 (clock past) (cursor past)
 
--- WM_TIMER was retrieved: nothing is ready, no post passes, quit and painting don't come, and the timer is the first that is due
+-- WM_TIMER was retrieved: nothing is ready, no post passes, quit, input and painting don't come, and the timer is the first that is due
 pub record IsTimer (setup : Setup) (past : Past) (who : ℕ) (call : Call) (n : ℕ) (m : Msg) : Type 0 where
   pub pass : Filter
   pub is_call : retrieves call ≡ Some pass
   pub is_unready : next_ready past who ≡ None
   pub is_none : first_post past who pass ≡ None
   pub no_quit : next_quit past who ≡ None
+  pub no_input : to_take setup past who pass ≡ None
   pub no_paint : to_paint setup past who pass ≡ None
   pub of : WinTimer
   pub is_first : due past who pass ≡ Some of
@@ -187,6 +205,14 @@ pub record IsCalled (past : Past) (who : ℕ) (call : Call) (proc_no : ℕ) : Ty
   pub room : has_room past who ≡ true
   pub is_proc : proc_no ≡ proc_of past w
 
+-- an input was injected: it is meant for a thread, whose group has a place for it, and has the next number
+pub record IsInjected (setup : Setup) (past : Past) (call : Call) (k : ℕ) : Type 0 where
+  pub of : Injection
+  pub is_call : injection call ≡ Some of
+  pub is_meant : eqb (home_of setup past of) 0 ≡ false
+  pub room : has_no_place setup past of ≡ false
+  pub is_next : k ≡ next_input_number past
+
 -- a frame was kept, of the next number
 pub record IsSnap (past : Past) (call : Call) (k : ℕ) : Type 0 where
   pub is_call : call ≡ Snap
@@ -219,6 +245,7 @@ Says setup past who call (answers.Value v) = Unit {0}
 Says setup past who call (answers.Window w) = Unit {0}
 Says setup past who call (answers.Was w) = Unit {0}
 Says setup past who call (answers.Posted k) = IsPost setup past who call k
+Says setup past who call (answers.Input k) = IsInjected setup past call k
 Says setup past who call (answers.Called proc_no) = IsCalled past who call proc_no
 Says setup past who call (answers.Inside s proc_no) = IsInside past who call s.0 proc_no
 Says setup past who call (answers.Begun s) = IsMade past who call s.0 false
@@ -235,6 +262,7 @@ Says setup past who call (answers.Callback s proc_no w message extra result) = I
 Says setup past who call (answers.Done result cause) = IsDone past who call result cause
 Says setup past who call (answers.Got origins.Posted n m) = IsTaken past who call n m
 Says setup past who call (answers.Got origins.Quit n m) = IsQuit past who call n m
+Says setup past who call (answers.Got origins.Input n m) = IsInput setup past who call n m
 Says setup past who call (answers.Got origins.Paint n m) = IsPaint setup past who call n m
 Says setup past who call (answers.Got origins.Timer n m) = IsTimer setup past who call n m
 Says setup past who call (answers.Refused code) = IsProper call code

@@ -5,7 +5,7 @@ use Rattle.std.proofs.lemmas.List.{reverse-append}
 use Rattle.win_num.specs.declared.shapes.Point.{Point}
 use Rattle.user_model.specs.declared.entry.Entry.{Entry}
 use Rattle.user_model.specs.Past.{Past, is_refused, or_else, unless_refused, last_of, first}
-use Rattle.user_model.specs.Places.{clock, corner_of_screen, cursor, cursor_told, if_clock, time_told, mine}
+use Rattle.user_model.specs.Places.{clock, corner_of_screen, cursor, cursor_told, if_clock, moved_to, time_told, mine}
 use Rattle.user_model.specs.Idle.{last_entry}
 
 last_pick : {A : Type 0} (b : Bool) (o rest : Option A) → (elim b [ true ↦ rest | false ↦ elim o [ Some a ↦ Some a | None ↦ rest ] ]) ≡ or_else (elim b [ true ↦ None | false ↦ o ]) rest
@@ -29,18 +29,17 @@ clock-next e past = ap (λ o. unwrap_or o 0) (last_of-next (λ (e : Entry) (befo
 pub cursor-next : (e : Entry) (past : Past) → cursor (e ∷ past) ≡ unwrap_or (unless_refused e (cursor_told e past)) (cursor past)
 cursor-next e past = ap (λ o. unwrap_or o corner_of_screen) (last_of-next cursor_told e past) ∙ unwrap_or-or_else (unless_refused e (cursor_told e past)) (last_of cursor_told past) corner_of_screen
 
--- an entry that puts the cursor nowhere leaves it
-cursor-same : (e : Entry) (past : Past) → cursor (e ∷ past) ≡ cursor past
-cursor-same e past = cursor-next e past ∙ pick (is_refused e)
+-- an entry whose call puts the cursor nowhere leaves it
+pub cursor-same : (e : Entry) (past : Past) → moved_to e.call ≡ None → cursor (e ∷ past) ≡ cursor past
+cursor-same e past stays = cursor-next e past ∙ ap (λ o. unwrap_or (unless_refused e o) (cursor past)) stays ∙ pick (is_refused e)
   where
     pick : (b : Bool) → unwrap_or (elim b as (λ _. Option Point) [ true ↦ None | false ↦ None ]) (cursor past) ≡ cursor past
     pick true = refl
     pick false = refl
 
--- as long as no call moves it, the cursor stays at the left top corner of the screen
-pub cursor-stays : (past : Past) → cursor past ≡ corner_of_screen
-cursor-stays [] = refl
-cursor-stays (e ∷ past) = cursor-same e past ∙ cursor-stays past
+-- and so does one that was refused
+pub cursor-refused : (e : Entry) (past : Past) → is_refused e ≡ true → cursor (e ∷ past) ≡ cursor past
+cursor-refused e past h = cursor-next e past ∙ ap (λ b. unwrap_or (elim b as (λ _. Option Point) [ true ↦ None | false ↦ cursor_told e past ]) (cursor past)) h
 
 -- the thread's last entry is this one where it made it
 pub last_entry-next : (e : Entry) (past : Past) (t : ℕ) → last_entry (e ∷ past) t ≡ cond (eqb e.who.0 t) (Some e) (last_entry past t)

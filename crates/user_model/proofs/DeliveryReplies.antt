@@ -8,7 +8,7 @@ use Rattle.user_model.specs.declared.entry.Origin.TheVariants as origins
 use Rattle.user_model.specs.declared.entry.Setup.{Setup}
 use Rattle.user_model.specs.Past.{Past}
 use Rattle.user_model.specs.Replies.{row}
-use Rattle.user_model.proofs.AnswerFacts.{IsPost, IsTaken, IsQuit, IsPaint, IsTimer, NoneComes}
+use Rattle.user_model.proofs.AnswerFacts.{IsPost, IsTaken, IsQuit, IsInjected, IsInput, IsPaint, IsTimer, NoneComes}
 use Rattle.user_model.proofs.RowFacts.{says_of}
 
 -- the answer that a post was made tells which, and where it went
@@ -26,6 +26,14 @@ quit_told setup past who call n m e = says_of setup past who call (answers.Got o
 -- WM_PAINT that was handed out tells its filter, and the window that is painted first
 pub paint_told : (setup : Setup) (past : Past) (who : ℕ) (call : Call) (n : ℕ) (m : Msg) → row setup past who call ≡ answers.Got origins.Paint n m → IsPaint setup past who call n m
 paint_told setup past who call n m e = says_of setup past who call (answers.Got origins.Paint n m) e
+
+-- an input that was handed out tells its filter, and which it is
+pub input_told : (setup : Setup) (past : Past) (who : ℕ) (call : Call) (n : ℕ) (m : Msg) → row setup past who call ≡ answers.Got origins.Input n m → IsInput setup past who call n m
+input_told setup past who call n m e = says_of setup past who call (answers.Got origins.Input n m) e
+
+-- the answer that an input was injected tells which, and whom it is meant for
+pub injected_told : (setup : Setup) (past : Past) (who : ℕ) (call : Call) (k : ℕ) → row setup past who call ≡ answers.Input k → IsInjected setup past call k
+injected_told setup past who call k e = says_of setup past who call (answers.Input k) e
 
 -- WM_TIMER that was handed out tells its filter, and the timer that is due first
 pub timer_told : (setup : Setup) (past : Past) (who : ℕ) (call : Call) (n : ℕ) (m : Msg) → row setup past who call ≡ answers.Got origins.Timer n m → IsTimer setup past who call n m

@@ -1,12 +1,11 @@
 -- Dirty pixels, erase flags and begun painting at a past with one entry more.
-use Rattle.std.proofs.Common.{if◌then◌else◌, ◌≡◌, subst, ℕ, ◌==◌, Bool, true, false, not, ◌∷◌, List, [], length, Option, Some, None, refl, ap, sym, ◌∙◌}
-use Rattle.std.specs.Prelude.{◌&&◌, ◌||◌, unwrap_or, filter}
-use Rattle.std.proofs.lemmas.Bool.{false≢true}
+use Rattle.std.proofs.Common.{◌≡◌, ℕ, Bool, true, false, not, ◌∷◌, Option, Some, None, refl, ap, ◌∙◌}
+use Rattle.std.specs.Prelude.{◌&&◌, ◌||◌, unwrap_or}
 use Rattle.win_num.specs.declared.shapes.Point.{Point}
 use Rattle.user_model.specs.declared.entry.Entry.{Entry}
 use Rattle.user_model.specs.declared.entry.Setup.{Setup}
-use Rattle.user_model.specs.Past.{Past, is_refused, or_else, last_of}
-use Rattle.user_model.specs.Dirty.{owns, moves, exposes, exposes_some, invalidates, cleans, touches, is_dirty, flags_erase, flag_told, must_erase}
+use Rattle.user_model.specs.Past.{Past, is_refused, last_of}
+use Rattle.user_model.specs.Dirty.{owns, moves, exposes, invalidates, cleans, touches, is_dirty, flags_erase, must_erase}
 use Rattle.user_model.specs.Painting.{painting_told, is_painting}
 
 -- what the last entry says, where the newest wasn't refused

@@ -1,8 +1,7 @@
 -- What the answers of the calls on focus, active window, capture and attached threads tell.
-use Rattle.std.proofs.Common.{◌≡◌, ℕ, Bool, true, false, not, eqb, refl, sym, ◌∙◌}
+use Rattle.std.proofs.Common.{◌≡◌, ℕ, true, false, not, eqb, refl}
 use Rattle.std.specs.Prelude.{◌&&◌, ◌||◌}
 use Rattle.std.proofs.lemmas.Bool.{or_parts}
-use Rattle.user_model.specs.declared.call.Call.{Call}
 use Rattle.user_model.specs.declared.call.Call.TheVariants as calls
 use Rattle.user_model.specs.declared.entry.Answer.{Answer}
 use Rattle.user_model.specs.declared.entry.Answer.TheVariants as answers
@@ -13,7 +12,7 @@ use Rattle.user_model.specs.Windows.{live, is_live, thread_of, parent_in}
 use Rattle.user_model.specs.Looks.{is_disabled}
 use Rattle.user_model.specs.Groups.{are_attached, is_in_group}
 use Rattle.user_model.specs.Focus.{Slot, focus, active, capture}
-use Rattle.user_model.specs.Refusals.{refuse, invalid_parameter, invalid_window_handle, access_denied}
+use Rattle.user_model.specs.Refusals.{invalid_parameter, invalid_window_handle, access_denied}
 use Rattle.user_model.specs.ReplyGroups.{was, is_no_window, is_of_others, is_no_pair, if_of_caller}
 use Rattle.user_model.specs.Idle.{reply}
 use Rattle.user_model.proofs.ReplyLaws.{not_refused, not_false, by_call}

@@ -8,6 +8,11 @@ pub mod FrameLaws
 pub mod GroupLaws
 pub mod GroupReplies
 pub mod GroupThreads
+pub mod InputCounts
+pub mod InputFacts
+pub mod InputKeys
+pub mod InputLaws
+pub mod InputReplies
 pub mod KeptWindows
 pub mod LegalLaws
 pub mod ListLaws

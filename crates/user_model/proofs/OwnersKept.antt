@@ -4,7 +4,6 @@ use Rattle.std.specs.Prelude.{◌&&◌, pos, find, reverse}
 use Rattle.std.proofs.lemmas.Bool.{false≢true}
 use Rattle.win_num.specs.declared.message.Thread.{Thread}
 use Rattle.win_num.specs.declared.message.Hwnd.{Hwnd}
-use Rattle.win_num.specs.declared.names.TheConstants.{WS_VISIBLE}
 use Rattle.win_num.specs.declared.shapes.Point.{Point}
 use Rattle.win_num.specs.PixelSets.{Box, has_pixel}
 use Rattle.user_model.specs.declared.call.Call.{Call}
@@ -13,8 +12,8 @@ use Rattle.user_model.specs.declared.entry.Answer.TheVariants.{Refused}
 use Rattle.user_model.specs.declared.entry.Entry.{Entry}
 use Rattle.user_model.specs.declared.entry.Setup.{Setup}
 use Rattle.user_model.specs.Past.{Past, is_refusal, is_refused}
-use Rattle.user_model.specs.Windows.{Window, has_flag, live, parent_in}
-use Rattle.user_model.specs.Looks.{Look, look, place_of, is_shown}
+use Rattle.user_model.specs.Windows.{Window, live, parent_in}
+use Rattle.user_model.specs.Looks.{look, place_of, is_shown}
 use Rattle.user_model.specs.ZOrder.{hwnd, siblings}
 use Rattle.user_model.specs.Machines.{entry_of}
 use Rattle.user_model.proofs.WindowLooks.{SameShape}

@@ -233,6 +233,10 @@ posted-got setup e past t n m lawful is taken =
 pub posted-quit : (e : Entry) (past : Past) (t n : ℕ) (m : Msg) → e.answer ≡ answers.Got origins.Quit n m → is_some (retrieves e.call) ≡ true → posted (e ∷ past) t ≡ posted past t
 posted-quit e past t n m is call = posted-same e past t (ap is_post is) (ap (λ a. removed_post a e.call) is) (ap is_end is) (retrieves_no_drop e.call call)
 
+-- and so does one that hands out an input
+pub posted-input : (e : Entry) (past : Past) (t n : ℕ) (m : Msg) → e.answer ≡ answers.Got origins.Input n m → is_some (retrieves e.call) ≡ true → posted (e ∷ past) t ≡ posted past t
+posted-input e past t n m is call = posted-same e past t (ap is_post is) (ap (λ a. removed_post a e.call) is) (ap is_end is) (retrieves_no_drop e.call call)
+
 -- and so does one that hands out WM_PAINT
 pub posted-paint : (e : Entry) (past : Past) (t n : ℕ) (m : Msg) → e.answer ≡ answers.Got origins.Paint n m → is_some (retrieves e.call) ≡ true → posted (e ∷ past) t ≡ posted past t
 posted-paint e past t n m is call = posted-same e past t (ap is_post is) (ap (λ a. removed_post a e.call) is) (ap is_end is) (retrieves_no_drop e.call call)

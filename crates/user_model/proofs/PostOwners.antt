@@ -16,8 +16,9 @@ use Rattle.user_model.specs.Places.{clock, cursor, is_end, ends_thread}
 use Rattle.user_model.specs.Threads.{is_running}
 use Rattle.user_model.specs.Windows.{Window, live, window, drops, drops_kin, drops_window}
 use Rattle.user_model.specs.Retrievals.{takes_post}
-use Rattle.user_model.specs.Posts.{PostedMsg, message, post_after, posts, posts_by, posts_to, message_to, queue_of, ends_post, posted}
+use Rattle.user_model.specs.Posts.{PostedMsg, message, post_after, posts, posted_by, posts_by, posts_to, message_to, queue_of, ends_post, posted}
 use Rattle.user_model.specs.Deeds.{Posting, to_window, to_thread, posting_of}
+use Rattle.user_model.specs.Keys.{is_shift_down}
 use Rattle.user_model.proofs.AnswerFacts.{IsPost}
 use Rattle.user_model.specs.ReplyDelivery.{next_post_number}
 use Rattle.user_model.specs.Idle.{reply}
@@ -44,8 +45,8 @@ posts_none t who _ call past h = refl
 -- a post goes to its thread
 pub posts_one : (setup : Setup) (t who : ℕ) (call : Call) (past : Past) (k : ℕ) (p : IsPost setup past who call k) → posts_by t who (answers.Posted k) call past ≡ message_to t k p.to p.hwnd p.number p.wparam p.lparam past
 posts_one setup t who call past k p = elim p.is_call [
-  | inl x ↦ ap (λ (c : Call). posts_by t who (answers.Posted k) c past) x.0 ∙ ap (λ (to : ℕ). message_to t k to p.hwnd p.number p.wparam p.lparam past) (sym x.1)
-  | inr x ↦ ap (λ (c : Call). posts_by t who (answers.Posted k) c past) x.0 ∙ ap (λ (w : ℕ). message_to t k p.to w p.number p.wparam p.lparam past) (sym x.1)
+  | inl x ↦ ap (λ (o : Option Posting). posted_by t who k o past) x.0 ∙ ap (λ (to : ℕ). message_to t k to p.hwnd p.number p.wparam p.lparam past) (sym x.1)
+  | inr x ↦ ap (λ (o : Option Posting). posted_by t who k o past) x.0 ∙ ap (λ (w : ℕ). message_to t k p.to w p.number p.wparam p.lparam past) (sym x.1)
 ]
 
 -- what a lawful answer of a post tells
@@ -61,7 +62,7 @@ recipient_in who n (Some (to_thread to m p q)) past k old = cond (eqb k n) to ol
 recipient_in who n None past k old = old
 
 abbrev pub recipient_by : ℕ → Answer → Call → Past → ℕ → ℕ → ℕ
-recipient_by who (answers.Posted n) call past k old = recipient_in who n (posting_of call) past k old
+recipient_by who (answers.Posted n) call past k old = recipient_in who n (posting_of (is_shift_down past who) call) past k old
 recipient_by who _ call past k old = old
 
 abbrev pub recipient : Past → ℕ → ℕ
@@ -74,8 +75,8 @@ recipient_none who _ call past k old h = refl
 
 recipient_one : (setup : Setup) (who n : ℕ) (call : Call) (past : Past) (k old : ℕ) (p : IsPost setup past who call n) → recipient_by who (answers.Posted n) call past k old ≡ cond (eqb k n) p.to old
 recipient_one setup who n call past k old p = elim p.is_call [
-  | inl x ↦ ap (λ (c : Call). recipient_by who (answers.Posted n) c past k old) x.0 ∙ ap (λ (to : ℕ). cond (eqb k n) to old) (sym x.1)
-  | inr x ↦ ap (λ (c : Call). recipient_by who (answers.Posted n) c past k old) x.0
+  | inl x ↦ ap (λ (o : Option Posting). recipient_in who n o past k old) x.0 ∙ ap (λ (to : ℕ). cond (eqb k n) to old) (sym x.1)
+  | inr x ↦ ap (λ (o : Option Posting). recipient_in who n o past k old) x.0
 ]
 
 -- a post to t that was made
@@ -192,8 +193,15 @@ post_runs setup past who call k p lawful running = elim p.is_call [
     queue_runs None false is z e = absurd (false≢true (sym e))
     queue_runs (Some x) false is z e = live_running setup past p.hwnd x lawful is
 
+posts_no_drop : (shift : Bool) (call : Call) (p : Posting) → posting_of shift call ≡ Some p → is_drop call ≡ false
+posts_no_drop shift (Drop v) p e = let none : None ≡ Some p = e in absurd cc
+posts_no_drop shift _ p e = refl
+
 pub post_is_no_drop : (setup : Setup) (past : Past) (who : ℕ) (call : Call) (k : ℕ) → IsPost setup past who call k → is_drop call ≡ false
-post_is_no_drop setup past who call k p = elim p.is_call [ inl x ↦ ap is_drop x.0 | inr x ↦ ap is_drop x.0 ]
+post_is_no_drop setup past who call k p = elim p.is_call [
+  | inl x ↦ posts_no_drop (is_shift_down past who) call (to_window p.hwnd p.number p.wparam p.lparam) x.0
+  | inr x ↦ posts_no_drop (is_shift_down past who) call (to_thread p.to p.number p.wparam p.lparam) x.0
+]
 
 new_held : (setup : Setup) (e : Entry) (past : Past) (t : ℕ) (a : Answer) → e.answer ≡ a → a ≡ reply setup past e.who.0 e.call → AllByRecursion (λ x. IsHeld (e ∷ past) t x.msg.hwnd.0) (posts_by t e.who.0 a e.call past)
 new_held setup e past t (answers.Posted k) is right =

@@ -11,15 +11,21 @@ use Rattle.win_num.specs.declared.send.Kind.TheVariants.{Wait as WaitKind, Timeo
 use Rattle.win_num.specs.declared.send.Frame.{Frame}
 use Rattle.win_num.specs.declared.send.Frame.TheVariants.{Entered, Inside as InsideFrame, Called as CalledFrame, CallbackRun, Await as AwaitFrame}
 use Rattle.win_num.specs.declared.code.Code.{Code}
-use Rattle.win_num.specs.declared.code.Code.TheVariants.{Full}
+use Rattle.win_num.specs.declared.code.Code.TheVariants.{Full, NoTarget}
+use Rattle.win_num.specs.declared.names.TheConstants.{WM_CHAR, WM_KEYDOWN}
 use Rattle.user_model.specs.declared.call.Call.{Call}
-use Rattle.user_model.specs.declared.call.Call.TheVariants.{Peek, Get, Post, PostThread, PostQuit, Dispatch, Send, SendTimeout, SendNotify, SendCallback, Await, Leave, Reply, InSend, Message, Register, Unregister, NewWindow, Doom, Unmake, Drop, Place, Show, Enable, Find, AwaitTitle, NextTop, WindowAt, IsWindow, Parent, SetFocus, SetActive, SetCapture, ReleaseCapture, GetFocus, GetActive, GetCapture, Attach, Detach, Invalidate, Validate, UpdateRect, BeginPaint, EndPaint, Fill, Erase, Snap, SetTimer, KillTimer, EndThread, Clock, SleepUntil, Yield, Tick, Advance}
+use Rattle.user_model.specs.declared.call.Call.TheVariants.{Peek, Get, Post, PostThread, PostQuit, Dispatch, Send, SendTimeout, SendNotify, SendCallback, Await, Leave, Reply, InSend, Message, Translate, Register, Unregister, NewWindow, Doom, Unmake, Drop, Place, Show, Enable, Find, AwaitTitle, NextTop, WindowAt, IsWindow, Parent, SetFocus, SetActive, SetCapture, ReleaseCapture, GetFocus, GetActive, GetCapture, Attach, Detach, Mouse, Key, KeyState, Invalidate, Validate, UpdateRect, BeginPaint, EndPaint, Fill, Erase, Snap, SetTimer, KillTimer, EndThread, Clock, SleepUntil, Yield, Tick, Advance}
 use Rattle.user_model.specs.declared.entry.Answer.{Answer}
 use Rattle.user_model.specs.declared.entry.Answer.TheVariants as answers
 use Rattle.user_model.specs.declared.entry.Setup.{Setup}
 use Rattle.user_model.specs.Past.{Past, or_else}
 use Rattle.user_model.specs.Places.{clock}
 use Rattle.user_model.specs.Deeds.{SendParts, parts, parts_of, retrieves, is_serving}
+use Rattle.user_model.specs.Characters.{character, has_character}
+use Rattle.user_model.specs.Keys.{is_shift_down}
+use Rattle.user_model.specs.Inputs.{Element, Injection, of_mouse, of_key, injection, home_of, key_message}
+use Rattle.user_model.specs.Targets.{to_take}
+use Rattle.user_model.specs.Pixels.{point}
 use Rattle.user_model.specs.Threads.{is_running}
 use Rattle.user_model.specs.Windows.{Window, window, is_live, thread_of}
 use Rattle.user_model.specs.ZOrder.{titled}
@@ -30,12 +36,13 @@ use Rattle.user_model.specs.Posts.{PostedMsg, PostedQuit, posted, queue_of, firs
 use Rattle.user_model.specs.Stacks.{top, has_room, waits}
 use Rattle.user_model.specs.Sends.{SentMsg, Outcome, send, answer, unfinished}
 use Rattle.user_model.specs.Ready.{ReadyMsg, to_enter, to_call_back, ready_head}
-use Rattle.user_model.specs.Next.{next, next_ready, next_posted, next_quit, next_paint, next_timer, run_for, got_posted, got_quit, got_paint, got_timer, is_empty}
+use Rattle.user_model.specs.Next.{next, next_ready, next_posted, next_quit, next_input, next_paint, next_timer, run_for, got_posted, got_quit, got_input, got_paint, got_timer, is_empty}
 use Rattle.user_model.specs.Painting.{to_paint}
 use Rattle.user_model.specs.Timers.{WinTimer, due}
 use Rattle.user_model.specs.Colours.{snapped}
 use Rattle.user_model.specs.Refusals.{refuse, is_no_message, invalid_parameter, invalid_window_handle, access_denied, stack_overflow, not_enough_quota, invalid_thread_id}
-use Rattle.user_model.specs.ReplyDelivery.{next_post_number, is_no_post_window}
+use Rattle.user_model.specs.ReplyDelivery.{next_post_number, is_no_post_window, post_to}
+use Rattle.user_model.specs.ReplyInput.{inject, is_no_key, is_no_mouse, has_no_place, next_input_number}
 use Rattle.user_model.specs.ReplyWindows.{step_answer, unmake_step}
 use Rattle.user_model.specs.ReplyClock.{woken}
 use Rattle.user_model.specs.ReplySends.{send_made, send_if_room, waiting_send, other_send, next_send_number, deadline, has_come, served, blocks, left_inside, leave_from, reply_in, in_send_at}
@@ -90,6 +97,13 @@ empty_is : {A : Type 0} (xs : List A) → is_empty xs ≡ true → xs ≡ []
 empty_is [] e = refl
 empty_is (x ∷ xs) e = absurd (false≢true e)
 
+-- what comes where no quit does, and what comes where no input does either
+abbrev from_paint : Setup → Past → ℕ → Filter → Option Answer
+from_paint setup past who f = or_else (next_paint setup past who f) (next_timer past who f)
+
+abbrev from_input : Setup → Past → ℕ → Filter → Option Answer
+from_input setup past who f = or_else (next_input setup past who f) (from_paint setup past who f)
+
 -- what is known of a call that sends
 record Sending (past : Past) (who : ℕ) (call : Call) (of : SendParts) : Type 0 where
   is_call : parts_of call ≡ Some of
@@ -142,30 +156,34 @@ module _ (setup : Setup) (past : Past) (who : ℕ) (call : Call) where
   -- ---- a retrieval with the filter f, which answers d where nothing comes
 
   module _ (f : Filter) (is : retrieves call ≡ Some f) (serves : is_serving call ≡ true) (d : Answer) (nothing : NoneComes setup past who call → Said setup past who call d) where
-    none_comes : next_ready past who ≡ None → next_posted past who f ≡ None → next_quit past who ≡ None → next_paint setup past who f ≡ None → next_timer past who f ≡ None → Said setup past who call d
-    none_comes h k l m n = nothing (λ g same. subst (λ x. next setup past who x ≡ None) (by g same) (ap (λ o. or_else o (or_else (next_posted past who f) (or_else (next_quit past who) (or_else (next_paint setup past who f) (next_timer past who f))))) h ∙ ap (λ o. or_else o (or_else (next_quit past who) (or_else (next_paint setup past who f) (next_timer past who f)))) k ∙ ap (λ o. or_else o (or_else (next_paint setup past who f) (next_timer past who f))) l ∙ ap (λ o. or_else o (next_timer past who f)) m ∙ n))
+    none_comes : next_ready past who ≡ None → next_posted past who f ≡ None → next_quit past who ≡ None → next_input setup past who f ≡ None → next_paint setup past who f ≡ None → next_timer past who f ≡ None → Said setup past who call d
+    none_comes h k l i m n = nothing (λ g same. subst (λ x. next setup past who x ≡ None) (by g same) (ap (λ o. or_else o (or_else (next_posted past who f) (or_else (next_quit past who) (from_input setup past who f)))) h ∙ ap (λ o. or_else o (or_else (next_quit past who) (from_input setup past who f))) k ∙ ap (λ o. or_else o (from_input setup past who f)) l ∙ ap (λ o. or_else o (from_paint setup past who f)) i ∙ ap (λ o. or_else o (next_timer past who f)) m ∙ n))
       where
         by : (g : Filter) → retrieves call ≡ Some g → f ≡ g
         by g h = let e : Some f ≡ Some g = sym is ∙ h in cc
 
-    timer_said : next_ready past who ≡ None → first_post past who f ≡ None → next_quit past who ≡ None → to_paint setup past who f ≡ None → (o : Option WinTimer) → due past who f ≡ o → Said setup past who call (unwrap_or (option_map (got_timer past) o) d)
-    timer_said h k l m (Some x) first = record { says = record { pass = f; is_call = is; is_unready = h; is_none = k; no_quit = l; no_paint = m; of = x; is_first = first; is_zero = refl; is_message = refl } }
-    timer_said h k l m None first = none_comes h (ap (option_map got_posted) k) l (ap (option_map (got_paint past)) m) (ap (option_map (got_timer past)) first)
+    timer_said : next_ready past who ≡ None → first_post past who f ≡ None → next_quit past who ≡ None → to_take setup past who f ≡ None → to_paint setup past who f ≡ None → (o : Option WinTimer) → due past who f ≡ o → Said setup past who call (unwrap_or (option_map (got_timer past) o) d)
+    timer_said h k l i m (Some x) first = record { says = record { pass = f; is_call = is; is_unready = h; is_none = k; no_quit = l; no_input = i; no_paint = m; of = x; is_first = first; is_zero = refl; is_message = refl } }
+    timer_said h k l i m None first = none_comes h (ap (option_map got_posted) k) l (ap (option_map (got_input setup past)) i) (ap (option_map (got_paint past)) m) (ap (option_map (got_timer past)) first)
 
-    paint_said : next_ready past who ≡ None → first_post past who f ≡ None → next_quit past who ≡ None → (o : Option Hwnd) → to_paint setup past who f ≡ o → Said setup past who call (unwrap_or (or_else (option_map (got_paint past) o) (next_timer past who f)) d)
-    paint_said h k l (Some w) first = record { says = record { pass = f; is_call = is; is_unready = h; is_none = k; no_quit = l; of = w; is_first = first; is_zero = refl; is_message = refl } }
-    paint_said h k l None first = timer_said h k l first (due past who f) refl
+    paint_said : next_ready past who ≡ None → first_post past who f ≡ None → next_quit past who ≡ None → to_take setup past who f ≡ None → (o : Option Hwnd) → to_paint setup past who f ≡ o → Said setup past who call (unwrap_or (or_else (option_map (got_paint past) o) (next_timer past who f)) d)
+    paint_said h k l i (Some w) first = record { says = record { pass = f; is_call = is; is_unready = h; is_none = k; no_quit = l; no_input = i; of = w; is_first = first; is_zero = refl; is_message = refl } }
+    paint_said h k l i None first = timer_said h k l i first (due past who f) refl
 
-    quit_said : next_ready past who ≡ None → first_post past who f ≡ None → (b : Bool) (q : Option PostedQuit) → is_empty (posted past who) ≡ b → quit past who ≡ q → Said setup past who call (unwrap_or (or_else (cond b (option_map (got_quit past) q) None) (or_else (next_paint setup past who f) (next_timer past who f))) d)
+    input_said : next_ready past who ≡ None → first_post past who f ≡ None → next_quit past who ≡ None → (o : Option Element) → to_take setup past who f ≡ o → Said setup past who call (unwrap_or (or_else (option_map (got_input setup past) o) (from_paint setup past who f)) d)
+    input_said h k l (Some x) first = record { says = record { pass = f; is_call = is; is_unready = h; is_none = k; no_quit = l; of = x; is_first = first; is_number = refl; is_message = refl } }
+    input_said h k l None first = paint_said h k l first (to_paint setup past who f) refl
+
+    quit_said : next_ready past who ≡ None → first_post past who f ≡ None → (b : Bool) (q : Option PostedQuit) → is_empty (posted past who) ≡ b → quit past who ≡ q → Said setup past who call (unwrap_or (or_else (cond b (option_map (got_quit past) q) None) (from_input setup past who f)) d)
     quit_said h k true (Some x) empty stands = record { says = record { pass = f; is_call = is; is_unready = h; of = x; is_none = k; is_last = empty_is (posted past who) empty; stands = stands; is_zero = refl; is_message = refl } }
-    quit_said h k true None empty stands = paint_said h k (ap (λ b. cond b (option_map (got_quit past) (quit past who)) None) empty ∙ ap (option_map (got_quit past)) stands) (to_paint setup past who f) refl
-    quit_said h k false q empty stands = paint_said h k (ap (λ b. cond b (option_map (got_quit past) (quit past who)) None) empty) (to_paint setup past who f) refl
+    quit_said h k true None empty stands = input_said h k (ap (λ b. cond b (option_map (got_quit past) (quit past who)) None) empty ∙ ap (option_map (got_quit past)) stands) (to_take setup past who f) refl
+    quit_said h k false q empty stands = input_said h k (ap (λ b. cond b (option_map (got_quit past) (quit past who)) None) empty) (to_take setup past who f) refl
 
-    post_said : next_ready past who ≡ None → (o : Option PostedMsg) → first_post past who f ≡ o → Said setup past who call (unwrap_or (or_else (option_map got_posted o) (or_else (next_quit past who) (or_else (next_paint setup past who f) (next_timer past who f)))) d)
+    post_said : next_ready past who ≡ None → (o : Option PostedMsg) → first_post past who f ≡ o → Said setup past who call (unwrap_or (or_else (option_map got_posted o) (or_else (next_quit past who) (from_input setup past who f))) d)
     post_said h (Some x) k = record { says = record { pass = f; is_call = is; is_unready = h; of = x; is_first = k; is_number = refl; is_message = refl } }
     post_said h None k = quit_said h k (is_empty (posted past who)) (quit past who) refl refl
 
-    next_said : (o : Option Answer) → next_ready past who ≡ o → Said setup past who call (unwrap_or (or_else o (or_else (next_posted past who f) (or_else (next_quit past who) (or_else (next_paint setup past who f) (next_timer past who f))))) d)
+    next_said : (o : Option Answer) → next_ready past who ≡ o → Said setup past who call (unwrap_or (or_else o (or_else (next_posted past who f) (or_else (next_quit past who) (from_input setup past who f)))) d)
     next_said None h = post_said h (first_post past who f) refl
     next_said (Some a) h = ready_said serves a h
 
@@ -265,6 +283,21 @@ module _ (setup : Setup) (past : Past) (who : ℕ) where
       behind setup past who call (nat_le 10000 (length (posted past to))) not_enough_quota (answers.Posted (next_post_number past)) refl (λ short.
       record { says = record { to = to; hwnd = 0; number = m; wparam = p; lparam = q; is_call = inr (refl, refl, not_false (is_running setup past to) runs); short = short; fits = fits; is_next = refl } })))
 
+  translated : (w m key q : ℕ) → Said setup past who (Translate w m key q) (row setup past who (Translate w m key q))
+  translated w m key q =
+      let call = Translate w m key q in
+      either setup past who call (eqb m WM_KEYDOWN && has_character key) (refuse (is_no_post_window past w) invalid_window_handle (post_to past (queue_of past who w))) (answers.Value 0)
+      (λ typed. behind setup past who call (is_no_post_window past w) invalid_window_handle _ refl (λ window.
+      behind setup past who call (nat_le 10000 (length (posted past (queue_of past who w)))) not_enough_quota (answers.Posted (next_post_number past)) refl (λ short.
+      record { says = record { to = queue_of past who w; hwnd = w; number = WM_CHAR; wparam = character (is_shift_down past who) key; lparam = q; is_call = inl (refl, refl, window); short = short; fits = refl; is_next = refl } })))
+      (λ plain. record { says = tt })
+
+  injected_said : (call : Call) (i : Injection) → injection call ≡ Some i → Said setup past who call (inject setup past i)
+  injected_said call i is =
+      behind setup past who call (eqb (home_of setup past i) 0) NoTarget _ refl (λ meant.
+      behind setup past who call (has_no_place setup past i) Full (answers.Input (next_input_number past)) refl (λ room.
+      record { says = record { of = i; is_call = is; is_meant = meant; room = room; is_next = refl } }))
+
   dispatched : (w m p q : ℕ) → Said setup past who (Dispatch w m p q) (row setup past who (Dispatch w m p q))
   dispatched w m p q =
       let call = Dispatch w m p q in
@@ -294,6 +327,7 @@ row_said setup past who (Leave v) = left setup past who v (top past who) refl
 row_said setup past who (Reply v) = plainly setup past who (Reply v) (row setup past who (Reply v)) (plain_reply past (top past who))
 row_said setup past who InSend = plainly setup past who InSend (row setup past who InSend) (plain_in_send past (top past who))
 row_said setup past who (Message name) = plainly setup past who (Message name) (row setup past who (Message name)) (search (plain_behind, plain))
+row_said setup past who (Translate w m key q) = translated setup past who w m key q
 row_said setup past who (Register name proc_no colour) = plainly setup past who (Register name proc_no colour) (row setup past who (Register name proc_no colour)) (search (plain_behind, plain))
 row_said setup past who (Unregister name) = plainly setup past who (Unregister name) (row setup past who (Unregister name)) (search (plain_behind, plain))
 row_said setup past who (NewWindow class title parent style ex l t r b) = plainly setup past who (NewWindow class title parent style ex l t r b) (row setup past who (NewWindow class title parent style ex l t r b)) (search (plain_behind, plain) depth 9)
@@ -318,6 +352,9 @@ row_said setup past who GetActive = record { says = tt }
 row_said setup past who GetCapture = record { says = tt }
 row_said setup past who (Attach t u) = plainly setup past who (Attach t u) (row setup past who (Attach t u)) (search (plain_behind, plain))
 row_said setup past who (Detach t u) = plainly setup past who (Detach t u) (row setup past who (Detach t u)) (search (plain_behind, plain))
+row_said setup past who (Mouse number x y) = let call = Mouse number x y in behind setup past who call (is_no_mouse setup number (point x y)) invalid_parameter _ refl (λ fits. injected_said setup past who call (of_mouse number (point x y)) refl)
+row_said setup past who (Key down key) = let call = Key down key in behind setup past who call (nat_lt 1 down || is_no_key key) invalid_parameter _ refl (λ fits. injected_said setup past who call (of_key (key_message down) key) refl)
+row_said setup past who (KeyState key) = plainly setup past who (KeyState key) (row setup past who (KeyState key)) (search (plain_behind, plain))
 row_said setup past who (Invalidate w l t r b erase) = plainly setup past who (Invalidate w l t r b erase) (row setup past who (Invalidate w l t r b erase)) (search (plain_behind, plain))
 row_said setup past who (Validate w l t r b) = plainly setup past who (Validate w l t r b) (row setup past who (Validate w l t r b)) (search (plain_behind, plain))
 row_said setup past who (UpdateRect w) = plainly setup past who (UpdateRect w) (row setup past who (UpdateRect w)) (search (plain_behind, plain))

@@ -6,12 +6,17 @@ pub mod ChildFilter
 pub mod EarlyReply
 pub mod EnteredWindowDropped
 pub mod FilterAndQuit
+pub mod InputOfEnded
+pub mod MouseTargets
 pub mod OrderByPlace
+pub mod PostsBeforeInput
 pub mod PostsInOrder
 pub mod Refusals
 pub mod SendBack
 pub mod SenderEnds
 pub mod SharedFocus
+pub mod SharedInput
 pub mod ThreeDeep
 pub mod TimedOutInside
+pub mod TypedCharacters
 pub mod WindowLost

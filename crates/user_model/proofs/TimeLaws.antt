@@ -21,7 +21,7 @@ use Rattle.user_model.specs.Stacks.{top}
 use Rattle.win_num.specs.declared.message.Filter.{Filter}
 use Rattle.user_model.specs.Filters.{filter_of}
 use Rattle.user_model.specs.Timers.{WinTimer, due, due_time, is_due, passing_timers, soonest_timer}
-use Rattle.user_model.specs.Next.{got_timer, next, next_ready, next_posted, next_quit, next_paint, next_timer}
+use Rattle.user_model.specs.Next.{got_timer, next, next_ready, next_posted, next_quit, next_input, next_paint, next_timer}
 use Rattle.user_model.specs.Refusals.{refuse, invalid_parameter}
 use Rattle.user_model.specs.ReplySends.{deadline, has_come, served}
 use Rattle.user_model.specs.ReplyClock.{woken}
@@ -127,9 +127,10 @@ none_due : (setup : Setup) (past : Past) (t : ℕ) (f : Filter) → next setup p
 none_due setup past t f h =
     timers_later past (passing_timers past t f) (none_mapped (got_timer past) (due past t f)
     (second_none (next_paint setup past t f) (next_timer past t f)
+    (second_none (next_input setup past t f) _
     (second_none (next_quit past t) _
     (second_none (next_posted past t f) _
-    (second_none (next_ready past t) _ h)))))
+    (second_none (next_ready past t) _ h))))))
 
 -- the times of a call that waits are to come
 call_times : (setup : Setup) (past : Past) (t : ℕ) (call : Call) → is_wait (row setup past t call) ≡ true → AllByRecursion (λ m. clock past < m) (times_of_call past t call)

@@ -1,11 +1,11 @@
 -- Timers at a past with one entry more.
-use Rattle.std.proofs.Common.{if◌then◌else◌, ◌≡◌, ℕ, Bool, true, false, not, ◌∷◌, ◌++◌, List, [], refl, ap}
+use Rattle.std.proofs.Common.{◌≡◌, true, false, not, ◌∷◌, ◌++◌, ap}
 use Rattle.std.specs.Prelude.{◌||◌, filter, unwrap_or}
 use Rattle.user_model.specs.declared.entry.Entry.{Entry}
 use Rattle.user_model.specs.Past.{Past, is_refused}
 use Rattle.user_model.specs.Windows.{drops_window}
 use Rattle.user_model.specs.Timers.{WinTimer, timers, timers_set, ends_timer, base, base_told}
-use Rattle.user_model.proofs.PastLaws.{either_way, first_way, standing-next}
+use Rattle.user_model.proofs.PastLaws.{first_way, standing-next}
 use Rattle.user_model.proofs.DirtyLaws.{last_says, last_refused}
 
 -- the timers after an entry that wasn't refused

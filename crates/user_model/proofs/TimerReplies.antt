@@ -1,5 +1,5 @@
 -- What the answers of the calls on timers tell.
-use Rattle.std.proofs.Common.{◌≡◌, ℕ, Bool, true, false, not, eqb, length, refl, sym}
+use Rattle.std.proofs.Common.{◌≡◌, ℕ, false, not, eqb, length, refl, sym}
 use Rattle.std.specs.Prelude.{◌&&◌, is_none}
 use Rattle.std.proofs.Math.Dec.{leb}
 use Rattle.win_num.specs.declared.code.Code.TheVariants.{Full}

@@ -1,14 +1,13 @@
 -- The window of each timer is live.
-use Rattle.std.proofs.Common.{◌≡◌, ℕ, Bool, true, false, not, eqb, ◌∷◌, ◌++◌, List, [], Option, Some, None, refl, ap, sym, ◌∙◌, subst}
+use Rattle.std.proofs.Common.{◌≡◌, ℕ, Bool, true, false, not, eqb, ◌∷◌, [], Option, Some, None, refl, ap, sym, ◌∙◌, subst}
 use Rattle.std.specs.Prelude.{◌||◌, ◌&&◌, filter, is_some, option_map, unwrap_or}
 use Rattle.std.specs.List.{AllByRecursion}
 use Rattle.user_model.specs.declared.call.Call.{Call}
 use Rattle.user_model.specs.declared.call.Call.TheVariants as calls
-use Rattle.user_model.specs.declared.entry.Answer.{Answer}
 use Rattle.user_model.specs.declared.entry.Answer.TheVariants as answers
 use Rattle.user_model.specs.declared.entry.Entry.{Entry}
 use Rattle.user_model.specs.declared.entry.Setup.{Setup}
-use Rattle.user_model.specs.Past.{Past, is_refused, is_refusal}
+use Rattle.user_model.specs.Past.{Past, is_refused}
 use Rattle.user_model.specs.Places.{is_end}
 use Rattle.user_model.specs.Windows.{Window, live, window, find_window, is_live, thread_of, drops, drops_kin, drops_window}
 use Rattle.user_model.specs.Timers.{WinTimer, timers, timers_set, ends_timer}

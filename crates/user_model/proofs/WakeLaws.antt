@@ -6,7 +6,6 @@ use Rattle.win_num.specs.declared.code.Code.TheVariants.{Full}
 use Rattle.user_model.specs.declared.call.Call.{Call}
 use Rattle.user_model.specs.declared.call.Call.TheVariants.{Get, Peek, Await, Tick, Advance}
 use Rattle.user_model.specs.declared.entry.Entry.{Entry}
-use Rattle.user_model.specs.declared.entry.Answer.{Answer}
 use Rattle.user_model.specs.declared.entry.Answer.TheVariants as answers
 use Rattle.user_model.specs.declared.entry.Setup.{Setup}
 use Rattle.user_model.specs.Past.{Past, is_full, is_refusal, is_refused}

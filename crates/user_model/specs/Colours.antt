@@ -1,5 +1,5 @@
 -- The colour of each pixel of the screen, and the frames that were kept of it.
-use Rattle.std.specs.Prelude.{if◌then◌else◌, ℕ, zero, suc, ◌==◌, Bool, true, false, not, ◌&&◌, List, [], ◌∷◌, map, Option, Some, None, option_map, unwrap_or}
+use Rattle.std.specs.Prelude.{if◌then◌else◌, ℕ, zero, suc, ◌==◌, Bool, true, ◌&&◌, List, [], ◌∷◌, map, Option, Some, None, option_map, unwrap_or}
 use Rattle.win_num.specs.declared.shapes.Point.{Point}
 use Rattle.region_box.specs.Screens.{screen_points}
 use Rattle.user_model.specs.declared.call.Call.{Call}

@@ -4,9 +4,10 @@ use Rattle.std.specs.Prelude.{ℕ, ◌==◌, Bool, true, false, ℤ, Option, Som
 use Rattle.win_num.specs.declared.message.Filter.{Filter}
 use Rattle.win_num.specs.declared.send.Kind.{Kind}
 use Rattle.win_num.specs.declared.send.Kind.TheVariants.{Wait, Timeout as WithTimeout, Notify, Callback as WithCallback}
-use Rattle.win_num.specs.declared.names.TheConstants.{PM_REMOVE}
+use Rattle.win_num.specs.declared.names.TheConstants.{PM_REMOVE, WM_CHAR}
 use Rattle.user_model.specs.declared.call.Call.{Call}
-use Rattle.user_model.specs.declared.call.Call.TheVariants.{Post, PostThread, Peek, Get, PostQuit, Dispatch, Send, SendTimeout, SendNotify, SendCallback, Await, Leave, Reply, InSend, Message, Register, Unregister, NewWindow, Doom, Unmake, Drop, Place, Show, Enable, Find, AwaitTitle, NextTop, WindowAt, IsWindow, Parent, SetFocus, SetActive, SetCapture, ReleaseCapture, GetFocus, GetActive, GetCapture, Attach, Detach, Invalidate, Validate, UpdateRect, BeginPaint, EndPaint, Fill, Erase, Snap, SetTimer, KillTimer, EndThread, Clock, SleepUntil, Yield, Tick, Advance}
+use Rattle.user_model.specs.declared.call.Call.TheVariants.{Post, PostThread, Peek, Get, PostQuit, Dispatch, Send, SendTimeout, SendNotify, SendCallback, Await, Leave, Reply, InSend, Message, Translate, Register, Unregister, NewWindow, Doom, Unmake, Drop, Place, Show, Enable, Find, AwaitTitle, NextTop, WindowAt, IsWindow, Parent, SetFocus, SetActive, SetCapture, ReleaseCapture, GetFocus, GetActive, GetCapture, Attach, Detach, Mouse, Key, KeyState, Invalidate, Validate, UpdateRect, BeginPaint, EndPaint, Fill, Erase, Snap, SetTimer, KillTimer, EndThread, Clock, SleepUntil, Yield, Tick, Advance}
+use Rattle.user_model.specs.Characters.{character}
 
 -- a message that a call posts: to the thread of a window, or for window 0 to the caller; or to a thread, without a window
 pub data Posting : Type 0 where
@@ -25,13 +26,14 @@ pub record SendParts : Type 0 where
 abbrev pub parts : ℕ → ℕ → ℕ → ℕ → Kind → SendParts
 parts w m p q kind = record { hwnd = w; message = m; wparam = p; lparam = q; kind = kind }
 
--- what a call does: it retrieves what a filter lets pass, and may remove it; posts a message, or quit with its code; sends;
--- waits for a send's answer; leaves a procedure, or replies, with a result; waits for a time; makes a window of a class, with a
+-- what a call does: it retrieves what a filter lets pass, and may remove it; posts a message, the character of a key, or quit with its
+-- code; sends; waits for a send's answer; leaves a procedure, or replies, with a result; waits for a time; makes a window of a class, with a
 -- title, parent or owner, style, extended style and edges; puts a window among its siblings and at a place, as flags say; shows
 -- or hides a window; enables or disables one; or what definitions of its own say
 pub data Deed : Type 0 where
   retrieving : (pass : Filter) (removes : Bool) → Deed
   posting : Posting → Deed
+  typing : (w key lparam : ℕ) → Deed
   quitting : (code : ℕ) → Deed
   sending : SendParts → Deed
   awaiting : (s : ℕ) → Deed
@@ -50,6 +52,7 @@ deed (Peek w min max flags) = retrieving (record { hwnd = w; min = min; max = ma
 deed (Get w min max) = retrieving (record { hwnd = w; min = min; max = max }) true
 deed (Post w number wparam lparam) = posting (to_window w number wparam lparam)
 deed (PostThread to number wparam lparam) = posting (to_thread to number wparam lparam)
+deed (Translate w number key lparam) = typing w key lparam
 deed (PostQuit code) = quitting code
 deed (Send w number wparam lparam) = sending (parts w number wparam lparam Wait)
 deed (SendTimeout w number wparam lparam flags ms) = sending (parts w number wparam lparam (WithTimeout flags ms))
@@ -86,6 +89,9 @@ deed GetActive = doing_else
 deed GetCapture = doing_else
 deed (Attach t u) = doing_else
 deed (Detach t u) = doing_else
+deed (Mouse number x y) = doing_else
+deed (Key down key) = doing_else
+deed (KeyState key) = doing_else
 deed (Invalidate w l t r b erase) = doing_else
 deed (Validate w l t r b) = doing_else
 deed (UpdateRect w) = doing_else
@@ -102,14 +108,15 @@ deed Yield = doing_else
 deed (Tick ms) = doing_else
 deed Advance = doing_else
 
--- the message that is posted
-abbrev pub posted_in : Deed → Option Posting
-posted_in (posting p) = Some p
-posted_in _ = None
+-- the message that is posted; a character depends on whether Shift is down
+abbrev pub posted_in : Bool → Deed → Option Posting
+posted_in shift (posting p) = Some p
+posted_in shift (typing w key lparam) = Some (to_window w WM_CHAR (character shift key) lparam)
+posted_in shift _ = None
 
 -- the message that a call posts, where it is answered that a post was made
-abbrev pub posting_of : Call → Option Posting
-posting_of call = posted_in (deed call)
+abbrev pub posting_of : Bool → Call → Option Posting
+posting_of shift call = posted_in shift (deed call)
 
 -- the message that is sent
 abbrev pub sent_in : Deed → Option SendParts

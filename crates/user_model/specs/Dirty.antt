@@ -1,5 +1,5 @@
 -- Dirty pixels, and the erase flag of a window.
-use Rattle.std.specs.Prelude.{if◌then◌else◌, ℕ, ◌==◌, Bool, true, false, not, ◌&&◌, ◌||◌, ℤ, List, [], ◌∷◌, filter, Option, Some, None, unwrap_or}
+use Rattle.std.specs.Prelude.{ℕ, ◌==◌, Bool, true, false, not, ◌&&◌, ◌||◌, ℤ, List, [], ◌∷◌, filter, Option, Some, None, unwrap_or}
 use Rattle.win_num.specs.declared.shapes.Point.{Point}
 use Rattle.win_num.specs.PixelSets.{box, has_pixel, same_box}
 use Rattle.region_box.specs.Screens.{screen_points}

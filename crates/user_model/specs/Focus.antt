@@ -21,10 +21,10 @@ set_in capture (SetCapture w) = Some w
 set_in capture ReleaseCapture = Some 0
 set_in _ _ = None
 
--- what is set, where the thread is one of these
-abbrev pub if_among : (ℕ → Bool) → ℕ → Option ℕ → Option ℕ
+-- what is told, where the thread is one of these
+abbrev pub if_among : {A : Type 0} → (ℕ → Bool) → ℕ → Option A → Option A
 if_among among who None = None
-if_among among who (Some w) = if among who then Some w else None
+if_among among who (Some a) = if among who then Some a else None
 
 -- the window that an entry of one of these threads sets
 abbrev pub set_among : (ℕ → Bool) → Slot → Entry → Past → Option ℕ

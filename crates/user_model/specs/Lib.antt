@@ -1,3 +1,4 @@
+pub mod Characters
 pub mod Classes
 pub mod Colours
 pub mod Counts
@@ -8,6 +9,8 @@ pub mod Filters
 pub mod Focus
 pub mod Groups
 pub mod Idle
+pub mod Inputs
+pub mod Keys
 pub mod Legal
 pub mod Looks
 pub mod Machines
@@ -24,6 +27,7 @@ pub mod ReplyClock
 pub mod ReplyDelivery
 pub mod ReplyDrawing
 pub mod ReplyGroups
+pub mod ReplyInput
 pub mod ReplySends
 pub mod ReplyWindows
 pub mod Retrievals
@@ -32,6 +36,7 @@ pub mod Sends
 pub mod Setups
 pub mod Stacks
 pub mod Stories
+pub mod Targets
 pub mod Tellers
 pub mod Threads
 pub mod Timers

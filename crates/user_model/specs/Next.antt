@@ -6,7 +6,7 @@ use Rattle.win_num.specs.declared.names.TheConstants.{WM_PAINT, WM_QUIT, WM_TIME
 use Rattle.user_model.specs.declared.entry.Setup.{Setup}
 use Rattle.user_model.specs.declared.entry.Answer.{Answer}
 use Rattle.user_model.specs.declared.entry.Answer.TheVariants.{Enter, Callback, Got}
-use Rattle.user_model.specs.declared.entry.Origin.TheVariants.{Posted, Quit, Paint, Timer}
+use Rattle.user_model.specs.declared.entry.Origin.TheVariants.{Posted, Quit, Input, Paint, Timer}
 use Rattle.user_model.specs.Past.{Past, or_else}
 use Rattle.user_model.specs.Places.{clock, cursor}
 use Rattle.user_model.specs.Classes.{proc_of}
@@ -16,6 +16,8 @@ use Rattle.user_model.specs.Ready.{ReadyMsg, to_enter, to_call_back, ready_head}
 use Rattle.user_model.specs.Painting.{to_paint}
 use Rattle.user_model.specs.Timers.{WinTimer, due}
 use Rattle.user_model.specs.Posts.{PostedMsg, PostedQuit, message, posted, first_post, quit}
+use Rattle.user_model.specs.Inputs.{Element}
+use Rattle.user_model.specs.Targets.{target, message_for, to_take}
 
 -- the result of a send, or 0
 abbrev pub result_of : Option Outcome → ℕ
@@ -52,6 +54,14 @@ is_empty (x ∷ xs) = false
 abbrev pub next_quit : Past → ℕ → Option Answer
 next_quit past t = if is_empty (posted past t) then option_map (got_quit past) (quit past t) else None
 
+-- an input as a retrieval hands it out, for the window that it goes to then
+abbrev pub got_input : Setup → Past → Element → Answer
+got_input setup past x = Got Input x.number (message_for past x (target setup past x))
+
+-- the first input that the thread may take and that passes
+abbrev pub next_input : Setup → Past → ℕ → Filter → Option Answer
+next_input setup past t f = option_map (got_input setup past) (to_take setup past t f)
+
 -- WM_PAINT of a window, with the clock and the cursor of the retrieval
 abbrev pub got_paint : Past → Hwnd → Answer
 got_paint past w = Got Paint 0 (message w.0 WM_PAINT 0 0 (clock past) (cursor past))
@@ -68,6 +78,6 @@ got_timer past x = Got Timer 0 (message x.hwnd WM_TIMER x.id 0 (clock past) (cur
 abbrev pub next_timer : Past → ℕ → Filter → Option Answer
 next_timer past t f = option_map (got_timer past) (due past t f)
 
--- ready sends and results, then the first posted message that passes, then quit, then painting, then timers
+-- ready sends and results, then the first posted message that passes, then quit, then input, then painting, then timers
 abbrev pub next : Setup → Past → ℕ → Filter → Option Answer
-next setup past t f = or_else (next_ready past t) (or_else (next_posted past t f) (or_else (next_quit past t) (or_else (next_paint setup past t f) (next_timer past t f))))
+next setup past t f = or_else (next_ready past t) (or_else (next_posted past t f) (or_else (next_quit past t) (or_else (next_input setup past t f) (or_else (next_paint setup past t f) (next_timer past t f)))))

@@ -1,5 +1,5 @@
 -- Which windows are being painted, and which is painted next.
-use Rattle.std.specs.Prelude.{if◌then◌else◌, ℕ, zero, suc, ◌==◌, Bool, true, false, ◌&&◌, List, [], ◌∷◌, length, reverse, find, Option, Some, None, unwrap_or}
+use Rattle.std.specs.Prelude.{ℕ, zero, suc, ◌==◌, Bool, true, false, ◌&&◌, List, [], ◌∷◌, length, reverse, find, Option, None, unwrap_or}
 use Rattle.std.specs.List.{flat_map}
 use Rattle.win_num.specs.declared.message.Filter.{Filter}
 use Rattle.win_num.specs.declared.message.Hwnd.{Hwnd}

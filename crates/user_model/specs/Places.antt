@@ -1,6 +1,8 @@
 -- The clock, the ended threads, the cursor, and a thread's own entries.
 use Rattle.std.specs.Prelude.{if◌then◌else◌, ℕ, ◌==◌, Bool, true, false, ◌&&◌, pos, filter, Option, Some, None, unwrap_or}
 use Rattle.win_num.specs.declared.shapes.Point.{Point}
+use Rattle.user_model.specs.declared.call.Call.{Call}
+use Rattle.user_model.specs.declared.call.Call.TheVariants.{Mouse}
 use Rattle.user_model.specs.declared.entry.Entry.{Entry}
 use Rattle.user_model.specs.declared.entry.Answer.{Answer}
 use Rattle.user_model.specs.declared.entry.Answer.TheVariants.{Advanced, Ended, Value}
@@ -38,9 +40,14 @@ has_ended past t = ever (λ e before. ends_thread e t) past
 abbrev pub corner_of_screen : Point
 corner_of_screen = record { x = pos 0; y = pos 0 }
 
--- where an entry puts the cursor: nowhere, since no call moves it
+-- where a call puts the cursor
+abbrev pub moved_to : Call → Option Point
+moved_to (Mouse number x y) = Some (record { x = x; y = y })
+moved_to _ = None
+
+-- where an entry puts it
 abbrev pub cursor_told : Entry → Past → Option Point
-cursor_told e before = None
+cursor_told e before = moved_to e.call
 
 -- where the cursor was put last; before, the left top corner of the screen
 abbrev pub cursor : Past → Point

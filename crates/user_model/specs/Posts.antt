@@ -13,6 +13,7 @@ use Rattle.user_model.specs.Windows.{thread_of, drops_window}
 use Rattle.user_model.specs.Filters.{passes_posted}
 use Rattle.user_model.specs.Deeds.{Posting, to_window, to_thread, posting_of, Deed, quitting, deed}
 use Rattle.user_model.specs.Retrievals.{takes_post, takes_quit}
+use Rattle.user_model.specs.Keys.{is_shift_down}
 
 -- a message from its parts
 abbrev pub message : ℕ → ℕ → ℕ → ℕ → ℕ → Point → Msg
@@ -53,7 +54,7 @@ posted_by t who k None before = []
 
 -- what a call posts to t
 abbrev pub posts_by : ℕ → ℕ → Answer → Call → Past → List PostedMsg
-posts_by t who (Posted k) call before = posted_by t who k (posting_of call) before
+posts_by t who (Posted k) call before = posted_by t who k (posting_of (is_shift_down before who) call) before
 posts_by t who _ call before = []
 
 -- the post that an entry makes to t

@@ -7,12 +7,13 @@ use Rattle.user_model.specs.declared.entry.Setup.{Setup}
 use Rattle.user_model.specs.declared.entry.Answer.{Answer}
 use Rattle.user_model.specs.declared.entry.Answer.TheVariants.{Okay, Ended, Refused}
 use Rattle.user_model.specs.declared.call.Call.{Call}
-use Rattle.user_model.specs.declared.call.Call.TheVariants.{Peek, Get, Post, PostThread, PostQuit, Dispatch, Send, SendTimeout, SendNotify, SendCallback, Await, Leave, Reply, InSend, Message, Register, Unregister, NewWindow, Doom, Unmake, Drop, Place, Show, Enable, Find, AwaitTitle, NextTop, WindowAt, IsWindow, Parent, SetFocus, SetActive, SetCapture, ReleaseCapture, GetFocus, GetActive, GetCapture, Attach, Detach, Invalidate, Validate, UpdateRect, BeginPaint, EndPaint, Fill, Erase, Snap, SetTimer, KillTimer, EndThread, Clock, SleepUntil, Yield, Tick, Advance}
+use Rattle.user_model.specs.declared.call.Call.TheVariants.{Peek, Get, Post, PostThread, PostQuit, Dispatch, Send, SendTimeout, SendNotify, SendCallback, Await, Leave, Reply, InSend, Message, Translate, Register, Unregister, NewWindow, Doom, Unmake, Drop, Place, Show, Enable, Find, AwaitTitle, NextTop, WindowAt, IsWindow, Parent, SetFocus, SetActive, SetCapture, ReleaseCapture, GetFocus, GetActive, GetCapture, Attach, Detach, Mouse, Key, KeyState, Invalidate, Validate, UpdateRect, BeginPaint, EndPaint, Fill, Erase, Snap, SetTimer, KillTimer, EndThread, Clock, SleepUntil, Yield, Tick, Advance}
 use Rattle.user_model.specs.Past.{Past}
 use Rattle.user_model.specs.ReplyDelivery.{peek_reply, get_reply, post_reply, post_thread_reply}
 use Rattle.user_model.specs.ReplyWindows.{register_reply, unregister_reply, message_reply, new_window_reply, doom_reply, unmake_reply, drop_reply, place_reply, show_reply, enable_reply, find_reply, await_title_reply, next_top_reply, window_at_reply, is_window_reply, parent_reply}
 use Rattle.user_model.specs.Focus.{focus, active, capture}
 use Rattle.user_model.specs.ReplyGroups.{set_focus_reply, set_active_reply, set_capture_reply, was, value_reply, attach_reply, detach_reply}
+use Rattle.user_model.specs.ReplyInput.{mouse_reply, key_reply, key_state_reply, translate_reply}
 use Rattle.user_model.specs.ReplyDrawing.{invalidate_reply, validate_reply, update_rect_reply, begin_paint_reply, end_paint_reply, fill_reply, erase_reply, snap_reply}
 use Rattle.user_model.specs.ReplySends.{dispatch_reply, send_reply, send_timeout_reply, send_other_reply, await_reply, leave_reply, reply_reply, in_send_reply}
 use Rattle.user_model.specs.ReplyClock.{clock_reply, sleep_until_reply, set_timer_reply, kill_timer_reply}
@@ -37,6 +38,7 @@ row setup past who (Leave v) = leave_reply past who v
 row setup past who (Reply v) = reply_reply past who
 row setup past who InSend = in_send_reply past who
 row setup past who (Message name) = message_reply past name
+row setup past who (Translate w number key lparam) = translate_reply past who w number key
 row setup past who (Register name proc_no colour) = register_reply past name colour
 row setup past who (Unregister name) = unregister_reply past name
 row setup past who (NewWindow class title parent style ex l t r b) = new_window_reply past who class parent style ex l t r b
@@ -61,6 +63,9 @@ row setup past who GetActive = value_reply past who active
 row setup past who GetCapture = value_reply past who capture
 row setup past who (Attach t u) = attach_reply setup past t u
 row setup past who (Detach t u) = detach_reply past t u
+row setup past who (Mouse number x y) = mouse_reply setup past number x y
+row setup past who (Key down key) = key_reply setup past down key
+row setup past who (KeyState key) = key_state_reply past who key
 row setup past who (Invalidate w l t r b erase) = invalidate_reply past w l t r b erase
 row setup past who (Validate w l t r b) = validate_reply past w l t r b
 row setup past who (UpdateRect w) = update_rect_reply setup past w

@@ -1,5 +1,5 @@
 -- The answers of dispatches, of sends and of the calls inside them.
-use Rattle.std.specs.Prelude.{if◌then◌else◌, ℕ, suc, ◌==◌, ◌+◌, nat_lt, nat_le, Bool, false, not, ◌&&◌, ◌||◌, length, Option, Some, None, unwrap_or, option_map}
+use Rattle.std.specs.Prelude.{if◌then◌else◌, ℕ, suc, ◌==◌, ◌+◌, nat_lt, nat_le, Bool, false, not, ◌&&◌, ◌||◌, length, Option, Some, None, unwrap_or}
 use Rattle.win_num.specs.declared.send.Kind.{Kind}
 use Rattle.win_num.specs.declared.send.Kind.TheVariants.{Wait as WaitKind, Timeout as WithTimeout, Notify, Callback as WithCallback}
 use Rattle.win_num.specs.declared.send.Cause.TheVariants.{Timeout as ByTimeout}

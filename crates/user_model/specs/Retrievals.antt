@@ -1,11 +1,11 @@
 -- What a retrieval removed.
-use Rattle.std.specs.Prelude.{if◌then◌else◌, ℕ, ◌==◌, Bool, true, false, Option, Some, None}
+use Rattle.std.specs.Prelude.{if◌then◌else◌, ℕ, ◌==◌, Bool, false, Option, Some, None}
 use Rattle.win_num.specs.declared.message.Msg.{Msg}
 use Rattle.user_model.specs.declared.call.Call.{Call}
 use Rattle.user_model.specs.declared.entry.Entry.{Entry}
 use Rattle.user_model.specs.declared.entry.Answer.{Answer}
 use Rattle.user_model.specs.declared.entry.Answer.TheVariants.{Got}
-use Rattle.user_model.specs.declared.entry.Origin.TheVariants.{Posted, Quit, Timer}
+use Rattle.user_model.specs.declared.entry.Origin.TheVariants.{Posted, Quit, Input, Timer}
 use Rattle.user_model.specs.Deeds.{Deed, retrieving, deed}
 
 -- whether a retrieval removes
@@ -22,6 +22,16 @@ abbrev pub removed_post : Answer → Call → Option ℕ
 removed_post (Got Posted n msg) call = if removes call then Some n else None
 removed_post _ call = None
 
+-- the number of the input that an answer hands out and its call removes
+abbrev pub removed_input : Answer → Call → Option ℕ
+removed_input (Got Input n msg) call = if removes call then Some n else None
+removed_input _ call = None
+
+-- its message
+abbrev pub input_got : Answer → Call → Option Msg
+input_got (Got Input n msg) call = if removes call then Some msg else None
+input_got _ call = None
+
 -- the message of a timer that an answer hands out and its call removes
 abbrev pub removed_timer : Answer → Call → Option Msg
 removed_timer (Got Timer n msg) call = if removes call then Some msg else None
@@ -35,6 +45,10 @@ is_number (Some n) k = n == k
 -- whether the entry removes post k
 abbrev pub takes_post : Entry → ℕ → Bool
 takes_post e k = is_number (removed_post e.answer e.call) k
+
+-- whether the entry removes input k
+abbrev pub takes_input : Entry → ℕ → Bool
+takes_input e k = is_number (removed_input e.answer e.call) k
 
 -- whether the answer hands out quit, and its call removes it
 abbrev pub removed_quit : Answer → Call → Bool

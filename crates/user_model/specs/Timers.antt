@@ -1,5 +1,5 @@
 -- Timers, and the one that is due first.
-use Rattle.std.specs.Prelude.{if◌then◌else◌, ℕ, ◌==◌, ◌+◌, nat_le, min, max, Bool, true, false, ◌&&◌, ◌||◌, List, [], ◌∷◌, filter, find, Option, Some, None, unwrap_or}
+use Rattle.std.specs.Prelude.{if◌then◌else◌, ℕ, ◌==◌, ◌+◌, nat_le, min, max, Bool, false, ◌&&◌, ◌||◌, List, [], ◌∷◌, filter, find, Option, Some, None, unwrap_or}
 use Rattle.win_num.specs.declared.message.Filter.{Filter}
 use Rattle.win_num.specs.declared.message.Msg.{Msg}
 use Rattle.win_num.specs.Numbers.{passes_range}

@@ -1,5 +1,5 @@
 -- Windows: which are live, with their fields, and who stands above whom.
-use Rattle.std.specs.Prelude.{if◌then◌else◌, ℕ, zero, suc, ◌+◌, ◌==◌, nat_lt, Bool, true, false, not, ◌&&◌, ◌||◌, pos, List, [], ◌∷◌, ◌++◌, filter, find, Option, Some, None, unwrap_or, option_map, bit_and, is_some}
+use Rattle.std.specs.Prelude.{if◌then◌else◌, ℕ, zero, suc, ◌==◌, nat_lt, Bool, true, false, not, ◌&&◌, ◌||◌, List, [], ◌∷◌, ◌++◌, filter, find, Option, unwrap_or, option_map, bit_and, is_some}
 use Rattle.win_num.specs.declared.names.TheConstants.{WS_CHILD}
 use Rattle.user_model.specs.declared.call.Call.{Call}
 use Rattle.user_model.specs.declared.call.Call.TheVariants.{Drop}

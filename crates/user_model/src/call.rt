@@ -50,6 +50,9 @@ pub enum Call {
     /// The number of the registered message of this name, which is a place in the script's list of names
     /// (Microsoft, RegisterWindowMessage function).
     Message(u32),
+    /// Posts the character that a key makes to the window of its message, or for window 0 to the caller: the window, the message's
+    /// number, its key and its lParam (Microsoft, TranslateMessage function).
+    Translate(u64, u64, u64, u64),
     /// Registers a class: its name, a place in the script's list of names; the number of its procedure;
     /// its colour, 0 to 15 (Microsoft, RegisterClass function).
     Register(u32, u32, u64),
@@ -110,6 +113,14 @@ pub enum Call {
     Attach(u64, u64),
     /// Undoes an attachment of two threads, made in either order (Microsoft, AttachThreadInput function).
     Detach(u64, u64),
+    /// Injects a message of the mouse and puts the cursor to its pixel: the message's number, and the pixel's x and y, counted from
+    /// the left top corner of the screen (Microsoft, SendInput function, and Mouse Input).
+    Mouse(u64, i64, i64),
+    /// Injects a key that goes down (1) or up (0): which, and the key's number (Microsoft, SendInput function, and Virtual-Key Codes).
+    Key(u64, u64),
+    /// Whether a key or a button of the mouse is down, by the input that the caller and those attached to it have taken (Microsoft,
+    /// GetKeyState function).
+    KeyState(u64),
     /// Makes the pixels of a rectangle dirty that the window owns: the window, the left, top, right and bottom edge in
     /// pixels from its own left top corner, and 1 where its background is to be erased too, else 0 (Microsoft,
     /// InvalidateRect function).

@@ -12,6 +12,8 @@ pub enum Origin {
     Posted,
     /// The thread's own posting of quit.
     Quit,
+    /// Mouse and keyboard (Microsoft, Mouse Input and Keyboard Input).
+    Input,
     /// A window with dirty pixels (Microsoft, WM_PAINT message).
     Paint,
     /// A timer that is due (Microsoft, WM_TIMER message).
@@ -41,6 +43,8 @@ pub enum Answer {
     Was(Hwnd),
     /// The post with this number was made; posts are counted from 1 over all threads.
     Posted(u32),
+    /// The input with this number was injected; inputs are counted from 1 over all threads.
+    Input(u32),
     /// The procedure of this number runs for a dispatched message.
     Called(u32),
     /// The send with this number goes to an own window, whose procedure, of this number, runs at once.
@@ -100,7 +104,7 @@ pub enum Answer {
     },
     /// The colours of the screen were kept as the frame of this number; frames are counted from 1.
     Snap(u32),
-    /// A message was retrieved. `number` is that of the post, or 0 for another message.
+    /// A message was retrieved. `number` is that of the post or the input, or 0 for another message.
     Got {
         origin: Origin,
         number: u32,

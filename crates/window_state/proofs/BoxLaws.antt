@@ -60,15 +60,15 @@ one_further n m o b le l l' t t' h = record {
 
 module _ (setup : Setup) (past : Past) (lawful : IsLawful setup past) (t : Windows) (at : IsTreeAt past t) where
   -- what a live window is in the table
-  record InTable (w : ℕ) : Type 0 where
-    row : KeptWindow
-    is_row : kept.window_of t.live w ≡ Some row
-    place : place_of past w ≡ box_in row.row.place
-    near : HasLook past row
-    parent : parent_in (live past) w ≡ row.row.parent.0
-    some : w ≢ 0
-    known : IsKnown past row.row.parent.0
-    less : row.row.parent.0 < w
+  pub record InTable (w : ℕ) : Type 0 where
+    pub row : KeptWindow
+    pub is_row : kept.window_of t.live w ≡ Some row
+    pub place : place_of past w ≡ box_in row.row.place
+    pub near : HasLook past row
+    pub parent : parent_in (live past) w ≡ row.row.parent.0
+    pub some : w ≢ 0
+    pub known : IsKnown past row.row.parent.0
+    pub less : row.row.parent.0 < w
 
   parent_of_up : (x : Window) (w : ℕ) → window past w ≡ Some x → (IsKnown past x.parent) × (x.parent < w)
   parent_of_up x w e = pick (eqb x.parent 0) refl (live_under setup past w x lawful e) between.older
@@ -90,7 +90,7 @@ module _ (setup : Setup) (past : Past) (lawful : IsLawful setup past) (t : Windo
             omega (arith, is, older, both.1),
           )
 
-  in_table : (w : ℕ) → is_live past w ≡ true → InTable w
+  pub in_table : (w : ℕ) → is_live past w ≡ true → InTable w
   in_table w lives = pick (kept.window_of t.live w) refl
     where
       pick : (o : Option KeptWindow) → kept.window_of t.live w ≡ o → InTable w
@@ -110,7 +110,7 @@ module _ (setup : Setup) (past : Past) (lawful : IsLawful setup past) (t : Windo
             less = above.1;
           }
 
-  no_row : (w : ℕ) → w ≡ 0 → kept.window_of t.live w ≡ None
+  pub no_row : (w : ℕ) → w ≡ 0 → kept.window_of t.live w ≡ None
   no_row w none = pick (kept.window_of t.live w) refl
     where
       dead : is_live past w ≡ false

@@ -5,6 +5,7 @@ pub mod ClassLaws
 pub mod ClassSteps
 pub mod Descents
 pub mod Destructions
+pub mod EnabledLaws
 pub mod LiveCounts
 pub mod Lookups
 pub mod LookSteps

@@ -1,6 +1,7 @@
 pub mod Boxes
 pub mod ClassTables
 pub mod Effects
+pub mod Enabled
 pub mod Needs
 pub mod Orders
 pub mod Pixels

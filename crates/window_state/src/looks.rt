@@ -8,6 +8,7 @@ ghost use Rattle.win_rows.specs.Windows.{is_live, window_of};
 ghost use Rattle.user_model.specs.Looks.{corner_and_size, enabled, enabled_look, moved_by, pinned_by, placed, shown, shown_look, styled_by};
 ghost use Rattle.user_model.specs.Refusals.{is_no_rect, is_outside};
 ghost use Rattle.user_model.specs.Windows.{has_flag};
+ghost use Rattle.window_state.specs.Enabled.{IsEnabledAt, enabled_from};
 ghost use Rattle.window_state.specs.Trees.{look_in};
 ghost use Rattle.window_state.specs.Effects.{IsLookedAt, IsRelooked};
 ghost use Rattle.window_state.specs.Needs.{FitsLooking, Fitting};
@@ -282,6 +283,32 @@ pub fn is_disabled(tree: &Tree, w: Hwnd) -> bool
         Some(row) => row.style & DISABLED == DISABLED,
         None => false,
     }
+}
+
+/// The first of a window, its parent, and so on, that isn't disabled, after so many steps up; or 0.
+fn enabled_within(tree: &Tree, w: Hwnd, steps: u32) -> Hwnd
+    ensures { result.0 ≡ enabled_from steps tree.now.live w.0 }
+{
+    if steps == 0 {
+        return Hwnd(0);
+    }
+    match tree.row(w) {
+        Some(row) => {
+            if is_disabled(tree, w) {
+                enabled_within(tree, row.parent, steps - 1)
+            } else {
+                w
+            }
+        }
+        None => Hwnd(0),
+    }
+}
+
+/// A live window where it isn't disabled, else its nearest ancestor that isn't, or 0 (Microsoft, EnableWindow function).
+pub fn enabled_at(tree: &Tree, w: Hwnd) -> Hwnd
+    ensures { IsEnabledAt tree.now w.0 result.0 }
+{
+    enabled_within(tree, w, w.0)
 }
 
 /// Makes the window of a call look as the call says.

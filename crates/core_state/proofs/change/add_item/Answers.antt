@@ -10,6 +10,7 @@ returns-in_default c = record {
   threads = search rules;
   sends = search rules;
   timers = search rules;
+  inputs = search rules;
   drawn = λ drawn. absurd (no_draws c.args.entry.call c.args.entry.answer c.in_default.not-Okay c.in_default.not-Painting c.in_default.not-Snap drawn);
   display = λ drawn. refl;
   classes_stay = search rules;
@@ -18,5 +19,6 @@ returns-in_default c = record {
   threads_stay = search rules;
   sends_stay = search rules;
   timers_stay = search rules;
+  inputs_stay = search rules;
   display_stays = search rules;
 }

@@ -14,3 +14,13 @@ pub is_of_group-requires : goal.is_of_group-requires
 is_of_group-requires g c =
     let threads : c.in_ok-groups.groups.inputs.threads ≡ 3 = (c.in_ok-groups.ensures (setup_from 3 1 1) three_are_few refl).threads in
     (omega arith, omega arith)
+
+pub is_key_down-requires : goal.is_key_down-requires
+is_key_down-requires g c =
+    let threads : c.in_ok-groups.groups.inputs.threads ≡ 3 = (c.in_ok-groups.ensures (setup_from 3 1 1) three_are_few refl).threads in
+    (omega arith, omega arith)
+
+pub group-requires : goal.group-requires
+group-requires g c =
+    let threads : c.in_ok-groups.groups.inputs.threads ≡ 3 = (c.in_ok-groups.ensures (setup_from 3 1 1) three_are_few refl).threads in
+    (omega arith, omega arith)

@@ -1,14 +1,17 @@
-use Rattle.std.proofs.Common.{rules, ◌≡◌, ◌<◌, false, ◌∷◌, [], ◌++◌, reverse, length, sym, ap, ◌∙◌, subst}
+use Rattle.std.proofs.Common.{rules, ◌≡◌, ◌<◌, true, false, ◌∷◌, [], ◌++◌, reverse, length, sym, ap, ◌∙◌, subst}
 use Rattle.std.proofs.lemmas.List.{length-reverse}
 use Rattle.user_model.specs.Past.{Past, is_full, place_after}
-use Rattle.user_model.specs.Places.{cursor}
+use Rattle.user_model.specs.Keys.{is_shift_down}
+use Rattle.user_model.specs.Threads.{is_running}
 use Rattle.user_model.specs.Idle.{reply}
 use Rattle.user_model.proofs.ClockLaws.{past_more}
 use Rattle.core_state.specs.States.{Parts, Seen, Stands, parts}
 use Rattle.send_state.specs.Stories.{EachStory, noted_answer, with_begun}
 use Rattle.send_state.specs.Tallies.{first_cause, first_of}
 use Rattle.display_state.specs.Displays.{IsDisplayAt}
-use Rattle.core_state.proofs.Appended.{growth_fits, leaving_fits, ranking_fits, sends_grow, sends_settle, settling_fits, stands_step, tally_step}
+use Rattle.pending_state.specs.Meanings.{IsMeantBy}
+use Rattle.pending_state.proofs.Needs.{fits_cursor}
+use Rattle.core_state.proofs.Appended.{growth_fits, injecting_fits, leaving_fits, ranking_fits, sends_grow, sends_settle, settling_fits, stands_step, tally_step}
 use Rattle.win_num.specs.Clocks.{clock_limit}
 use Rattle.user_model.proofs.TimeBounds.{clock_small}
 use Rattle.timer_state.specs.Changes.{FitsAddedTimers}
@@ -36,10 +39,28 @@ add_item-requires-clause-parts c =
     let e = c.args.entry in
     let s = c.self.inside in
     let past : Past = reverse s.history.items in
-    let kept : Parts = parts s.tree s.order s.display s.classes s.threads.items s.timers s.groups s.post_count s.time s.sends s.tally s.stories.items in
+    let kept : Parts = parts s.tree s.order s.display s.classes s.threads.items s.timers s.groups s.inputs s.progress s.sends s.tally s.stories.items in
     let right : e.answer ≡ reply s.setup past e.who.0 e.call = subst (λ (v : Seen). e.answer ≡ reply v.setup v.past e.who.0 e.call) (sym c.self.view_is) c.requires.answer in
-    let at : c.cursor.result ≡ cursor past = subst (λ (v : Seen). c.cursor.result ≡ cursor v.past) (sym c.self.view_is) c.cursor.ensures in
-    growth_fits s.setup past kept c.cursor.result e c.self.invariant at right
+    let down : is_running s.setup past e.who.0 ≡ true → c.is_shift_down.result ≡ is_shift_down past e.who.0 = subst (λ (v : Seen). is_running v.setup v.past e.who.0 ≡ true → c.is_shift_down.result ≡ is_shift_down v.past e.who.0) (sym c.self.view_is) c.is_shift_down.ensures in
+    growth_fits s.setup past kept c.is_shift_down.result e c.self.invariant down right
+
+pub add_item-requires-clause-inputs : goal.add_item-requires-clause-inputs
+add_item-requires-clause-inputs c =
+    let e = c.args.entry in
+    let s = c.self.inside in
+    let past : Past = reverse s.history.items in
+    let kept : Parts = parts s.tree s.order s.display s.classes s.threads.items s.timers s.groups s.inputs s.progress s.sends s.tally s.stories.items in
+    let right : e.answer ≡ reply s.setup past e.who.0 e.call = subst (λ (v : Seen). e.answer ≡ reply v.setup v.past e.who.0 e.call) (sym c.self.view_is) c.requires.answer in
+    let meant : IsMeantBy s.setup past e.call c.meant_by-meant.result = subst (λ (v : Seen). IsMeantBy v.setup v.past e.call c.meant_by-meant.result) (sym c.self.view_is) c.meant_by-meant.ensures in
+    injecting_fits s.setup past kept c.meant_by-meant.result e c.self.invariant meant right
+
+pub followed_by-self-inside-requires : goal.followed_by-self-inside-requires
+followed_by-self-inside-requires c =
+    let e = c.args.entry in
+    let s = c.self.inside in
+    let past : Past = reverse s.history.items in
+    let right : e.answer ≡ reply s.setup past e.who.0 e.call = subst (λ (v : Seen). e.answer ≡ reply v.setup v.past e.who.0 e.call) (sym c.self.view_is) c.requires.answer in
+    fits_cursor s.setup past e.who.0 e.answer e.call c.self.invariant.ready right
 
 pub add_item-requires-clause-drawing : goal.add_item-requires-clause-drawing
 add_item-requires-clause-drawing c =
@@ -97,7 +118,7 @@ add_item-requires-clause-order c =
     let e = c.args.entry in
     let s = c.self.inside in
     let past : Past = reverse s.history.items in
-    let kept : Parts = parts s.tree s.order s.display s.classes s.threads.items s.timers s.groups s.post_count s.time s.sends s.tally s.stories.items in
+    let kept : Parts = parts s.tree s.order s.display s.classes s.threads.items s.timers s.groups s.inputs s.progress s.sends s.tally s.stories.items in
     let right : e.answer ≡ reply s.setup past e.who.0 e.call = subst (λ (v : Seen). e.answer ≡ reply v.setup v.past e.who.0 e.call) (sym c.self.view_is) c.requires.answer in
     ranking_fits s.setup past kept e c.self.invariant right
 
@@ -106,7 +127,7 @@ take_effect-requires-clause-order c =
     let e = c.args.entry in
     let s = c.self.inside in
     let past : Past = reverse s.history.items in
-    let kept : Parts = parts s.tree s.order s.display s.classes s.threads.items s.timers s.groups s.post_count s.time s.sends s.tally s.stories.items in
+    let kept : Parts = parts s.tree s.order s.display s.classes s.threads.items s.timers s.groups s.inputs s.progress s.sends s.tally s.stories.items in
     let right : e.answer ≡ reply s.setup past e.who.0 e.call = subst (λ (v : Seen). e.answer ≡ reply v.setup v.past e.who.0 e.call) (sym c.self.view_is) c.requires.answer in
     leaving_fits s.setup past kept e c.add_item.new.tree c.add_item.new.order c.self.invariant right c.in_ok-add_item.ensures.tree c.in_ok-add_item.ensures.order
 
@@ -115,7 +136,7 @@ add_item-requires-clause-sends c =
     let e = c.args.entry in
     let s = c.self.inside in
     let past : Past = reverse s.history.items in
-    let kept : Parts = parts s.tree s.order s.display s.classes s.threads.items s.timers s.groups s.post_count s.time s.sends s.tally s.stories.items in
+    let kept : Parts = parts s.tree s.order s.display s.classes s.threads.items s.timers s.groups s.inputs s.progress s.sends s.tally s.stories.items in
     let room : is_full past ≡ false = subst (λ (v : Seen). is_full v.past ≡ false) (sym c.self.view_is) c.requires.room in
     let right : e.answer ≡ reply s.setup past e.who.0 e.call = subst (λ (v : Seen). e.answer ≡ reply v.setup v.past e.who.0 e.call) (sym c.self.view_is) c.requires.answer in
     let long : c.len.result ≡ length s.history.items = search rules in
@@ -126,7 +147,7 @@ settle_sends-lost-requires-clause-sends c =
     let e = c.args.entry in
     let s = c.self.inside in
     let past : Past = reverse s.history.items in
-    let kept : Parts = parts s.tree s.order s.display s.classes s.threads.items s.timers s.groups s.post_count s.time s.sends s.tally s.stories.items in
+    let kept : Parts = parts s.tree s.order s.display s.classes s.threads.items s.timers s.groups s.inputs s.progress s.sends s.tally s.stories.items in
     let room : is_full past ≡ false = subst (λ (v : Seen). is_full v.past ≡ false) (sym c.self.view_is) c.requires.room in
     let right : e.answer ≡ reply s.setup past e.who.0 e.call = subst (λ (v : Seen). e.answer ≡ reply v.setup v.past e.who.0 e.call) (sym c.self.view_is) c.requires.answer in
     let long : c.len.result ≡ length s.history.items = search rules in
@@ -137,7 +158,7 @@ take_effect-requires-clause-parts c =
     let e = c.args.entry in
     let s = c.self.inside in
     let past : Past = reverse s.history.items in
-    let kept : Parts = parts s.tree s.order s.display s.classes s.threads.items s.timers s.groups s.post_count s.time s.sends s.tally s.stories.items in
+    let kept : Parts = parts s.tree s.order s.display s.classes s.threads.items s.timers s.groups s.inputs s.progress s.sends s.tally s.stories.items in
     let right : e.answer ≡ reply s.setup past e.who.0 e.call = subst (λ (v : Seen). e.answer ≡ reply v.setup v.past e.who.0 e.call) (sym c.self.view_is) c.requires.answer in
     settling_fits s.setup past kept e c.add_item.new.classes c.add_item.new.tree c.add_item.new.threads.items c.self.invariant right c.in_ok-add_item.ensures.classes c.in_ok-add_item.ensures.tree c.in_ok-add_item.ensures.threads.same_length
 
@@ -146,7 +167,7 @@ invariant_of-self-2 c =
     let e = c.args.entry in
     let s = c.self.inside in
     let past : Past = reverse s.history.items in
-    let kept : Parts = parts s.tree s.order s.display s.classes s.threads.items s.timers s.groups s.post_count s.time s.sends s.tally s.stories.items in
+    let kept : Parts = parts s.tree s.order s.display s.classes s.threads.items s.timers s.groups s.inputs s.progress s.sends s.tally s.stories.items in
     let room : is_full past ≡ false = subst (λ (v : Seen). is_full v.past ≡ false) (sym c.self.view_is) c.requires.room in
     let right : e.answer ≡ reply s.setup past e.who.0 e.call = subst (λ (v : Seen). e.answer ≡ reply v.setup v.past e.who.0 e.call) (sym c.self.view_is) c.requires.answer in
     let pushed : c.push.new.self.items ≡ s.history.items ++ e ∷ [] = search rules in
@@ -159,19 +180,20 @@ invariant_of-self-2 c =
     let told = c.settle_sends-lost.ensures.stories in
     let begun = ap (with_begun e.answer) c.make_room.ensures.stories in
     let noted = subst (λ q. EachStory (noted_answer e.answer q c.len.result) told.between c.settle_sends-lost.new.stories.items) c.named_send-named.ensures told.after in
-    let at : c.cursor.result ≡ cursor past = subst (λ (v : Seen). c.cursor.result ≡ cursor v.past) (sym c.self.view_is) c.cursor.ensures in
+    let down : is_running s.setup past e.who.0 ≡ true → c.is_shift_down.result ≡ is_shift_down past e.who.0 = subst (λ (v : Seen). is_running v.setup v.past e.who.0 ≡ true → c.is_shift_down.result ≡ is_shift_down v.past e.who.0) (sym c.self.view_is) c.is_shift_down.ensures in
+    let meant : IsMeantBy s.setup past e.call c.meant_by-meant.result = subst (λ (v : Seen). IsMeantBy v.setup v.past e.call c.meant_by-meant.result) (sym c.self.view_is) c.meant_by-meant.ensures in
     let seen : IsDisplayAt s.setup (e ∷ past) c.take_over.new.self = display_step s.setup past s.tree s.order s.classes e s.display c.add_item.new.display c.take_over.new.self c.in_ok-change.change c.self.invariant.lawful c.self.invariant.tree c.self.invariant.order c.self.invariant.classes right c.self.invariant.display c.in_ok-change.ensures.windows c.in_ok-change.ensures.drawing grown.drawn grown.display c.take_over.ensures in
     let timed = timers_step s.setup past kept e c.add_item.new.tree c.add_item.new.timers c.follow_timers.new.timers c.self.invariant right grown.tree grown.timers c.follow_timers.ensures in
     let grouped = c.follow.ensures s.setup past (record { lawful = c.self.invariant.lawful; groups = c.self.invariant.groups; at = here; right = right }) in
-    let now = stands_step s.setup past kept c.cursor.result e c.add_item.new.classes c.take_effect.new.classes c.add_item.new.tree c.take_effect.new.tree c.add_item.new.order c.take_effect.new.order c.take_over.new.self c.add_item.new.threads.items c.take_effect.new.threads.items c.note_entry.new.threads.items c.follow_timers.new.timers c.follow.new.self c.add_item.new.sends c.settle_sends-lost.new.sends c.first_cause-first.result c.settle_sends-lost.result c.with-self-inside.result (with_begun e.answer c.make_room.new.stories.items) told.between c.settle_sends-lost.new.stories.items c.len.result room right c.self.invariant at grown.classes settled.classes grown.tree settled.tree grown.order settled.order seen grown.threads settled.threads c.note_entry.ensures timed grouped grown.sends c.settle_sends-lost.ensures.sends here first c.settle_sends-lost.ensures.lost c.with-self-inside.ensures begun told.before noted in
-    subst (λ (h : Past). Stands s.setup h (parts c.take_effect.new.tree c.take_effect.new.order c.take_over.new.self c.take_effect.new.classes c.note_entry.new.threads.items c.follow_timers.new.timers c.follow.new.self c.count_after-self-inside.result c.time_after-self-inside.result c.settle_sends-lost.new.sends c.with-self-inside.result c.settle_sends-lost.new.stories.items)) newest (search (rules, now))
+    let now = stands_step s.setup past kept c.is_shift_down.result c.meant_by-meant.result e c.add_item.new.classes c.take_effect.new.classes c.add_item.new.tree c.take_effect.new.tree c.add_item.new.order c.take_effect.new.order c.take_over.new.self c.add_item.new.threads.items c.take_effect.new.threads.items c.note_entry.new.threads.items c.follow_timers.new.timers c.follow.new.self c.add_item.new.inputs c.follow_inputs.new.inputs c.followed_by-self-inside.result c.add_item.new.sends c.settle_sends-lost.new.sends c.first_cause-first.result c.settle_sends-lost.result c.with-self-inside.result (with_begun e.answer c.make_room.new.stories.items) told.between c.settle_sends-lost.new.stories.items c.len.result room right c.self.invariant down meant grown.classes settled.classes grown.tree settled.tree grown.order settled.order seen grown.threads settled.threads c.note_entry.ensures timed grouped grown.inputs c.follow_inputs.ensures c.followed_by-self-inside.ensures grown.sends c.settle_sends-lost.ensures.sends here first c.settle_sends-lost.ensures.lost c.with-self-inside.ensures begun told.before noted in
+    subst (λ (h : Past). Stands s.setup h (parts c.take_effect.new.tree c.take_effect.new.order c.take_over.new.self c.take_effect.new.classes c.note_entry.new.threads.items c.follow_timers.new.timers c.follow.new.self c.follow_inputs.new.inputs c.followed_by-self-inside.result c.settle_sends-lost.new.sends c.with-self-inside.result c.settle_sends-lost.new.stories.items)) newest (search (rules, now))
 
 pub with-self-inside-requires : goal.with-self-inside-requires
 with-self-inside-requires c =
     let e = c.args.entry in
     let s = c.self.inside in
     let past : Past = reverse s.history.items in
-    let kept : Parts = parts s.tree s.order s.display s.classes s.threads.items s.timers s.groups s.post_count s.time s.sends s.tally s.stories.items in
+    let kept : Parts = parts s.tree s.order s.display s.classes s.threads.items s.timers s.groups s.inputs s.progress s.sends s.tally s.stories.items in
     let right : e.answer ≡ reply s.setup past e.who.0 e.call = subst (λ (v : Seen). e.answer ≡ reply v.setup v.past e.who.0 e.call) (sym c.self.view_is) c.requires.answer in
     let long : c.len.result ≡ length s.history.items = search rules in
     let here : c.len.result ≡ place_after past = long ∙ sym (length-reverse s.history.items) in

@@ -1,4 +1,4 @@
-use Rattle.std.proofs.Common.{◌≤◌, ℕ, ap, ◌∙◌, reverse, sym, subst}
+use Rattle.std.proofs.Common.{◌≤◌, ap, ◌∙◌, reverse, sym, subst}
 use Rattle.std.specs.Prelude.{◌&&◌, is_some}
 use Rattle.user_model.specs.Past.{Past}
 use Rattle.user_model.specs.Windows.{is_live, thread_of}

@@ -12,5 +12,5 @@ overflow_add-result c =
     let room : is_full past ≡ false = subst (λ (s : Seen). is_full s.past ≡ false) (sym c.self.view_is) c.requires in
     let few : length past < 2097152 = grind (arith, nat_tests, room) in
     let bound : length (posts past) ≤ length past = count_bound past in
-    let kept : c.self.inside.post_count ≡ length (posts past) = c.self.invariant.posts in
+    let kept : c.self.inside.progress.posts ≡ length (posts past) = c.self.invariant.posts in
     omega (arith, few, bound, kept)

@@ -1,0 +1,51 @@
+-- A worked row: what was answered is the reply at each place.
+use Rattle.std.specs.Prelude.{◌≡◌, ℕ, pos, List, [], ◌∷◌, reverse, refl}
+use Rattle.std.proofs.Common.{lit≤}
+use Rattle.win_num.specs.declared.code.Code.{Code}
+use Rattle.user_model.specs.declared.call.Call.{Call}
+use Rattle.user_model.specs.declared.entry.Answer.{Answer}
+use Rattle.user_model.specs.declared.entry.Entry.{Entry}
+use Rattle.user_model.specs.declared.entry.Origin.{Origin}
+use Rattle.user_model.specs.declared.entry.Setup.{Setup}
+use Rattle.user_model.specs.Past.{Past}
+use Rattle.user_model.specs.Posts.{message}
+use Rattle.user_model.specs.Idle.{reply}
+use Rattle.user_model.specs.Legal.{IsLegal, told, replies}
+use Rattle.user_model.proofs.LegalLaws.{lawful_from_replies}
+
+abbrev pub entry : ℕ → Call → Answer → Entry
+entry t call answer = record { who = record { 0 = t }; call = call; answer = answer }
+
+abbrev pub setup : Setup
+setup = record { threads = 3; width = 8; height = 4 }
+
+abbrev pub history : List Entry
+history = entry 1 (Call.Register 0 0 0) (Answer.Value 1)
+    ∷ entry 1 (Call.NewWindow 0 1 0 0 0 (pos 0) (pos 0) (pos 0) (pos 0)) (Answer.Window (record { 0 = 16 }))
+    ∷ entry 2 (Call.NewWindow 0 2 0 0 0 (pos 0) (pos 0) (pos 0) (pos 0)) (Answer.Window (record { 0 = 17 }))
+    ∷ entry 1 (Call.SetActive 16) (Answer.Was (record { 0 = 0 }))
+    ∷ entry 3 (Call.Key 1 65) (Answer.Input 1)
+    ∷ entry 2 (Call.SetActive 17) (Answer.Was (record { 0 = 0 }))
+    ∷ entry 3 (Call.Key 1 66) (Answer.Input 2)
+    ∷ entry 3 (Call.Key 1 67) (Answer.Input 3)
+    ∷ entry 1 (Call.Attach 1 2) (Answer.Okay)
+    ∷ entry 2 (Call.Peek 0 256 256 0) (Answer.Got Origin.Input 1 (message 17 256 65 1 0 (record { x = (pos 0); y = (pos 0) })))
+    ∷ entry 1 (Call.Peek 0 256 256 1) (Answer.Nothing)
+    ∷ entry 1 (Call.EndThread) (Answer.Ended)
+    ∷ entry 2 (Call.Peek 0 256 256 0) (Answer.Got Origin.Input 2 (message 17 256 66 1 0 (record { x = (pos 0); y = (pos 0) })))
+    ∷ entry 2 (Call.Peek 0 256 256 1) (Answer.Got Origin.Input 2 (message 17 256 66 1 0 (record { x = (pos 0); y = (pos 0) })))
+    ∷ entry 2 (Call.KeyState 66) (Answer.Value 32768)
+    ∷ entry 2 (Call.EndThread) (Answer.Ended)
+    ∷ entry 3 (Call.Key 1 68) (Answer.Refused Code.NoTarget)
+    ∷ []
+
+abbrev pub past : Past
+past = reverse history
+
+pub answers : told past ≡ replies setup past
+unfolding reply
+answers = refl
+
+-- so it is legal
+pub legal : IsLegal setup history
+legal = (lit≤ tt, lawful_from_replies setup past answers)

@@ -1,0 +1,58 @@
+-- A worked row: what was answered is the reply at each place.
+use Rattle.std.specs.Prelude.{◌≡◌, ℕ, pos, List, [], ◌∷◌, reverse, refl}
+use Rattle.std.proofs.Common.{lit≤}
+use Rattle.win_num.specs.declared.code.Code.{Code}
+use Rattle.user_model.specs.declared.call.Call.{Call}
+use Rattle.user_model.specs.declared.entry.Answer.{Answer}
+use Rattle.user_model.specs.declared.entry.Entry.{Entry}
+use Rattle.user_model.specs.declared.entry.Origin.{Origin}
+use Rattle.user_model.specs.declared.entry.Setup.{Setup}
+use Rattle.user_model.specs.Past.{Past}
+use Rattle.user_model.specs.Posts.{message}
+use Rattle.user_model.specs.Idle.{reply}
+use Rattle.user_model.specs.Legal.{IsLegal, told, replies}
+use Rattle.user_model.proofs.LegalLaws.{lawful_from_replies}
+
+abbrev pub entry : ℕ → Call → Answer → Entry
+entry t call answer = record { who = record { 0 = t }; call = call; answer = answer }
+
+abbrev pub setup : Setup
+setup = record { threads = 1; width = 8; height = 4 }
+
+abbrev pub history : List Entry
+history = entry 1 (Call.Register 0 0 0) (Answer.Value 1)
+    ∷ entry 1 (Call.Mouse 513 (pos 2) (pos 1)) (Answer.Refused Code.NoTarget)
+    ∷ entry 1 (Call.NewWindow 0 1 0 268435456 0 (pos 0) (pos 0) (pos 4) (pos 4)) (Answer.Window (record { 0 = 16 }))
+    ∷ entry 1 (Call.NewWindow 0 1 16 1476395008 0 (pos 1) (pos 1) (pos 3) (pos 3)) (Answer.Window (record { 0 = 17 }))
+    ∷ entry 1 (Call.Mouse 515 (pos 2) (pos 1)) (Answer.Refused (Code.Win 87))
+    ∷ entry 1 (Call.Mouse 513 (pos 8) (pos 1)) (Answer.Refused (Code.Win 87))
+    ∷ entry 1 (Call.Mouse 512 (pos 0) (pos 0)) (Answer.Input 1)
+    ∷ entry 1 (Call.Mouse 512 (pos 2) (pos 1)) (Answer.Input 2)
+    ∷ entry 1 (Call.Mouse 513 (pos 1) (pos 2)) (Answer.Input 3)
+    ∷ entry 1 (Call.Get 0 0 0) (Answer.Got Origin.Input 2 (message 16 512 0 65538 0 (record { x = (pos 2); y = (pos 1) })))
+    ∷ entry 1 (Call.Enable 17 1) (Answer.Value 1)
+    ∷ entry 1 (Call.Get 0 0 0) (Answer.Got Origin.Input 3 (message 17 513 0 65536 0 (record { x = (pos 1); y = (pos 2) })))
+    ∷ entry 1 (Call.KeyState 1) (Answer.Value 32768)
+    ∷ entry 1 (Call.Mouse 514 (pos 1) (pos 2)) (Answer.Input 4)
+    ∷ entry 1 (Call.SetCapture 16) (Answer.Was (record { 0 = 0 }))
+    ∷ entry 1 (Call.Get 0 0 0) (Answer.Got Origin.Input 4 (message 16 514 0 131073 0 (record { x = (pos 1); y = (pos 2) })))
+    ∷ entry 1 (Call.KeyState 1) (Answer.Value 0)
+    ∷ entry 1 (Call.Mouse 512 (pos 1) (pos 1)) (Answer.Input 5)
+    ∷ entry 1 (Call.Enable 17 0) (Answer.Value 0)
+    ∷ entry 1 (Call.Enable 16 0) (Answer.Value 0)
+    ∷ entry 1 (Call.ReleaseCapture) (Answer.Was (record { 0 = 16 }))
+    ∷ entry 1 (Call.Get 0 0 0) (Answer.Got Origin.Input 5 (message 0 512 0 65537 0 (record { x = (pos 1); y = (pos 1) })))
+    ∷ entry 1 (Call.Post 0 1025 0 0) (Answer.Posted 1)
+    ∷ entry 1 (Call.Get 0 0 0) (Answer.Got Origin.Posted 1 (message 0 1025 0 0 0 (record { x = (pos 1); y = (pos 1) })))
+    ∷ []
+
+abbrev pub past : Past
+past = reverse history
+
+pub answers : told past ≡ replies setup past
+unfolding reply
+answers = refl
+
+-- so it is legal
+pub legal : IsLegal setup history
+legal = (lit≤ tt, lawful_from_replies setup past answers)
