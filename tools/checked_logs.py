@@ -167,13 +167,13 @@ DAMAGES = [
 
 # Texts that are no script with a log.
 REFUSED = [
-    ("no text", b""),
-    ("a script without a log", POSTS.script.encode()),
-    ("a log without a script", POSTS.text()[len(POSTS.script) :]),
-    ("a log cut short", POSTS.text()[:-1]),
-    ("a log with another first line", POSTS.text().replace(b"log 1\n", b"log 2\n")),
-    ("a log with a word that is no call", POSTS.text((0, 1, ["1 walk = ok"]))),
-    ("a log with a class that the script doesn't have", POSTS.text((0, 1, ["1 unregister c = ok"]))),
-    ("a script that is none, with its log", POSTS.text().replace(b"budget 100\n", b"budget 0\n")),
-    ("a log twice", POSTS.text() + POSTS.text()[len(POSTS.script) :]),
+    ("no text", b"", "1 end"),
+    ("a script without a log", POSTS.script.encode(), "17 end"),
+    ("a log without a script", POSTS.text()[len(POSTS.script) :], "1 words"),
+    ("a log cut short", POSTS.text()[:-1], "28 bytes"),
+    ("a log with another first line", POSTS.text().replace(b"log 1\n", b"log 2\n"), "17 operand"),
+    ("a log with a word that is no call", POSTS.text((0, 1, ["1 walk = ok"])), "18 operand"),
+    ("a log with a class that the script doesn't have", POSTS.text((0, 1, ["1 unregister c = ok"])), "18 name"),
+    ("a script that is none, with its log", POSTS.text().replace(b"budget 100\n", b"budget 0\n"), "3 limit"),
+    ("a log twice", POSTS.text() + POSTS.text()[len(POSTS.script) :], "29 words"),
 ]

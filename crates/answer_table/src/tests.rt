@@ -6,6 +6,14 @@ use std::test::Fail;
 use user_model::{Answer, Origin};
 use win_num::{Cause, Code, Hwnd, Msg, Point, SendId};
 
+/// The word of the answer's form, and the answer made again of its word and its values.
+fn again(answer: Answer) -> Option<(&'static [u8], Answer)> {
+    let form = answer_form(answer_name(answer));
+    let name = answer_named(form.word)?;
+    let same = answer_of_parts(name, &answer_parts(answer))?;
+    Some((form.word, same))
+}
+
 #[test]
 fn answers_again(rt: HostRuntime) -> Result<(), Fail> {
     let msg = Msg {
@@ -58,12 +66,7 @@ fn answers_again(rt: HostRuntime) -> Result<(), Fail> {
         (Answer::Inside(SendId(3), 4), b"inside"),
         (Answer::Refused(Code::Full), b"refused"),
     ] {
-        let form = answer_form(answer_name(answer));
-        assert_eq!(rt; form.word, word);
-        assert_eq!(rt;
-            answer_of_parts(answer_name(answer), &answer_parts(answer)),
-            Some(answer)
-        );
+        assert_eq!(rt; again(answer), Some((word, answer)));
     }
     Ok(())
 }

@@ -1,31 +1,26 @@
 //! Worked examples of the program's top call, from bytes to bytes. Standard input has lines `PIECE FAIL ROOM: WORDS: TEXT`: the program
 //! is called with these words, on a source that gives the text in pieces of so many bytes and fails at its call FAIL, counted from 0
 //! (`-`: at none), and on a sink that has room for so many bytes. A line `turns TEXT` makes turns of a script's first thread; `pool LEFT:
-//! TEXT` runs all of its threads at a machine that wants memory once after LEFT calls (`-`: never). In a text `/` ends a line. Each line
+//! TEXT` runs all of its threads at a machine that wants memory once after LEFT calls (`-`: never); `faults WORDS: TEXT` calls the program, also
+//! by threads, on each of some sources and sinks that fail. In a text `/` ends a line. Each line
 //! is written again, and below it what came of it, with `/` in the place of an end of a line.
 #![tactic(auto)]
 
 ghost use Rattle.std.specs.Prelude.{◌<◌};
 
+mod faults;
 mod pools;
 mod texts;
 mod turns;
 mod wanting;
 
 use std::alloc::{AllocError, Global};
-use std::io::{BufRead, BufReader};
-use texts::{Outside, lines_of, outside_of, shown};
+use std::io::{BufRead, BufReader, Input, Print};
+use std::sync::Wait;
+use std::thread::Threads;
+use texts::{Outside, lines_of, outside_of, shown, words_of};
 use user_app::io::{MemSink, MemSource};
 use user_app::{Status, user_plain};
-
-/// The words of a line.
-fn words_of(alloc: Global, words: &str) -> Result<Vec<String>, AllocError> {
-    let mut owned = Vec::new(alloc);
-    for word in words.split(' ').filter(|word| !word.is_empty()) {
-        owned.push(String::from_str(alloc, word)?)?;
-    }
-    Ok(owned)
-}
 
 /// Calls the program with these words.
 fn called(
@@ -62,7 +57,14 @@ fn tell_call(rt: &impl Print, alloc: Global, outside: Outside, line: &str) -> an
 }
 
 /// Does what a line asks for.
-fn run_line(rt: &impl Print, alloc: Global, line: &str) -> anyhow::Result<()> {
+fn run_line<R: Print + Threads + Wait + Sync>(
+    rt: &R,
+    alloc: Global,
+    line: &str,
+) -> anyhow::Result<()> {
+    if let Some(rest) = line.strip_prefix("faults ") {
+        return faults::tell(rt, alloc, rest);
+    }
     if let Some(text) = line.strip_prefix("turns ") {
         return turns::tell(rt, alloc, text);
     }
@@ -79,7 +81,7 @@ fn run_line(rt: &impl Print, alloc: Global, line: &str) -> anyhow::Result<()> {
 }
 
 /// Does what the lines of standard input ask for.
-fn run(rt: &HostRuntime, alloc: Global) -> anyhow::Result<()> {
+fn run<R: Input + Print + Threads + Wait + Sync>(rt: &R, alloc: Global) -> anyhow::Result<()> {
     for line in BufReader::new(alloc, rt.reader())?.lines(alloc) {
         let line = line?;
         println!(rt; "{line}")?;

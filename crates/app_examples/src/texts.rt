@@ -26,6 +26,15 @@ pub fn outside_of(line: &str) -> Option<Outside> {
     })
 }
 
+/// The words of a line.
+pub fn words_of(alloc: Global, words: &str) -> Result<Vec<String>, AllocError> {
+    let mut owned = Vec::new(alloc);
+    for word in words.split(' ').filter(|word| !word.is_empty()) {
+        owned.push(String::from_str(alloc, word)?)?;
+    }
+    Ok(owned)
+}
+
 /// A text in which `/` ends a line.
 pub fn lines_of(alloc: Global, text: &str) -> Result<String, AllocError> {
     let mut lines = String::new(alloc);

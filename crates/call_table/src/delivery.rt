@@ -1,4 +1,4 @@
-//! Calls that take, post and hand on messages, one row each.
+//! Calls that take, post and hand on messages, and that ask which are there, one row each.
 
 ghost use Rattle.std.specs.Prelude.{◌≡◌, option_map};
 ghost use Rattle.call_fields.specs.Forms.{read_form};
@@ -20,17 +20,19 @@ pub enum DeliveryCall {
     Post,
     PostThread,
     PostQuit,
+    Status,
     Dispatch,
     Translate,
 }
 
 /// These calls.
-pub static DELIVERY_CALLS: [CallName; 7] = [
+pub static DELIVERY_CALLS: [CallName; 8] = [
     Delivery(DeliveryCall::Peek),
     Delivery(DeliveryCall::Get),
     Delivery(DeliveryCall::Post),
     Delivery(DeliveryCall::PostThread),
     Delivery(DeliveryCall::PostQuit),
+    Delivery(DeliveryCall::Status),
     Delivery(DeliveryCall::Dispatch),
     Delivery(DeliveryCall::Translate),
 ];
@@ -45,6 +47,7 @@ pub fn delivery_form(name: DeliveryCall) -> Form
         DeliveryCall::Post => row_of(b"post", &MESSAGE_FIELDS),
         DeliveryCall::PostThread => row_of(b"post_thread", &MESSAGE_FIELDS),
         DeliveryCall::PostQuit => row_of(b"post_quit", &[Number]),
+        DeliveryCall::Status => row_of(b"status", &[Number]),
         DeliveryCall::Dispatch => row_of(b"dispatch", &MESSAGE_FIELDS),
         DeliveryCall::Translate => row_of(b"translate", &MESSAGE_FIELDS),
     }
@@ -72,6 +75,7 @@ pub fn split_delivery(call: Call) -> Option<SplitCall>
             (thread, number, wparam, lparam),
         ),
         Call::PostQuit(code) => split_numbers(Delivery(DeliveryCall::PostQuit), &[code]),
+        Call::Status(flags) => split_numbers(Delivery(DeliveryCall::Status), &[flags]),
         Call::Dispatch(window, number, wparam, lparam) => split_message(
             Delivery(DeliveryCall::Dispatch),
             (window, number, wparam, lparam),
@@ -96,6 +100,7 @@ pub fn made_delivery(name: DeliveryCall, values: &[Value]) -> Call
         DeliveryCall::Post => Call::Post(target, message, wparam, lparam),
         DeliveryCall::PostThread => Call::PostThread(target, message, wparam, lparam),
         DeliveryCall::PostQuit => Call::PostQuit(numbers[0]),
+        DeliveryCall::Status => Call::Status(numbers[0]),
         DeliveryCall::Dispatch => Call::Dispatch(target, message, wparam, lparam),
         DeliveryCall::Translate => Call::Translate(target, message, wparam, lparam),
     }

@@ -18,6 +18,7 @@ fn calls_again(rt: HostRuntime) -> Result<(), Fail> {
         (Call::Key(1, 65), b"key"),
         (Call::KeyState(16), b"key_state"),
         (Call::Translate(16, 256, 65, 1), b"translate"),
+        (Call::Status(127), b"status"),
         (Call::Invalidate(16, -1, 2, 3, 4, 1), b"invalidate"),
         (Call::Validate(16, -1, 2, 3, 4), b"validate"),
         (Call::UpdateRect(16), b"update_rect"),

@@ -1,13 +1,13 @@
-//! The shortest program with compound calls: `create` and `destroy` at a machine, step by step. The state of a compound tells which
+//! The shortest program with compound calls: `create`, `set_focus` and `destroy` at a machine, step by step. The state of a compound tells which
 //! call is to be made or which procedure is to run, and is handed what came of it, until it is done.
 #![tactic(auto)]
 
-ghost use Rattle.std.specs.Prelude.{IfOk, IfSome, IsTrue};
-ghost use Rattle.win_calls.specs.States.{Awaits, EntersNot};
+ghost use Rattle.std.specs.Prelude.{IfOk, IfSome};
+ghost use Rattle.win_calls.specs.States.{Awaits, MayFollow};
 
 use user_core::User;
 use user_model::{Answer, Call, Machine, Setup};
-use win_calls::{Compound, CompoundState, Got, Next};
+use win_calls::{Compound, CompoundState, Got, Next, may_follow};
 use win_num::Thread;
 
 /// How many steps a compound has here at most.
@@ -24,26 +24,13 @@ fn procedure(number: u32) -> u64 {
     if number == WM_NCCREATE { 1 } else { 0 }
 }
 
-/// Whether a call can have this answer: no machine answers `leave` with `enter`.
-fn is_possible(call: &Call, answer: &Answer) -> bool
-    ensures { IsTrue result → EntersNot call.now answer.now }
-{
-    match answer {
-        Answer::Enter { .. } => match call {
-            Call::Leave(_) => false,
-            _ => true,
-        },
-        _ => true,
-    }
-}
-
 /// Makes a call of thread 1, and prints what it was answered.
 fn make(rt: &impl Print, machine: &mut User, call: Call) -> anyhow::Result<Answer>
-    ensures { IfOk result (EntersNot call) }
+    ensures { IfOk result (MayFollow call) }
 {
     let answer = machine.step(Thread(1), call)?;
     println!(rt; "{call:?} = {answer:?}")?;
-    if !is_possible(&call, &answer) {
+    if !may_follow(&call, &answer) {
         anyhow::bail!("a machine that isn't lawful");
     }
     Ok(answer)
@@ -83,10 +70,11 @@ fn run(rt: &impl Print, machine: &mut User, compound: Compound) -> anyhow::Resul
     anyhow::bail!("more than {STEPS} steps")
 }
 
-/// A window is made and destroyed.
+/// A window is made, gets the focus and is destroyed.
 fn run_all(rt: &impl Print, machine: &mut User) -> anyhow::Result<()> {
     make(rt, machine, Call::Register(0, 0, 0))?;
     run(rt, machine, CREATE)?;
+    run(rt, machine, Compound::SetFocus(16))?;
     run(rt, machine, Compound::Destroy(16))
 }
 

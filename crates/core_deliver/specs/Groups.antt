@@ -1,15 +1,16 @@
 -- Which layer answers a call.
 use Rattle.std.specs.Prelude.{Bool, true, false}
 use Rattle.user_model.specs.declared.call.Call.{Call}
-use Rattle.user_model.specs.declared.call.Call.TheVariants.{Peek, Get, Post, PostThread, PostQuit, Dispatch, Send, SendTimeout, SendNotify, SendCallback, Await, Leave, Reply, InSend, Message, Translate, Register, Unregister, NewWindow, Doom, Unmake, Drop, Place, Show, Enable, Find, AwaitTitle, NextTop, WindowAt, IsWindow, Parent, SetFocus, SetActive, SetCapture, ReleaseCapture, GetFocus, GetActive, GetCapture, Attach, Detach, Mouse, Key, KeyState, Invalidate, Validate, UpdateRect, BeginPaint, EndPaint, Fill, Erase, Snap, SetTimer, KillTimer, EndThread, Clock, SleepUntil, Yield, Tick, Advance}
+use Rattle.user_model.specs.declared.call.Call.TheVariants.{Peek, Get, Status as StatusCall, Post, PostThread, PostQuit, Dispatch, Send, SendTimeout, SendNotify, SendCallback, Await, Leave, Reply, InSend, Message, Translate, Register, Unregister, NewWindow, Doom, Unmake, Drop, Place, Show, Enable, Find, AwaitTitle, NextTop, WindowAt, IsWindow, Parent, SetFocus, SetActive, SetCapture, ReleaseCapture, GetFocus, GetActive, GetCapture, Attach, Detach, Mouse, Key, KeyState, Invalidate, Validate, UpdateRect, BeginPaint, EndPaint, Fill, Erase, Snap, SetTimer, KillTimer, EndThread, Clock, SleepUntil, Yield, Tick, Advance}
 use Rattle.core_deliver.specs.declared.groups.Group.{Group}
-use Rattle.core_deliver.specs.declared.groups.Group.TheVariants.{Retrieval, Delivery, Window, Drawing, Other}
+use Rattle.core_deliver.specs.declared.groups.Group.TheVariants.{Retrieval, Status, Delivery, Window, Drawing, Other}
 
--- the group of each call: it asks for a message; it posts, also the character of a key, sends, hands a message to a procedure, is made inside or
+-- the group of each call: it asks for a message; it asks which kinds of messages are there; it posts, also the character of a key, sends, hands a message to a procedure, is made inside or
 -- after a send, or registers a message; it is about classes or windows, focus, active window, capture, attached threads, the mouse or keys; it is about dirty pixels, painting, colours or frames; or it is about time or timers, or ends a thread
 abbrev pub group_of : Call → Group
 group_of (Peek w min max flags) = Retrieval
 group_of (Get w min max) = Retrieval
+group_of (StatusCall flags) = Status
 group_of (Post w number wparam lparam) = Delivery
 group_of (PostThread to number wparam lparam) = Delivery
 group_of (PostQuit code) = Delivery
@@ -71,6 +72,7 @@ group_of Advance = Other
 -- whether the group is that of the calls that ask for a message
 abbrev pub are_retrievals : Group → Bool
 are_retrievals Retrieval = true
+are_retrievals Status = false
 are_retrievals Delivery = false
 are_retrievals Window = false
 are_retrievals Drawing = false
@@ -80,9 +82,23 @@ are_retrievals Other = false
 abbrev pub is_retrieval : Call → Bool
 is_retrieval call = are_retrievals (group_of call)
 
+-- whether the group is that of the calls that ask which kinds of messages are there
+abbrev pub are_statuses : Group → Bool
+are_statuses Retrieval = false
+are_statuses Status = true
+are_statuses Delivery = false
+are_statuses Window = false
+are_statuses Drawing = false
+are_statuses Other = false
+
+-- whether the call asks which kinds of messages are there
+abbrev pub is_status : Call → Bool
+is_status call = are_statuses (group_of call)
+
 -- whether the group is that of the other calls of delivery
 abbrev pub are_deliveries : Group → Bool
 are_deliveries Retrieval = false
+are_deliveries Status = false
 are_deliveries Delivery = true
 are_deliveries Window = false
 are_deliveries Drawing = false
@@ -95,6 +111,7 @@ is_delivery call = are_deliveries (group_of call)
 -- whether the group is that of the calls on classes and windows
 abbrev pub are_window_calls : Group → Bool
 are_window_calls Retrieval = false
+are_window_calls Status = false
 are_window_calls Delivery = false
 are_window_calls Window = true
 are_window_calls Drawing = false
@@ -107,6 +124,7 @@ is_window_call call = are_window_calls (group_of call)
 -- whether the group is that of the calls on dirty pixels, painting, colours and frames
 abbrev pub are_drawings : Group → Bool
 are_drawings Retrieval = false
+are_drawings Status = false
 are_drawings Delivery = false
 are_drawings Window = false
 are_drawings Drawing = true

@@ -15,6 +15,7 @@ use crate::sends::{
     await_answer, dispatch_answer, in_send_answer, leave_answer, reply_answer, send_answer,
     send_other_answer, send_timeout_answer,
 };
+use crate::status_words::queue_status;
 use core_state::CoreState;
 use std::alloc::AllocError;
 use user_model::{Answer, Call, Entry};
@@ -89,6 +90,19 @@ pub fn delivery_answer(state: &CoreState, who: Thread, call: Call) -> Answer
     }
 }
 
+/// What a status with these flags answers. Want of memory is the only error.
+fn status_answer(state: &CoreState, who: Thread, flags: u64) -> Result<Answer, AllocError>
+    ensures { IfOk result (λ answer. answer ≡ reply state.now.setup state.now.past who.0 (Call.Status flags)) }
+{
+    match admit(state, who, Call::Status(flags)) {
+        Some(code) => Ok(Answer::Refused(code)),
+        None => {
+            let answer = queue_status(state, who.0, flags)?;
+            Ok(answer)
+        }
+    }
+}
+
 /// Adds the entry of a call that was answered, where the history has room: else it stays as it was. After
 /// want of memory nothing has changed.
 pub fn enter(
@@ -136,4 +150,17 @@ pub fn deliver(s: &mut CoreState, who: Thread, call: Call) -> Result<Answer, All
 {
     let answer = delivery_answer(s, who, call);
     enter(s, who, call, answer)
+}
+
+/// Asks which kinds of messages are there, and which of them came since the thread looked last. The answer is the reply of the
+/// definitions, and stands with the call as the newest entry, unless the history is full: then it stays as it was. After want of memory
+/// nothing has changed, and the call may be made again (Microsoft, GetQueueStatus function).
+pub fn status(s: &mut CoreState, who: Thread, flags: u64) -> Result<Answer, AllocError>
+    ensures answer { IfOk result (λ answer. answer ≡ reply s.old.setup s.old.past who.0 (Call.Status flags)) }
+    ensures entry { OnOk result (s.new.past ≡ after s.old.setup s.old.past who (Call.Status flags)) }
+    ensures err { OnErr result (s.new.past ≡ s.old.past) }
+    ensures setup { s.new.setup ≡ s.old.setup }
+{
+    let answer = status_answer(s, who, flags)?;
+    enter(s, who, Call::Status(flags), answer)
 }

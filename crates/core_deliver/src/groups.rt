@@ -1,7 +1,7 @@
 //! Which layer answers a call.
 
 ghost use Rattle.std.specs.Prelude.{◌≡◌};
-ghost use Rattle.core_deliver.specs.Groups.{group_of, is_delivery, is_drawing, is_retrieval, is_window_call};
+ghost use Rattle.core_deliver.specs.Groups.{group_of, is_delivery, is_drawing, is_retrieval, is_status, is_window_call};
 
 use user_model::Call;
 
@@ -10,6 +10,8 @@ use user_model::Call;
 pub enum Group {
     /// It asks for a message: a get or a peek.
     Retrieval,
+    /// It asks which kinds of messages are there.
+    Status,
     /// It posts, also the character of a key, dispatches, sends, is made inside or after a send, or registers a message.
     Delivery,
     /// It is about classes or windows, focus, active window, capture, attached threads, the mouse or keys, and `core_window` answers it.
@@ -26,6 +28,7 @@ fn group_of(call: Call) -> Group
 {
     match call {
         Call::Peek(..) | Call::Get(..) => Group::Retrieval,
+        Call::Status(_) => Group::Status,
         Call::Post(..)
         | Call::PostThread(..)
         | Call::PostQuit(..)
@@ -66,7 +69,17 @@ pub fn is_retrieval(call: Call) -> bool
 {
     match group_of(call) {
         Group::Retrieval => true,
-        Group::Delivery | Group::Window | Group::Drawing | Group::Other => false,
+        Group::Status | Group::Delivery | Group::Window | Group::Drawing | Group::Other => false,
+    }
+}
+
+/// Whether the call asks which kinds of messages are there.
+pub fn is_status(call: Call) -> bool
+    ensures { result ≡ is_status call }
+{
+    match group_of(call) {
+        Group::Status => true,
+        Group::Retrieval | Group::Delivery | Group::Window | Group::Drawing | Group::Other => false,
     }
 }
 
@@ -76,7 +89,7 @@ pub fn is_delivery(call: Call) -> bool
 {
     match group_of(call) {
         Group::Delivery => true,
-        Group::Retrieval | Group::Window | Group::Drawing | Group::Other => false,
+        Group::Retrieval | Group::Status | Group::Window | Group::Drawing | Group::Other => false,
     }
 }
 
@@ -86,7 +99,7 @@ pub fn is_window_call(call: Call) -> bool
 {
     match group_of(call) {
         Group::Window => true,
-        Group::Retrieval | Group::Delivery | Group::Drawing | Group::Other => false,
+        Group::Retrieval | Group::Status | Group::Delivery | Group::Drawing | Group::Other => false,
     }
 }
 
@@ -96,6 +109,6 @@ pub fn is_drawing(call: Call) -> bool
 {
     match group_of(call) {
         Group::Drawing => true,
-        Group::Retrieval | Group::Delivery | Group::Window | Group::Other => false,
+        Group::Retrieval | Group::Status | Group::Delivery | Group::Window | Group::Other => false,
     }
 }

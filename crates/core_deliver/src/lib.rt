@@ -1,8 +1,8 @@
-//! The calls of delivery, answered from the state: retrievals, posts, dispatches, sends, the calls inside
+//! The calls of delivery, answered from the state: retrievals, the status of a queue, posts, dispatches, sends, the calls inside
 //! them, and the registration of messages.
 //!
 //! `admission` decides what keeps a thread from any call, `delivery` posts and retrievals, `sends` dispatches,
-//! sends and the calls inside them, `messages` registrations. `calls` joins them and adds the entry. `groups` says
+//! sends and the calls inside them, `status_words` the status of a queue, `messages` registrations. `calls` joins them and adds the entry. `groups` says
 //! which layer answers a call, `refusals` has the tests that layers share.
 #![tactic(auto)]
 
@@ -14,8 +14,9 @@ mod groups;
 mod messages;
 mod refusals;
 mod sends;
+mod status_words;
 
 pub use admission::admit;
-pub use calls::{deliver, delivery_answer, enter, retrieval_answer, retrieve};
-pub use groups::{is_delivery, is_drawing, is_retrieval, is_window_call};
+pub use calls::{deliver, delivery_answer, enter, retrieval_answer, retrieve, status};
+pub use groups::{is_delivery, is_drawing, is_retrieval, is_status, is_window_call};
 pub use refusals::{if_live, if_own, is_no_rect};

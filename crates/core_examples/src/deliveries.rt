@@ -1,7 +1,7 @@
 //! What the calls of delivery answer to a thread and to the clock.
 
 use core_deliver::{
-    admit, deliver, delivery_answer, is_delivery, is_retrieval, retrieval_answer, retrieve,
+    admit, deliver, delivery_answer, is_delivery, is_retrieval, retrieval_answer, retrieve, status,
 };
 use core_state::CoreState;
 use std::io::Print;
@@ -20,6 +20,7 @@ const SEND: Call = Call::Send(16, 1024, 0, 0);
 /// A post, which is retrieved.
 fn tell_post(rt: &impl Print, state: &mut CoreState) -> anyhow::Result<()> {
     println!(rt; "post: {:?}", deliver(state, Thread(1), POST)?)?;
+    println!(rt; "status: {:?}", status(state, Thread(1), 127)?)?;
     println!(rt; "get: {:?}", retrieve(state, Thread(1), GET)?)?;
     println!(rt; "get again: {:?}", retrieval_answer(state, Thread(1), GET))?;
     println!(rt; "history {}", state.history().len())?;

@@ -143,6 +143,17 @@ fn tell_inputs(rt: &impl Print, state: &CoreState) -> anyhow::Result<()>
     Ok(())
 }
 
+fn tell_bits(rt: &impl Print, state: &CoreState) -> anyhow::Result<()>
+    requires { state.now.setup.threads ≡ 2 }
+{
+    println!(rt;
+        "bits_now {} bits_since_look {}",
+        state.bits_now(2)?,
+        state.bits_since_look(2)?
+    )?;
+    Ok(())
+}
+
 /// Asks a state of two threads without entries all of this.
 pub fn tell_all(rt: &impl Print, state: &CoreState) -> anyhow::Result<()>
     requires threads { state.now.setup.threads ≡ 2 }
@@ -154,5 +165,6 @@ pub fn tell_all(rt: &impl Print, state: &CoreState) -> anyhow::Result<()>
     tell_classes(rt, state)?;
     tell_posts(rt, state)?;
     tell_sends(rt, state)?;
-    tell_inputs(rt, state)
+    tell_inputs(rt, state)?;
+    tell_bits(rt, state)
 }

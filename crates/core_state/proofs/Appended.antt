@@ -44,6 +44,13 @@ use Rattle.core_state.proofs.SendNeeds.{grown_fits, settled_fits}
 use Rattle.core_state.proofs.SendSteps.{sends_after}
 use Rattle.core_state.proofs.StoryChanges.{losses_noted, stories_after}
 use Rattle.core_state.specs.States.{Parts, Stands, parts}
+use Rattle.core_state.specs.Progress.{moment_of}
+use Rattle.look_state.specs.declared.moment.Moment.{Moment}
+use Rattle.look_state.specs.Looks.{AreLooksAt, LookView, moment_at}
+use Rattle.user_model.specs.Places.{clock}
+use Rattle.user_model.specs.Posts.{posts}
+use Rattle.user_model.specs.Inputs.{inputs}
+use Rattle.user_model.specs.Sends.{sends as sends_of}
 use Rattle.thread_queues.specs.Queues.{EachBy, IsOne}
 use Rattle.window_state.proofs.ClassSteps.{classes_after, fits_naming, fits_unregister}
 use Rattle.core_state.proofs.Deliveries.{both_changes, fits_post, fits_posting, running_is_one}
@@ -192,8 +199,35 @@ tally_step setup past p e place lost tree sends st right here made begun counted
     let same = counted ∙ losses_now p e place tree sends made begun ∙ ap (λ n. losses_by p.tree.live n e.who.0 e.answer e.call p.sends) here in
     tally_fits past p.tally lost st.tally st.short (subst (λ n. n ≤ 1024) (sym same) (losses_few setup past e p.sends p.tree.live (st.lawful, right) st.sends st.tree.windows))
 
+-- what is kept of the sends
+pub sends_step : (setup : Setup) (past : Past) (p : Parts) (e : Entry) (tree1 : Windows) (sends1 sends2 : SendParts) (place : ℕ) → Stands setup past p → e.answer ≡ reply setup past e.who.0 e.call → IsAddedBy e.who.0 e.answer e.call p.tree tree1
+    → sends1 ≡ added_sends p.tree.live p.time place e.who e.answer e.call p.sends → sends2 ≡ affected_sends tree1.live place e.who.0 e.answer e.call sends1 → place ≡ place_after past → PartsStand setup (e ∷ past) sends2
+sends_step setup past p e tree1 sends1 sends2 place st right made begun left here =
+    subst (PartsStand setup (e ∷ past)) (sym (left ∙ same_sends p.tree tree1 p.time place e sends1 made ∙ ap (affected_sends p.tree.live place e.who.0 e.answer e.call) begun))
+    (sends_now setup past p e place (st.lawful, right) st here)
+
+-- how far the past with the entry comes
+pub moment_step : (setup : Setup) (past : Past) (p : Parts) (e : Entry) (progress : Progress) (sends2 : SendParts) (place begun : ℕ) (m : Moment) → Stands setup past p → e.answer ≡ reply setup past e.who.0 e.call
+    → progress ≡ record { posts = count_kept e.answer p.post_count; inputs = counted_with e.answer p.input_count; time = time_kept e p.time; cursor = cursor_with e.answer e.call p.cursor }
+    → PartsStand setup (e ∷ past) sends2 → place ≡ place_after past → begun ≡ sends2.book.begun → m ≡ moment_of (place + 1) begun progress → m ≡ moment_at (e ∷ past)
+moment_step setup past p e progress sends2 place begun m st right went sends here counted is =
+    let entries : place + 1 ≡ length (e ∷ past) = omega (arith, here) in
+    let posted : progress.posts ≡ length (posts (e ∷ past)) = ap (λ (q : Progress). q.posts) went ∙ ap (count_kept e.answer) st.posts ∙ count_kept-next setup past e right in
+    let injected : progress.inputs ≡ length (inputs (e ∷ past)) = ap (λ (q : Progress). q.inputs) went ∙ ap (counted_with e.answer) st.injected ∙ counted_with-next setup past e right in
+    let time : progress.time ≡ clock (e ∷ past) = ap (λ (q : Progress). q.time) went ∙ ap (time_kept e) st.clock ∙ time_kept-next e past in
+    let sent : begun ≡ length (sends_of (e ∷ past)) = counted ∙ sends.book.begun in
+    is
+    ∙ ap (λ n. made n progress.posts progress.inputs begun progress.time) entries
+    ∙ ap (λ n. made (length (e ∷ past)) n progress.inputs begun progress.time) posted
+    ∙ ap (λ n. made (length (e ∷ past)) (length (posts (e ∷ past))) n begun progress.time) injected
+    ∙ ap (λ n. made (length (e ∷ past)) (length (posts (e ∷ past))) (length (inputs (e ∷ past))) n progress.time) sent
+    ∙ ap (λ n. made (length (e ∷ past)) (length (posts (e ∷ past))) (length (inputs (e ∷ past))) (length (sends_of (e ∷ past))) n) time
+  where
+    made : ℕ → ℕ → ℕ → ℕ → ℕ → Moment
+    made entries posts inputs sends time = record { entries = entries; posts = posts; inputs = inputs; sends = sends; time = time }
+
 -- the parts that were brought up to date stand for the past with the entry
-pub stands_step : (setup : Setup) (past : Past) (p : Parts) (shift : Bool) (meant : Meant) (e : Entry) (classes1 classes2 : ClassTable) (tree1 tree2 : Windows) (order1 order2 : Layers) (display2 : Shown) (threads1 threads2 threads3 : List ThreadView) (timers2 : List Setting) (groups2 : Kept) (inputs1 inputs2 : List KeptElement) (progress : Progress) (sends1 sends2 : SendParts) (first : Option Cause) (lost : ℕ) (tally : Tally) (stories1 stories2 stories3 : List SendStory) (place : ℕ)
+pub stands_step : (setup : Setup) (past : Past) (p : Parts) (shift : Bool) (meant : Meant) (e : Entry) (classes1 classes2 : ClassTable) (tree1 tree2 : Windows) (order1 order2 : Layers) (display2 : Shown) (threads1 threads2 threads3 : List ThreadView) (timers2 : List Setting) (groups2 : Kept) (inputs1 inputs2 : List KeptElement) (progress : Progress) (sends1 sends2 : SendParts) (first : Option Cause) (lost : ℕ) (tally : Tally) (stories1 stories2 stories3 : List SendStory) (looks2 : List LookView) (place : ℕ)
     → is_full past ≡ false → e.answer ≡ reply setup past e.who.0 e.call → Stands setup past p → (is_running setup past e.who.0 ≡ true → shift ≡ is_shift_down past e.who.0) → IsMeantBy setup past e.call meant
     → classes1 ≡ added_classes e.answer e.call p.classes → classes2 ≡ affected_classes e.answer e.call classes1
     → IsAddedBy e.who.0 e.answer e.call p.tree tree1 → IsAffected e.who.0 e.answer e.call tree1 tree2
@@ -208,8 +242,9 @@ pub stands_step : (setup : Setup) (past : Past) (p : Parts) (shift : Bool) (mean
     → sends1 ≡ added_sends p.tree.live p.time place e.who e.answer e.call p.sends → sends2 ≡ affected_sends tree1.live place e.who.0 e.answer e.call sends1 → place ≡ place_after past
     → first ≡ first_cause p.sends e.who.0 e.answer e.call → lost ≡ losses_by tree1.live place e.who.0 e.answer e.call sends1 → tally ≡ tallied e.answer first lost p.tally
     → stories1 ≡ with_begun e.answer p.stories → EachStory (noted_losses tree1.live place e.who.0 e.answer e.call sends1) stories1 stories2 → EachStory (noted_answer e.answer (named_send p.sends e.who.0 e.answer e.call) place) stories2 stories3
-    → Stands setup (e ∷ past) (parts tree2 order2 display2 classes2 threads3 timers2 groups2 inputs2 progress sends2 tally stories3)
-stands_step setup past p shift meant e classes1 classes2 tree1 tree2 order1 order2 display2 threads1 threads2 threads3 timers2 groups2 inputs1 inputs2 progress sends1 sends2 cause lost tally stories1 stories2 stories3 place room right st down m grown settled made given ranked left_order seen first second note timed grouped put taken went begun left here named counted noted_tally story_more story_losses story_answers = record {
+    → AreLooksAt setup (e ∷ past) looks2
+    → Stands setup (e ∷ past) (parts tree2 order2 display2 classes2 threads3 timers2 groups2 inputs2 progress sends2 tally stories3 looks2)
+stands_step setup past p shift meant e classes1 classes2 tree1 tree2 order1 order2 display2 threads1 threads2 threads3 timers2 groups2 inputs1 inputs2 progress sends1 sends2 cause lost tally stories1 stories2 stories3 looks2 place room right st down m grown settled made given ranked left_order seen first second note timed grouped put taken went begun left here named counted noted_tally story_more story_losses story_answers looked = record {
   ready = st.ready;
   lawful = (st.lawful, right);
   short = grind (arith, nat_tests, room);
@@ -234,8 +269,7 @@ stands_step setup past p shift meant e classes1 classes2 tree1 tree2 order1 orde
   injected = ap (λ (q : Progress). q.inputs) went ∙ ap (counted_with e.answer) st.injected ∙ counted_with-next setup past e right;
   clock = ap (λ (q : Progress). q.time) went ∙ ap (time_kept e) st.clock ∙ time_kept-next e past;
   cursor = ap (λ (q : Progress). q.cursor) went ∙ ap (cursor_with e.answer e.call) st.cursor ∙ cursor_with-next e past;
-  sends = subst (PartsStand setup (e ∷ past)) (sym (left ∙ same_sends p.tree tree1 p.time place e sends1 made ∙ ap (affected_sends p.tree.live place e.who.0 e.answer e.call) begun))
-      (sends_now setup past p e place (st.lawful, right) st here);
+  sends = sends_step setup past p e tree1 sends1 sends2 place st right made begun left here;
   tally = noted_tally ∙ ap (λ (c : Option Cause). tallied e.answer c lost p.tally) named ∙ ap (λ n. tallied e.answer (first_cause p.sends e.who.0 e.answer e.call) n p.tally) (counted ∙ losses_now p e place tree1 sends1 made begun ∙ ap (λ n. losses_by p.tree.live n e.who.0 e.answer e.call p.sends) here)
       ∙ ap (tallied e.answer (first_cause p.sends e.who.0 e.answer e.call) (losses_by p.tree.live (place_after past) e.who.0 e.answer e.call p.sends)) st.tally
       ∙ sym (counts_after setup past e p.sends p.tree.live (st.lawful, right) st.sends st.tree.windows);
@@ -244,4 +278,5 @@ stands_step setup past p shift meant e classes1 classes2 tree1 tree2 order1 orde
       (subst (λ n. EachStory (noted_losses p.tree.live n e.who.0 e.answer e.call p.sends) (with_begun e.answer p.stories) stories2) here
       (subst (λ (f : ℕ → SendStory → SendStory). EachStory f (with_begun e.answer p.stories) stories2) (losses_noted e p.time place p.tree tree1 p.sends sends1 made begun)
       (subst (λ (l : List SendStory). EachStory (noted_losses tree1.live place e.who.0 e.answer e.call sends1) l stories2) story_more story_losses)));
+  looks = looked;
 }

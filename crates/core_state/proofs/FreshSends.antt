@@ -1,5 +1,5 @@
 -- No sends stand for no entries.
-use Rattle.std.proofs.Common.{◌≡◌, ℕ, zero, suc, ◌-◌, List, [], get_or, replicate, refl, ap, sym, subst}
+use Rattle.std.proofs.Common.{◌≡◌, ℕ, zero, suc, ◌-◌, List, [], get_or, replicate, refl, ap, sym, subst, arith}
 use Rattle.std.proofs.lemmas.List.{length-replicate}
 use Rattle.std.specs.Prelude.{map as each}
 use Rattle.std.specs.FinMap.{get-empty}
@@ -14,6 +14,10 @@ use Rattle.send_state.specs.Standing.{PartsStand, item}
 use Rattle.win_order.specs.Layers.{Layers, empty}
 use Rattle.win_order.proofs.KeptLaws.{empty_kept}
 use Rattle.window_state.specs.Orders.{IsOrderAt}
+use Rattle.window_state.specs.Trees.{IsTreeAt}
+use Rattle.win_rows.specs.Windows.{Windows, no_windows}
+use Rattle.user_model.specs.declared.story.SendStory.{SendStory}
+use Rattle.send_state.specs.Stories.{StoriesStand}
 
 no_frames : (n i : ℕ) → get_or (replicate n (let fs : List Frame = [] in fs)) i [] ≡ []
 no_frames zero i = refl
@@ -45,3 +49,11 @@ no_parts_stand setup is = record {
 -- no window stands in an order yet
 pub no_order : (z : Layers) → z ≡ empty → IsOrderAt [] z
 no_order z is = subst (IsOrderAt []) (sym is) (record { standings = refl; lists = λ p. refl; kept = empty_kept })
+
+-- no window stands in a table yet
+pub no_tree : (t : Windows) → t ≡ no_windows → IsTreeAt [] t
+no_tree t is = subst (IsTreeAt []) (sym is) (record { last = refl; windows = refl; marks = tt; looks = tt })
+
+-- no send has a story yet
+pub no_stories : (l : List SendStory) → l ≡ [] → StoriesStand [] l
+no_stories l is = subst (StoriesStand []) (sym is) (record { all = refl; at = λ i d less. absurd (omega (arith, less)) })

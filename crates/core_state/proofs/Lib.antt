@@ -1,5 +1,6 @@
 pub mod Appended
 pub mod Deliveries
+pub mod Fresh
 pub mod FreshSends
 pub mod GoingWindows
 pub mod Homes
@@ -13,6 +14,7 @@ pub mod SendLosses
 pub mod SendNeeds
 pub mod SendStacks
 pub mod SendSteps
+pub mod StatusReads
 pub mod Timing
 pub mod Tops
 pub mod Running

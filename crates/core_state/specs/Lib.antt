@@ -4,3 +4,4 @@ pub mod Needs
 pub mod Progress
 pub mod Sendings
 pub mod States
+pub mod Status

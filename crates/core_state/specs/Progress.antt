@@ -1,9 +1,11 @@
 -- How far a past has come, before an entry and after it.
+use Rattle.std.specs.Prelude.{ℕ}
 use Rattle.user_model.specs.declared.entry.Entry.{Entry}
 use Rattle.user_model.specs.Places.{corner_of_screen}
 use Rattle.thread_queues.specs.Changes.{count_kept, time_kept}
 use Rattle.pending_state.specs.Changes.{counted_with, cursor_with}
 use Rattle.core_state.specs.declared.progress.Progress.{Progress}
+use Rattle.look_state.specs.declared.moment.Moment.{Moment}
 
 -- before the first entry
 abbrev pub no_progress : Progress
@@ -12,3 +14,7 @@ no_progress = record { posts = 0; inputs = 0; time = 0; cursor = corner_of_scree
 -- after one entry more
 abbrev pub progressed : Entry → Progress → Progress
 progressed e p = record { posts = count_kept e.answer p.posts; inputs = counted_with e.answer p.inputs; time = time_kept e p.time; cursor = cursor_with e.answer e.call p.cursor }
+
+-- how far a history has come that has so many entries and sends
+abbrev pub moment_of : ℕ → ℕ → Progress → Moment
+moment_of entries sends p = record { entries = entries; posts = p.posts; inputs = p.inputs; sends = sends; time = p.time }

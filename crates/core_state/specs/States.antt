@@ -28,6 +28,7 @@ use Rattle.window_state.specs.Orders.{IsOrderAt}
 use Rattle.window_state.specs.Trees.{IsTreeAt}
 use Rattle.display_state.specs.Displays.{Shown, IsDisplayAt}
 use Rattle.group_state.specs.GroupTables.{Kept, IsGroupsAt}
+use Rattle.look_state.specs.Looks.{AreLooksAt, LookView}
 
 -- its setup and its past
 pub record Seen : Type 0 where
@@ -51,10 +52,11 @@ pub record Parts : Type 0 where
   pub sends : SendParts
   pub tally : Tally
   pub stories : List SendStory
+  pub looks : List LookView
 
 -- the parts from their values
-abbrev pub parts : Windows → Layers → Shown → ClassTable → List ThreadView → List Setting → Kept → List KeptElement → Progress → SendParts → Tally → List SendStory → Parts
-parts tree order display classes threads timers groups inputs progress sends tally stories = record { tree = tree; order = order; display = display; classes = classes; threads = threads; timers = timers; groups = groups; inputs = inputs; post_count = progress.posts; input_count = progress.inputs; time = progress.time; cursor = progress.cursor; sends = sends; tally = tally; stories = stories }
+abbrev pub parts : Windows → Layers → Shown → ClassTable → List ThreadView → List Setting → Kept → List KeptElement → Progress → SendParts → Tally → List SendStory → List LookView → Parts
+parts tree order display classes threads timers groups inputs progress sends tally stories looks = record { tree = tree; order = order; display = display; classes = classes; threads = threads; timers = timers; groups = groups; inputs = inputs; post_count = progress.posts; input_count = progress.inputs; time = progress.time; cursor = progress.cursor; sends = sends; tally = tally; stories = stories; looks = looks }
 
 -- each thread's part is what the past says of the thread
 pub record EachThread (past : Past) (threads : List ThreadView) : Type 0 where
@@ -81,3 +83,4 @@ pub record Stands (setup : Setup) (past : Past) (p : Parts) : Type 0 where
   pub sends : PartsStand setup past p.sends
   pub tally : p.tally ≡ tally_at past
   pub stories : StoriesStand past p.stories
+  pub looks : AreLooksAt setup past p.looks

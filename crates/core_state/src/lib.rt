@@ -7,6 +7,7 @@
 #![tactic(auto)]
 
 mod change;
+mod kinds;
 mod mouse;
 mod progress;
 mod sendings;

@@ -3,6 +3,7 @@
 ghost use Rattle.std.specs.Prelude.{◌≡◌};
 ghost use Rattle.pending_state.specs.Changes.{FitsCursor};
 
+use look_state::Moment;
 use pending_state::{cursor_after, inputs_after};
 use thread_queues::{count_after, time_after};
 use user_model::Entry;
@@ -20,7 +21,7 @@ pub struct Progress {
 }
 
 impl Progress {
-    ghost use Rattle.core_state.specs.Progress.{no_progress, progressed};
+    ghost use Rattle.core_state.specs.Progress.{moment_of, no_progress, progressed};
 
     /// Before the first entry.
     pub fn new() -> Progress
@@ -44,6 +45,19 @@ impl Progress {
             inputs: inputs_after(self.inputs, entry.answer),
             time: time_after(self.time, entry),
             cursor: cursor_after(self.cursor, entry),
+        }
+    }
+
+    /// How far a history has come that has so many entries and sends.
+    pub fn moment(self, entries: u32, sends: u32) -> Moment
+        ensures { result ≡ moment_of entries sends self }
+    {
+        Moment {
+            entries,
+            posts: self.posts,
+            inputs: self.inputs,
+            sends,
+            time: self.time,
         }
     }
 }

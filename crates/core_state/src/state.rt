@@ -49,6 +49,7 @@ use band_region::Region;
 use display_state::Display;
 use group_state::{GroupState, Slot};
 use input_queue::Inputs;
+use look_state::{Looks, seen_by};
 use pending_state::follow_inputs;
 use screen_state::UpdateBox;
 use send_state::{SendRow, SendState, Tally, first_cause, named_send};
@@ -69,6 +70,7 @@ use window_state::{
 };
 
 mod inputs;
+mod status;
 
 /// The history so far, and parts that answer in short time what the definitions say of it.
 #[derive(Drop)]
@@ -94,6 +96,8 @@ pub struct CoreState {
     tally: Tally,
     /// What became of each send, from send 1 on.
     stories: Vec<SendStory>,
+    /// What was there for each thread when it looked last.
+    looks: Looks,
 }
 
 impl Model for CoreState {
@@ -104,7 +108,7 @@ impl Model for CoreState {
 
     ghost view = { λ s. record { setup = s.setup; past = reverse s.history.items } };
 
-    ghost invariant = { λ s. Stands s.setup (reverse s.history.items) (parts s.tree s.order s.display s.classes s.threads.items s.timers s.groups s.inputs s.progress s.sends s.tally s.stories.items) };
+    ghost invariant = { λ s. Stands s.setup (reverse s.history.items) (parts s.tree s.order s.display s.classes s.threads.items s.timers s.groups s.inputs s.progress s.sends s.tally s.stories.items s.looks) };
 }
 
 impl CoreState {
@@ -113,21 +117,27 @@ impl CoreState {
         requires { IsSetup setup }
         ensures { IfOk result (λ s. s ≡ record { setup = setup; past = [] }) }
     {
+        let display = Display::new(alloc, setup)?;
+        let threads = fresh_threads(alloc, setup.threads)?;
+        let groups = GroupState::new(alloc, setup.threads)?;
+        let sends = SendState::new(alloc, setup.threads)?;
+        let looks = Looks::new(alloc, setup.threads)?;
         Ok(CoreState {
             setup,
             history: Vec::new(alloc),
             tree: Tree::new(alloc),
             order: Order::new(alloc),
-            display: Display::new(alloc, setup)?,
+            display,
             classes: Classes::new(alloc),
-            threads: fresh_threads(alloc, setup.threads)?,
+            threads,
             timers: Timers::new(alloc),
-            groups: GroupState::new(alloc, setup.threads)?,
+            groups,
             inputs: Inputs::new(alloc),
             progress: Progress::new(),
-            sends: SendState::new(alloc, setup.threads)?,
+            sends,
             tally: Tally::new(),
             stories: Vec::new(alloc),
+            looks,
         })
     }
 
@@ -754,6 +764,7 @@ impl CoreState {
         let change = self
             .display
             .after(alloc, self.setup, &self.tree, &self.order, entry)?;
+        let seen = seen_by(alloc, &self.tree, self.display.screen().dirty(), entry)?;
         make_room(&mut self.history, &mut self.stories)?;
         add_item(
             &mut self.classes,
@@ -790,6 +801,8 @@ impl CoreState {
         note_entry(&mut self.threads, entry);
         self.progress = self.progress.followed_by(entry);
         self.tally = self.tally.with(entry.answer, first, lost);
+        let after = self.progress.moment(stamp.place + 1, self.sends.begun());
+        self.looks.follow(entry, after, seen);
         self.history.push(entry).unwrap();
         Ok(())
     }

@@ -1,5 +1,6 @@
 -- Lists of elements.
 use Rattle.std.proofs.Common.{◌≡◌, ℕ, ◌+◌, ◌<◌, ◌==◌, Bool, true, false, not, cond, List, [], ◌∷◌, ◌++◌, find, All, Option, Some, None, Result, Ok, Err, OnOk, OnErr, is_err, refl, ap, sym, subst, ◌∙◌, arith}
+use Rattle.std.specs.Prelude.{filter}
 use Rattle.std.specs.List.{AllByRecursion, take_while}
 use Rattle.std.proofs.lemmas.Bool.{ne_eqb}
 use Rattle.std.proofs.lemmas.List.Elements.{All-filter, All-push, All-weaker, filter-append, recursion_from_All}
@@ -80,3 +81,11 @@ replaced_after e group w o is below = by o is ∙ ap (λ p. without_replaced p w
 pub ok_holds : {A E : Type 0} (r : Result A E) (P : Type 0) → is_err r ≡ false → OnOk r P → P
 ok_holds (Ok _) P e h = h
 ok_holds (Err _) P e h = absurd cc
+
+-- all are below the next number
+pub below_next : (number : ℕ) (elements : List Element) → All (λ x. x.number < number) elements → All (λ x. x.number < number + 1) elements
+below_next number elements below = All-weaker (λ x. x.number < number) (λ x. x.number < number + 1) (λ x h. omega arith) elements below
+
+-- and those that pass are too
+pub below_left : (passes : Element → Bool) (number : ℕ) (elements : List Element) → All (λ x. x.number < number) elements → All (λ x. x.number < number + 1) (filter passes elements)
+below_left passes number elements below = All-filter passes (λ x. x.number < number + 1) elements (below_next number elements below)

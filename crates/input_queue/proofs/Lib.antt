@@ -1,3 +1,4 @@
+mod Above
 mod Changing
 mod ElementLemmas
 mod Halving

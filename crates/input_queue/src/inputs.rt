@@ -1,7 +1,8 @@
 //! All elements that are untaken.
 
-ghost use Rattle.std.specs.Prelude.{◌≡◌, ◌↔◌, ◌+◌, ◌≤◌, ◌<◌, ◌⊎◌, ◌==◌, [], length, find, All, Bool, true, None, IsTrue, IfErr, IfSome, OnOk, OnErr};
+ghost use Rattle.std.specs.Prelude.{◌≡◌, ◌↔◌, ◌+◌, ◌≤◌, ◌<◌, ◌⊎◌, ◌==◌, ◌&&◌, [], length, find, nat_lt, All, Bool, true, None, IsTrue, IfErr, IfSome, OnOk, OnErr};
 ghost use Rattle.std.specs.Fn.{FnReturnsAt};
+ghost use Rattle.std.specs.List.{list_any};
 ghost use Rattle.win_num.specs.declared.message.Thread.{Thread};
 ghost use Rattle.input_queue.specs.declared.element.Element.{Element};
 ghost use Rattle.input_queue.specs.Elements.{AreRising, is_in, of_group, without, without_home, lacks_place, reads_of, replaced, with_element, first_takeable, Answers};
@@ -9,7 +10,7 @@ ghost use Rattle.input_queue.specs.Elements.{AreRising, is_in, of_group, without
 use crate::element::Element;
 use crate::row::Row;
 use crate::rows::{
-    MOST, clear, count_of, first_in, no_rows, push, replaced_by, take, take_replaced,
+    MOST, clear, count_of, first_in, has_above, no_rows, push, replaced_by, take, take_replaced,
 };
 use crate::steps::Steps;
 use std::alloc::Global;
@@ -117,6 +118,14 @@ impl Inputs {
         first_in(&self.rows, t, group, target, pass, steps)
     }
 
+    /// Whether an element has a number above this and passes, wherever it stands and whoever takes it.
+    pub fn has_above<F: Fn(&Element) -> bool>(&self, number: u32, pass: F) -> bool
+        requires { F.IsAlwaysCallable pass }
+        ensures { (test : Element → Bool) → Answers F.Fn test pass → result ≡ list_any (λ x. nat_lt number x.number && test x) self.now }
+    {
+        above_uncounted::<F, Brand>(Blank::new(1), self, number, pass)
+    }
+
     /// Takes the element of this number out. `None` comes exactly where there is none.
     pub fn take(&mut self, number: u32) -> Option<Element>
         ensures value { result ≡ find (λ x. x.number == number) self.old }
@@ -153,4 +162,21 @@ fn first_uncounted<T: Fn(&Element) -> Thread, F: Fn(&Element) -> bool, L: Ledger
 {
     let mut steps = Steps::<L>::new(blank);
     inputs.first_counted(t, group, target, pass, &mut steps)
+}
+
+/// Whether an element has a number above this and passes, in steps that nobody counts.
+fn above_uncounted<F: Fn(&Element) -> bool, L: Ledger>(
+    blank: Blank,
+    inputs: &Inputs,
+    number: u32,
+    pass: F,
+) -> bool
+    requires name { blank.name ≡ L.name }
+    requires parts { blank.parts ≡ L.parts }
+    requires one { blank.parts ≡ 1 }
+    requires tested { F.IsAlwaysCallable pass }
+    ensures { (test : Element → Bool) → Answers F.Fn test pass → result ≡ list_any (λ x. nat_lt number x.number && test x) inputs.now }
+{
+    let mut steps = Steps::<L>::new(blank);
+    has_above(&inputs.rows, number, pass, &mut steps)
 }

@@ -1,8 +1,9 @@
 //! The untaken elements of one thread.
 
-ghost use Rattle.std.specs.Prelude.{◌≡◌, ◌+◌, ◌∷◌, ◌++◌, ◌<◌, ◌^◌, ◌==◌, ◌≢◌, [], None, Some, IfNone, IfSome, OnErr, OnOk, find, is_some, length, option_map, slice_get, slice_index_or};
+ghost use Rattle.std.specs.Prelude.{◌≡◌, ◌+◌, ◌∷◌, ◌++◌, ◌<◌, ◌^◌, ◌==◌, ◌≢◌, ◌&&◌, Bool, [], None, Some, IfNone, IfSome, OnErr, OnOk, find, is_some, length, nat_lt, option_map, slice_get, slice_index_or};
+ghost use Rattle.std.specs.List.{list_any};
 ghost use Rattle.input_queue.specs.declared.element.Element.{Element};
-ghost use Rattle.input_queue.specs.Elements.{AreRising, last_of, without};
+ghost use Rattle.input_queue.specs.Elements.{Answers, AreRising, last_of, without};
 ghost use Rattle.input_queue.specs.Rows.{glance_of};
 
 use crate::element::Element;
@@ -73,6 +74,24 @@ impl Row {
         ensures next { at + 1 < 2 ^ 64 }
     {
         self.elements[at].read(steps)
+    }
+
+    /// Whether an element has a number above this and passes, in one step for each of such a number, up to the first one that passes.
+    pub(crate) fn has_above<F: Fn(&Element) -> bool, L: Ledger>(
+        &self,
+        number: u32,
+        pass: &F,
+        steps: &mut Steps<L>,
+    ) -> bool
+        requires { F.IsAlwaysCallable pass.now }
+        ensures { (test : Element → Bool) → Answers F.Fn test pass.now → result ≡ list_any (λ x. nat_lt number x.number && test x) self.now }
+    {
+        for at in 0..self.elements.len() {
+            if number < self.elements[at].number() && pass(&self.read(at, steps)) {
+                return true;
+            }
+        }
+        false
     }
 
     /// Puts an element last.

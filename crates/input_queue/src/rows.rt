@@ -1,7 +1,8 @@
 //! The untaken elements of all threads, in a list for each home.
 
-ghost use Rattle.std.specs.Prelude.{◌≡◌, ◌+◌, ◌<◌, ◌≤◌, ◌==◌, ◌∷◌, ◌++◌, ℕ, [], All, Bool, List, None, Some, true, IfNone, IfSome, OnErr, OnOk, find, is_some, length, min, option_map, slice_get, slice_index_or};
+ghost use Rattle.std.specs.Prelude.{◌≡◌, ◌+◌, ◌<◌, ◌≤◌, ◌==◌, ◌∷◌, ◌++◌, ◌&&◌, ℕ, [], All, Bool, List, None, Some, true, IfNone, IfSome, OnErr, OnOk, find, is_some, length, min, nat_lt, option_map, slice_get, slice_index_or};
 ghost use Rattle.std.specs.Fn.{FnReturnsAt};
+ghost use Rattle.std.specs.List.{list_any};
 ghost use Rattle.win_num.specs.declared.message.Thread.{Thread};
 ghost use Rattle.input_queue.specs.declared.element.Element.{Element};
 ghost use Rattle.input_queue.specs.Elements.{Answers, first_takeable, last_of, of_group, reads_of, replaced_in, without, without_home, without_replaced};
@@ -154,6 +155,25 @@ pub(crate) fn first_in<T: Fn(&Element) -> Thread, F: Fn(&Element) -> bool, L: Le
         seen[spot.home] += 1;
     }
     None
+}
+
+/// Whether an element has a number above this and passes, whoever takes it.
+pub(crate) fn has_above<F: Fn(&Element) -> bool, L: Ledger>(
+    rows: &[Row],
+    number: u32,
+    pass: F,
+    steps: &mut Steps<L>,
+) -> bool
+    requires kept { IsKept rows.now }
+    requires tested { F.IsAlwaysCallable pass }
+    ensures { (test : Element → Bool) → Answers F.Fn test pass → result ≡ list_any (λ x. nat_lt number x.number && test x) (merged rows.now) }
+{
+    for home in 0..HOMES {
+        if row_at(rows, home).has_above(number, &pass, steps) {
+            return true;
+        }
+    }
+    false
 }
 
 /// Puts an element behind all others.

@@ -1,5 +1,5 @@
 -- The parts of a log's text stand where they are looked for.
-use Rattle.std.proofs.Common.{◌≡◌, ℕ, zero, suc, ◌+◌, ◌-◌, ◌<◌, true, false, List, [], ◌∷◌, ◌++◌, length, Option, Some, refl, ap, sym, ◌∙◌, take, drop, get_or, arith}
+use Rattle.std.proofs.Common.{◌≡◌, ℕ, suc, ◌+◌, ◌-◌, ◌<◌, true, false, List, [], ◌∷◌, ◌++◌, length, refl, ap, sym, ◌∙◌, take, drop, get_or, arith}
 use Rattle.std.specs.Prelude.{codes, decimal, map, ◌==◌, Result, Ok, Err, IfOk}
 use Rattle.std.specs.List.{flat_map}
 use Rattle.std.specs.Int.{IsInRange}
@@ -20,7 +20,7 @@ use Rattle.log_read.specs.Limits.{IsEntry, IsLog}
 use Rattle.log_read.specs.Logs.{LogTree, spelling}
 use Rattle.log_read.specs.Reading.{is_end_line}
 use Rattle.log_read.specs.Words.{call_words, answer_words, entry_words, entries_words, end_words, extra_words, counts_words, inner_words, log_words}
-use Rattle.log_read.proofs.LineWords.{Words, log_split}
+use Rattle.log_read.proofs.LineWords.{log_split}
 use Rattle.log_read.proofs.ListLaws.{first_same, same_length, read_take, read_drop}
 
 -- ---- lists

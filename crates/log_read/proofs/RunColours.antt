@@ -1,6 +1,6 @@
 -- The colours of a lawful past are 0 to 15.
-use Rattle.std.proofs.Common.{◌≡◌, ℕ, ◌<◌, ◌≤◌, Bool, true, false, not, cond, eqb, List, [], ◌∷◌, ◌++◌, Option, Some, None, refl, ap, sym, ◌∙◌, subst, arith}
-use Rattle.std.specs.Prelude.{ℤ, ◌||◌, nat_lt, nat_le, map, filter, find, length, suc, is_some, IfSome, option_map, unwrap_or}
+use Rattle.std.proofs.Common.{◌≡◌, ℕ, Bool, true, false, not, cond, eqb, List, [], ◌∷◌, ◌++◌, Option, Some, None, refl, sym, subst, arith}
+use Rattle.std.specs.Prelude.{◌||◌, nat_lt, nat_le, map, filter, find, length, suc, is_some, IfSome, option_map, unwrap_or}
 use Rattle.std.specs.List.{AllByRecursion}
 use Rattle.std.proofs.lemmas.Bool.{or_parts}
 use Rattle.std.proofs.lemmas.Bool.Decides.{nat_tests}
@@ -11,14 +11,12 @@ use Rattle.user_model.specs.declared.call.Call.{Call}
 use Rattle.user_model.specs.declared.call.Call.TheVariants as calls
 use Rattle.user_model.specs.declared.entry.Answer.{Answer}
 use Rattle.user_model.specs.declared.entry.Answer.TheVariants as answers
-use Rattle.user_model.specs.declared.entry.Entry.{Entry}
 use Rattle.user_model.specs.declared.entry.Setup.{Setup}
-use Rattle.user_model.specs.Past.{Past, is_refusal, is_refused, standing}
+use Rattle.user_model.specs.Past.{Past, is_refusal, is_refused}
 use Rattle.user_model.specs.Windows.{Window, window}
 use Rattle.user_model.specs.Pixels.{owner}
-use Rattle.user_model.specs.Classes.{Class, registered_count, registers, unregisters, classes, class, class_of, colour_of}
-use Rattle.user_model.specs.Colours.{is_in_clip, reaches, paints_in, paints, colour, frame}
-use Rattle.user_model.specs.Dirty.{is_in_client}
+use Rattle.user_model.specs.Classes.{Class, registered_count, registers, unregisters, classes, class, colour_of}
+use Rattle.user_model.specs.Colours.{paints_in, colour}
 use Rattle.user_model.specs.Idle.{reply}
 use Rattle.user_model.specs.Legal.{IsLawful}
 use Rattle.user_model.specs.Refusals.{refuse, if_own, is_no_rect, invalid_parameter, class_already_exists}

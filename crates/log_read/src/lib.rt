@@ -12,7 +12,9 @@
 
 mod ending;
 mod entries;
+mod faults;
 mod frames;
+mod judge;
 mod laws;
 mod log;
 mod parser;

@@ -38,12 +38,17 @@ fn is_read_of(alloc: Global, script: &[u8], text: &[u8]) -> Result<bool, Fail> {
     let script = script_text::read(alloc, script)?;
     match read_log(alloc, &script, text) {
         Ok(_) => Ok(true),
-        Err(ReadFault::Refused(refusal)) => {
-            if refusal.line != 0 || refusal.reason != Reason::Later {
-                return Err(Fail::from("another refusal"));
-            }
-            Ok(false)
-        }
+        Err(ReadFault::Refused(_)) => Ok(false),
+        Err(ReadFault::Memory) => Err(Fail::from("memory")),
+    }
+}
+
+/// Where and why a text is refused that is no log of the script.
+fn refusal(alloc: Global, text: &[u8]) -> Result<(u32, Reason), Fail> {
+    let script = script_text::read(alloc, SCRIPT)?;
+    match read_log(alloc, &script, text) {
+        Ok(_) => Err(Fail::from("a log")),
+        Err(ReadFault::Refused(refusal)) => Ok((refusal.line, refusal.reason)),
         Err(ReadFault::Memory) => Err(Fail::from("memory")),
     }
 }
@@ -374,6 +379,25 @@ fn narrow_frames(rt: HostRuntime) -> Result<(), Fail> {
         (b"1 snap = snap 1\ne\n\ne\nend done\n", false),
     ] {
         assert_eq!(rt; are_read_of(rt.alloc(), NARROW, lines)?, want);
+    }
+    Ok(())
+}
+
+#[test]
+fn refusals(rt: HostRuntime) -> Result<(), Fail> {
+    for (text, line, reason) in [
+        (b"".as_slice(), 1, Reason::End),
+        (b"log 1", 1, Reason::Bytes),
+        (b"log 2\n", 1, Reason::Operand),
+        (b"log 1\n1 yield = ok\r\n", 2, Reason::Bytes),
+        (b"log 1\n1 yields = ok\n", 2, Reason::Operand),
+        (b"log 1\n16 yield = ok\n", 2, Reason::Limit),
+        (b"log 1\n1 unregister pa = ok\n", 2, Reason::Name),
+        (b"log 1\n1 post 16 15 0 0 = posted 1\n", 2, Reason::Operand),
+        (b"log 1\n1 snap = snap 1\n0123456\n", 3, Reason::Operand),
+        (b"log 1\nend done\nspent 1\n", 3, Reason::Words),
+    ] {
+        assert_eq!(rt; refusal(rt.alloc(), text)?, (line, reason));
     }
     Ok(())
 }

@@ -43,7 +43,7 @@ pub fn small_at(word: &[u8]) -> u32
 
 /// A number with its sign.
 #[tactic(auto, unfolding(crate::specs::Reading::signed_at))]
-fn signed_at(word: &[u8]) -> i64
+pub fn signed_at(word: &[u8]) -> i64
     ensures { result ≡ signed_at word.now }
 {
     let [first, digits @ ..] = word else {
@@ -58,7 +58,7 @@ fn signed_at(word: &[u8]) -> i64
 
 /// A place on the screen.
 #[tactic(auto, unfolding(crate::specs::Reading::pixel_at))]
-fn pixel_at(word: &[u8]) -> Option<i32>
+pub fn pixel_at(word: &[u8]) -> Option<i32>
     ensures { result ≡ pixel_at word.now }
 {
     let value = signed_at(word);
@@ -77,7 +77,7 @@ fn flag_at(word: &[u8]) -> bool
 }
 
 /// A message by its name, or its number.
-fn message_at(words: &Words, word: &[u8]) -> u64
+pub fn message_at(words: &Words, word: &[u8]) -> u64
     ensures { result ≡ message_at word.now }
 {
     match words.messages.number_of(word) {
@@ -107,7 +107,7 @@ fn source_in(all: &[Origin], word: &[u8]) -> Option<Origin>
 
 /// The source with this word.
 #[tactic(auto, unfolding(crate::specs::Reading::source_at))]
-fn source_at(word: &[u8]) -> Option<Origin>
+pub fn source_at(word: &[u8]) -> Option<Origin>
     ensures { result ≡ source_at word.now }
 {
     source_in(&SOURCES, word)
@@ -127,7 +127,7 @@ fn cause_in(all: &[Cause], word: &[u8]) -> Option<Cause>
 
 /// The cause with this word.
 #[tactic(auto, unfolding(crate::specs::Reading::cause_at))]
-fn cause_at(word: &[u8]) -> Option<Cause>
+pub fn cause_at(word: &[u8]) -> Option<Cause>
     ensures { result ≡ cause_at word.now }
 {
     cause_in(&CAUSES, word)
@@ -177,7 +177,7 @@ fn procedure_in(procedures: &[Procedure], word: &[u8]) -> Option<usize>
 
 /// The place of a name of the script.
 #[tactic(auto, unfolding(crate::specs::Reading::name_at))]
-fn name_at(script: &Script, word: &[u8]) -> Option<u32>
+pub fn name_at(script: &Script, word: &[u8]) -> Option<u32>
     requires named { AreKnown (known_of script.now) }
     ensures found { result ≡ name_at script.now word.now }
     ensures within { IfSome result (λ place. place < length script.now.names) }
@@ -190,7 +190,7 @@ fn name_at(script: &Script, word: &[u8]) -> Option<u32>
 
 /// The place of a procedure of the script.
 #[tactic(auto, unfolding(crate::specs::Reading::procedure_at))]
-fn procedure_at(script: &Script, word: &[u8]) -> Option<u32>
+pub fn procedure_at(script: &Script, word: &[u8]) -> Option<u32>
     requires named { AreKnown (known_of script.now) }
     ensures found { result ≡ procedure_at script.now word.now }
     ensures within { IfSome result (λ place. place < length script.now.procedures) }

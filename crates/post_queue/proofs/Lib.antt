@@ -1,6 +1,7 @@
 pub mod Chains
 pub mod Finding
 pub mod Indexes
+pub mod Newest
 mod PlaceLemmas
 pub mod Purges
 pub mod QueueLemmas

@@ -1,14 +1,16 @@
--- What a caller knows of the numbers after a post.
-use Rattle.std.proofs.Common.{◌≡◌, ℕ, ◌+◌, ◌<◌, ◌∷◌, [], ◌++◌, Result, Ok, Err, subst, sym, arith}
-use Rattle.std.specs.Prelude.{All, OnOk, OnErr}
-use Rattle.std.proofs.lemmas.List.Elements.{All-push, All-weaker}
-use Rattle.win_num.specs.declared.message.Msg.{Msg}
-use Rattle.win_num.specs.declared.code.Fault.{Fault}
-use Rattle.post_queue.specs.Queue.{Posted, Queue, queue, post_of}
+-- What a queue without a number above another tells of the next post.
+use Rattle.std.proofs.Common.{◌≡◌, ℕ, ◌+◌, ◌<◌, Bool, true, false, List, [], ◌∷◌, refl, arith}
+use Rattle.std.specs.Prelude.{All, nat_lt, ◌||◌}
+use Rattle.std.specs.List.{list_any}
+use Rattle.std.proofs.lemmas.Bool.{ltb-false}
+use Rattle.std.proofs.lemmas.List.Elements.{All-nil, All-cons}
+use Rattle.post_queue.specs.Queue.{Posted}
 
--- all numbers are below the one after the last post
-pub below-post : {A : Type 0} (r : Result A Fault) (old new : Queue) (number : ℕ) (msg : Msg) → OnOk r (new ≡ queue old.limit (old.posted ++ post_of number msg ∷ [])) → OnErr r (new ≡ old) → All (λ p. p.number < number) old.posted → All (λ p. p.number < number + 1) new.posted
-below-post (Ok u) old new number msg ok err below =
-    subst (λ (q : Queue). All (λ p. p.number < number + 1) q.posted) (sym ok) (All-push (λ (p : Posted). p.number < number + 1) old.posted (post_of number msg) (All-weaker (λ p. p.number < number) (λ p. p.number < number + 1) (λ p h. omega arith) old.posted below) (omega arith))
-below-post (Err e) old new number msg ok err below =
-    subst (λ (q : Queue). All (λ p. p.number < number + 1) q.posted) (sym err) (All-weaker (λ p. p.number < number) (λ p. p.number < number + 1) (λ p h. omega arith) old.posted below)
+-- where no number is above this, all are below the one after it
+pub below_next : (n : ℕ) (ps : List Posted) → list_any (λ p. nat_lt n p.number) ps ≡ false → All (λ p. p.number < n + 1) ps
+below_next n [] h = All-nil (λ (p : Posted). p.number < n + 1)
+below_next n (p ∷ ps) h = by (nat_lt n p.number) refl h (below_next n ps)
+  where
+    by : (b : Bool) → nat_lt n p.number ≡ b → (b || list_any (λ (q : Posted). nat_lt n q.number) ps) ≡ false → (list_any (λ (q : Posted). nat_lt n q.number) ps ≡ false → All (λ (q : Posted). q.number < n + 1) ps) → All (λ (q : Posted). q.number < n + 1) (p ∷ ps)
+    by true k g rest = absurd (cc g)
+    by false k g rest = let low = ltb-false n p.number k in All-cons (λ (q : Posted). q.number < n + 1) p ps (omega (arith, low)) (rest g)

@@ -1,7 +1,8 @@
 //! Slots that are linked in posted order.
 
-ghost use Rattle.std.specs.Prelude.{◌≡◌, ◌++◌, ◌∷◌, [], ◌<◌, ◌≤◌, ◌^◌, ℕ, Bool, List, not, filter, OnOk, OnErr, All, length};
+ghost use Rattle.std.specs.Prelude.{◌≡◌, ◌++◌, ◌∷◌, [], ◌<◌, ◌≤◌, ◌^◌, ℕ, Bool, List, nat_lt, not, filter, OnOk, OnErr, All, length};
 ghost use Rattle.std.specs.Fn.{FnReturnsAt};
+ghost use Rattle.std.specs.List.{list_any};
 ghost use Rattle.win_num.specs.declared.message.Hwnd.{Hwnd};
 ghost use Rattle.slab.specs.Slab.{get};
 ghost use Rattle.post_queue.specs.Queue.{FindsFirst, count_above, count_for, message_of, post_of, without_number};
@@ -109,6 +110,20 @@ pub(crate) fn first_in<F: Fn(&Msg) -> bool, L: Ledger>(
         at = slot.after;
     }
     None
+}
+
+/// Whether a message has a number above this: the last has the greatest.
+pub(crate) fn has_above(chain: &Chain, number: u32) -> bool
+    requires { IsChain chain.now }
+    ensures { result ≡ list_any (λ p. nat_lt number p.number) (posted_in chain.now) }
+{
+    let Some(key) = chain.last else {
+        return false;
+    };
+    match chain.slots.get(key) {
+        Some(slot) => number < slot.number,
+        None => false,
+    }
 }
 
 /// How many messages are for the window, and how many of them have a number above `look`.

@@ -1,12 +1,13 @@
 //! The queue of posted messages.
 
-ghost use Rattle.std.specs.Prelude.{ℕ, Bool, not, filter, find, option_map, ◌≡◌, ◌↔◌, ◌<◌, [], ◌∷◌, ◌++◌, All, OnOk, OnErr, IfErr, ◌⊎◌, length};
+ghost use Rattle.std.specs.Prelude.{ℕ, Bool, not, nat_lt, filter, find, option_map, ◌≡◌, ◌↔◌, ◌<◌, [], ◌∷◌, ◌++◌, All, OnOk, OnErr, IfErr, ◌⊎◌, length};
 ghost use Rattle.win_num.specs.declared.message.Hwnd.{Hwnd};
 ghost use Rattle.win_num.specs.declared.message.Msg.{Msg};
 ghost use Rattle.std.specs.Fn.{FnReturnsAt};
+ghost use Rattle.std.specs.List.{list_any};
 ghost use Rattle.post_queue.specs.Queue.{FindsFirst, count_above, count_for, message_of, pair_of, post_of, queue, without_number, without_window};
 
-use crate::chain::{Chain, clear, counted, first_in, no_messages, purge, push, take};
+use crate::chain::{Chain, clear, counted, first_in, has_above, no_messages, purge, push, take};
 use crate::steps::Steps;
 use std::alloc::Global;
 use std::marker::Model;
@@ -105,6 +106,13 @@ impl Posts {
         ensures { (test : ℕ → Bool) → ((w : Hwnd) (b : Bool) → F.post goes w b → b ≡ test w.0) → self.new ≡ queue self.old.limit (filter (λ p. not (test p.msg.hwnd.0)) self.old.posted) }
     {
         purge(&mut self.chain, goes);
+    }
+
+    /// Whether the queue holds a message with a number above this. No message is read.
+    pub fn has_above(&self, number: u32) -> bool
+        ensures { result ≡ list_any (λ p. nat_lt number p.number) self.now.posted }
+    {
+        has_above(&self.chain, number)
     }
 
     /// Takes all messages out.

@@ -1,12 +1,44 @@
 //! Worked examples of posted messages.
 
-ghost use Rattle.std.specs.Prelude.{◌≡◌, ◌+◌, ◌<◌, All};
+ghost use Rattle.std.specs.Prelude.{◌≡◌};
 
 use super::*;
 use std::alloc::Global;
 use std::marker::Brand;
 use std::sync::ledger::{Blank, Ledger};
 use win_num::{Code, Fault, Hwnd, Msg, Point};
+
+/// What is done to a queue.
+#[derive(Clone, Copy)]
+enum Step {
+    /// Posts a message under the number after this.
+    Post(u16, Msg),
+    /// Looks for the first message with a number from the first to the second.
+    First(u32, u32),
+    /// Takes out the message with the number.
+    Remove(u32),
+    /// Takes out the messages for the window, counting those above the number.
+    Purge(Hwnd, u32),
+    /// Counts the messages.
+    Len,
+}
+
+/// What the queue has answered.
+#[derive(Clone, Copy, Debug, PartialEq, Eq)]
+enum Told {
+    /// The message was posted, or not.
+    Posted(Result<(), Fault>),
+    /// A number is taken: nothing was posted.
+    Taken,
+    /// A message with its number.
+    Found(Option<(u32, Msg)>),
+    /// A message that was taken out.
+    Removed(Option<Msg>),
+    /// How many messages, and how many of them above a number.
+    Purged(u32, u32),
+    /// How many messages.
+    Len(u32),
+}
 
 /// A message for a window.
 fn message(w: u32, number: u32) -> Msg {
@@ -20,19 +52,13 @@ fn message(w: u32, number: u32) -> Msg {
     }
 }
 
-/// A queue with no message.
-fn empty(alloc: Global, limit: u32) -> Posts
-    ensures { All (λ p. p.number < 1) result.posted }
-{
-    Posts::new(alloc, limit)
-}
-
-/// Posts a message under a number above all.
-fn post_next(posts: &mut Posts, number: u32, msg: Msg) -> Result<(), Fault>
-    requires { All (λ p. p.number < number) posts.old.posted }
-    ensures { All (λ p. p.number < number + 1) posts.new.posted }
-{
-    posts.post(number, msg)
+/// Posts a message under the number after this, where the queue holds none above this.
+fn post_after(posts: &mut Posts, before: u16, msg: Msg) -> Told {
+    let last = before as u32;
+    if posts.has_above(last) {
+        return Told::Taken;
+    }
+    Told::Posted(posts.post(last + 1, msg))
 }
 
 /// The first message with a number from `min` to `max`.
@@ -50,35 +76,54 @@ fn first_between(posts: &Posts, min: u32, max: u32) -> Option<(u32, Msg)> {
     first_counted::<Brand>(Blank::new(1), posts, min, max)
 }
 
+/// Does a step.
+fn act(posts: &mut Posts, step: Step) -> Told {
+    match step {
+        Step::Post(before, msg) => post_after(posts, before, msg),
+        Step::First(min, max) => Told::Found(first_between(posts, min, max)),
+        Step::Remove(number) => Told::Removed(posts.remove(number)),
+        Step::Purge(window, look) => {
+            let (count, fresh) = posts.purge(window, look);
+            Told::Purged(count, fresh)
+        }
+        Step::Len => Told::Len(posts.len()),
+    }
+}
+
+/// What a full queue answers.
+fn full() -> Told {
+    Told::Posted(Err(Fault::Refused(Code::Win(1816))))
+}
+
 #[test]
 fn messages_leave_in_posted_order(rt: HostRuntime) {
-    let mut posts = empty(rt.alloc(), 3);
-    assert_eq!(rt; post_next(&mut posts, 1, message(16, 1280)), Ok(()));
-    assert_eq!(rt; post_next(&mut posts, 2, message(0, 1025)), Ok(()));
-    assert_eq!(rt; post_next(&mut posts, 3, message(16, 1026)), Ok(()));
-    assert_eq!(rt;
-        post_next(&mut posts, 4, message(0, 1)),
-        Err(Fault::Refused(Code::Win(1816)))
-    );
-    assert_eq!(rt;
-        first_between(&posts, 1024, 1279),
-        Some((2, message(0, 1025)))
-    );
-    assert_eq!(rt; first_between(&posts, 1, 2), None);
-    assert_eq!(rt; posts.remove(2), Some(message(0, 1025)));
-    assert_eq!(rt; posts.remove(2), None);
-    assert_eq!(rt;
-        first_between(&posts, 1024, 1279),
-        Some((3, message(16, 1026)))
-    );
-    assert_eq!(rt; posts.purge(Hwnd(16), 1), (2, 1));
-    assert_eq!(rt; posts.len(), 0);
+    let mut posts = Posts::new(rt.alloc(), 3);
+    let second = message(0, 1025);
+    let third = message(16, 1026);
+    for (step, told) in [
+        (Step::Post(0, message(16, 1280)), Told::Posted(Ok(()))),
+        (Step::Post(1, second), Told::Posted(Ok(()))),
+        (Step::Post(2, third), Told::Posted(Ok(()))),
+        (Step::Post(3, message(0, 1)), full()),
+        (Step::First(1024, 1279), Told::Found(Some((2, second)))),
+        (Step::First(1, 2), Told::Found(None)),
+        (Step::Remove(2), Told::Removed(Some(second))),
+        (Step::Remove(2), Told::Removed(None)),
+        (Step::First(1024, 1279), Told::Found(Some((3, third)))),
+        (Step::Purge(Hwnd(16), 1), Told::Purged(2, 1)),
+        (Step::Len, Told::Len(0)),
+    ] {
+        assert_eq!(rt; act(&mut posts, step), told);
+    }
 }
 
 #[test]
 fn a_full_queue_refuses(rt: HostRuntime) {
-    let mut posts = empty(rt.alloc(), 1);
-    assert_eq!(rt; post_next(&mut posts, 1, message(0, 1025)), Ok(()));
-    let refused = post_next(&mut posts, 2, message(0, 1025));
-    assert_eq!(rt; refused, Err(Fault::Refused(Code::Win(1816))));
+    let mut posts = Posts::new(rt.alloc(), 1);
+    for (step, told) in [
+        (Step::Post(0, message(0, 1025)), Told::Posted(Ok(()))),
+        (Step::Post(1, message(0, 1025)), full()),
+    ] {
+        assert_eq!(rt; act(&mut posts, step), told);
+    }
 }

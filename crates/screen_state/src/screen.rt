@@ -14,7 +14,7 @@ ghost use Rattle.user_model.specs.ReplyDrawing.{bounds_from};
 ghost use Rattle.window_state.specs.Orders.{IsOrderAt};
 ghost use Rattle.window_state.specs.Trees.{IsTreeAt};
 ghost use Rattle.screen_owners.specs.Owners.{entry_of, owned_region, AreChildren};
-ghost use Rattle.dirty_windows.specs.LookUps.{entry_area, entry_of as dirty_of, erases_in};
+ghost use Rattle.dirty_windows.specs.LookUps.{RisesFrom, entry_area, entry_of as dirty_of, erases_in};
 ghost use Rattle.paint_sessions.specs.LookUps.{is_begun};
 ghost use Rattle.screen_state.specs.Entries.{IsMade};
 ghost use Rattle.screen_state.specs.Owned.{IsNext};
@@ -28,7 +28,7 @@ use crate::reach::let_through;
 use crate::update::{UpdateBox, update_box};
 use crate::walk::first_to_paint;
 use band_region::Region;
-use dirty_windows::DirtyWindows;
+use dirty_windows::{DirtyWindow, DirtyWindows};
 use paint_sessions::PaintSessions;
 use screen_owners::{Owners, changed_part, owned_regions_again};
 use std::alloc::{AllocError, Global};
@@ -244,6 +244,14 @@ impl ScreenState {
         ensures { option_copied result ≡ option_map owned_region (entry_of self.now.owners w.0) }
     {
         self.owners.region_of(w)
+    }
+
+    /// The windows that have a dirty pixel or an erase flag, by rising number, which is above 0.
+    pub fn dirty(&self) -> &[DirtyWindow]
+        ensures value { result.now ≡ self.now.dirty }
+        ensures rising { RisesFrom 0 result.now }
+    {
+        self.dirty.entries()
     }
 
     /// The dirty pixels of a window. None comes where none is dirty.

@@ -6,3 +6,4 @@ pub mod WordsAgain
 pub mod TextsAgain
 pub mod RowsAgain
 pub mod LinesAgain
+pub mod NamesStay

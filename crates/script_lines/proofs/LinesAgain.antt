@@ -83,18 +83,17 @@ next_place limit names n h lt =
 abbrev pub taken : Known → ℕ → ℕ → Known
 taken known n p = record { names = take n known.names; procedures = take p known.procedures }
 
-lt_told : (a b : ℕ) → nat_lt a b ≡ true → a < b
+pub lt_told : (a b : ℕ) → nat_lt a b ≡ true → a < b
 lt_told a b h = grind (arith, nat_tests, h)
 
-eq_told : (a b : ℕ) → (a == b) ≡ true → a ≡ b
+pub eq_told : (a b : ℕ) → (a == b) ≡ true → a ≡ b
 eq_told a b h = grind (arith, nat_tests, h)
 
 -- what one more name makes
-Seen : ℕ → ℕ → ℕ → ℕ → Type 0
+abbrev pub Seen : ℕ → ℕ → ℕ → ℕ → Type 0
 Seen count n m k = ((k < n) × (m ≡ n)) ⊎ ((k ≡ n) × (m ≡ n + 1) × (n < count))
 
-seen_cases : (count n m k : ℕ) → seen_with count (Some n) k ≡ Some m → Seen count n m k
-unfolding Seen
+pub seen_cases : (count n m k : ℕ) → seen_with count (Some n) k ≡ Some m → Seen count n m k
 seen_cases count n m k e = elim (cases_Bool (nat_lt k n)) [
   | inl old ↦ let f : seen_with count (Some n) k ≡ Some n = rw old refl in inl (lt_told k n old, cc (e, f))
   | inr miss ↦ elim (cases_Bool ((k == n) && nat_lt n count)) [
@@ -110,7 +109,7 @@ abbrev FoundName : Known → ℕ → ℕ → ℕ → ℕ → Type 0
 FoundName known n p m k = (name_at (taken known n p) (get_or known.names k []) ≡ Some (k, taken known m p)) × (m ≤ length known.names)
 
 name_again : (known : Known) (n p m k : ℕ) → AreKnown known → n ≤ length known.names → seen_with (length known.names) (Some n) k ≡ Some m → FoundName known n p m k
-unfolding Seen name_at
+unfolding name_at
 name_again known n p m k h within e = elim (seen_cases (length known.names) n m k e) [
   | inl old ↦
       let at = old_place 1024 known.names n k h.names old.0 within in (
@@ -158,14 +157,14 @@ plain_part known n p m q part wn wp e1 e2 read =
     (read ∙ ap (λ (j : ℕ). part_found part (taken known j p)) names ∙ ap (λ (j : ℕ). part_found part (taken known m j)) procedures, omega (arith, names), omega (arith, procedures))
 
 -- a procedure that is named has begun
-begun_told : (p q k : ℕ) → (if nat_lt k p then Some p else None) ≡ Some q → (k < p) × (Some p ≡ Some q)
+pub begun_told : (p q k : ℕ) → (if nat_lt k p then Some p else None) ≡ Some q → (k < p) × (Some p ≡ Some q)
 begun_told p q k e = elim (cases_Bool (nat_lt k p)) [
   | inl hit ↦ let f : (if nat_lt k p then Some p else None) ≡ Some p = rw hit refl in (lt_told k p hit, sym f ∙ e)
   | inr miss ↦ let f : (if nat_lt k p then Some p else None) ≡ None = rw miss refl in absurd (cc (e, f))
 ]
 
 -- a procedure that begins is the next
-next_told : (count p q k : ℕ) → (if (k == p) && nat_lt p count then Some (p + 1) else None) ≡ Some q → (k ≡ p) × (p < count) × (q ≡ p + 1)
+pub next_told : (count p q k : ℕ) → (if (k == p) && nat_lt p count then Some (p + 1) else None) ≡ Some q → (k ≡ p) × (p < count) × (q ≡ p + 1)
 next_told count p q k e = elim (cases_Bool ((k == p) && nat_lt p count)) [
   | inl hit ↦
       let two = and_parts (k == p) (nat_lt p count) hit in
@@ -239,11 +238,11 @@ none_begun_after count [] = refl
 none_begun_after count (part ∷ ps) = ap (λ (o : Option ℕ). begun_after count o ps) (no_part_begun count part) ∙ none_begun_after count ps
 
 -- where so many are seen after several parts, so many were seen after the first
-first_part_seen : (count m : ℕ) (o : Option ℕ) (ps : List Part) → seen_after count o ps ≡ Some m → (i : ℕ) × (o ≡ Some i)
+pub first_part_seen : (count m : ℕ) (o : Option ℕ) (ps : List Part) → seen_after count o ps ≡ Some m → (i : ℕ) × (o ≡ Some i)
 first_part_seen count m None ps e = absurd (cc (sym (none_after count ps) ∙ e))
 first_part_seen count m (Some i) ps e = (i, refl)
 
-first_part_begun : (count m : ℕ) (o : Option ℕ) (ps : List Part) → begun_after count o ps ≡ Some m → (i : ℕ) × (o ≡ Some i)
+pub first_part_begun : (count m : ℕ) (o : Option ℕ) (ps : List Part) → begun_after count o ps ≡ Some m → (i : ℕ) × (o ≡ Some i)
 first_part_begun count m None ps e = absurd (cc (sym (none_begun_after count ps) ∙ e))
 first_part_begun count m (Some i) ps e = (i, refl)
 
@@ -281,7 +280,7 @@ parts_again known n p m q (part ∷ ps) words k fits h wn wp e1 e2 at =
 -- ---- one line
 
 -- the line is read, and so many names and procedures have been seen after it
-Again : Known → ℕ → ℕ → ℕ → ℕ → Line → Type 0
+abbrev pub Again : Known → ℕ → ℕ → ℕ → ℕ → Line → Type 0
 Again known n p m q l = (line_at (taken known n p) (line_words known l) ≡ Some (l, taken known m q)) × (m ≤ length known.names) × (q ≤ length known.procedures)
 
 -- what parts make with names
@@ -291,8 +290,8 @@ made_with command o = o >>= λ x. made_line command x.0 >>= λ l. Some (l, x.1)
 abbrev read_by : Known → List (List ℕ) → Option Command → Option (Line × Known)
 read_by known words o = o >>= λ command. made_with command (parts_from known (command_places command) words 1)
 
-read_again : (known : Known) (n p m q : ℕ) (l : Line) → IsLine l → AreKnown known → n ≤ length known.names → p ≤ length known.procedures → seen_after (length known.names) (Some n) (line_parts l) ≡ Some m → begun_after (length known.procedures) (Some p) (line_parts l) ≡ Some q → Again known n p m q l
-unfolding line_at Again PartsAgain
+pub read_again : (known : Known) (n p m q : ℕ) (l : Line) → IsLine l → AreKnown known → n ≤ length known.names → p ≤ length known.procedures → seen_after (length known.names) (Some n) (line_parts l) ≡ Some m → begun_after (length known.procedures) (Some p) (line_parts l) ≡ Some q → Again known n p m q l
+unfolding line_at PartsAgain
 read_again known n p m q l fits h wn wp e1 e2 =
     let words : List (List ℕ) = line_words known l in
     let parts = parts_again known n p m q (line_parts l) words 1 fits h wn wp e1 e2 (λ j. ap (word_at words) (let e : 1 + j ≡ suc j = omega arith in e)) in (
@@ -327,7 +326,7 @@ pub lines_again : (known : Known) (n p : ℕ) (ls : List Line) → AllByRecursio
     → all_seen (length known.names) (seen_all (length known.names) (Some n) ls) ≡ true
     → all_seen (length known.procedures) (begun_all (length known.procedures) (Some p) ls) ≡ true
     → lines_at (taken known n p) (map joined (map (line_words known) ls)) ≡ Some (ls, known)
-unfolding lines_at Again
+unfolding lines_at
 lines_again known n p [] fits h wn wp e1 e2 =
     let past : length known.names ≤ n = omega (arith, eq_told n (length known.names) e1) in
     let begun : length known.procedures ≤ p = omega (arith, eq_told p (length known.procedures) e2) in

@@ -28,6 +28,10 @@ use Rattle.script_lines.specs.LineParts.{line_command, line_parts, made_line}
 use Rattle.statement_table.specs.Parts.{place_of_part, operand_in}
 use Rattle.script_lines.specs.Rows.{command_word, command_places, own_command, own_or_call, with_words, command_at}
 use Rattle.statement_table.specs.Statements.{statement_name, made_statement}
+use Rattle.statement_table.specs.declared.compounds.CompoundName.{CompoundName}
+use Rattle.statement_table.specs.declared.compounds.CompoundName.TheVariants as compounds
+use Rattle.statement_table.specs.Compounds.{compound_word, compound_name, made_compound}
+use Rattle.statement_table.proofs.CompoundLaws.{compound_again, compound_fits}
 use Rattle.statement_table.proofs.StatementLaws.{statement_again, statement_fits}
 use Rattle.script_lines.specs.Words.{line_words}
 
@@ -47,6 +51,11 @@ statement_found n c =
     ap (λ (o : Option Command). option_map (with_words n) (own_or_call o (call_named (call_row (statement_name c)).word))) (not_own c)
     ∙ ap (λ (o : Option CallName). option_map (with_words n) (own_or_call None o)) (named_again (statement_name c))
 
+compound_found : (n : ℕ) (c : CompoundName) → command_at (compound_word c) n ≡ Some (commands.Compound c)
+unfolding command_at own_command
+compound_found n compounds.ShowWindow = refl
+compound_found n c = refl
+
 pub command_again : (known : Known) (l : Line) → command_at (command_word (line_command l)) (length (line_words known l)) ≡ Some (line_command l)
 unfolding command_at own_command
 command_again known (lines.Procedure k) = refl
@@ -62,6 +71,7 @@ command_again known (lines.Call c) = statement_found (length (line_words known (
 command_again known (lines.Sleep a) = refl
 command_again known (lines.Create c) = refl
 command_again known (lines.Destroy a) = refl
+command_again known (lines.Compound c) = compound_found (length (line_words known (lines.Compound c))) (compound_name c)
 command_again known lines.Default = refl
 
 pub line_fits : (l : Line) → command_places (line_command l) ≡ map place_of_part (line_parts l)
@@ -78,6 +88,7 @@ line_fits (lines.Call c) = sym (statement_fits c)
 line_fits (lines.Sleep a) = refl
 line_fits (lines.Create c) = refl
 line_fits (lines.Destroy a) = refl
+line_fits (lines.Compound c) = sym (compound_fits c)
 line_fits lines.Default = refl
 
 pub line_again : (l : Line) → made_line (line_command l) (line_parts l) ≡ Some l
@@ -94,6 +105,7 @@ line_again (lines.Call c) = ap (option_map (λ x. lines.Call x)) (statement_agai
 line_again (lines.Sleep a) = refl
 line_again (lines.Create c) = refl
 line_again (lines.Destroy a) = refl
+line_again (lines.Compound c) = ap (λ x. let l : Option Line = Some (lines.Compound x) in l) (compound_again c)
 line_again lines.Default = refl
 
 pub made_of : (command : Command) (ps : List Part) (l : Line) → line_command l ≡ command → line_parts l ≡ ps → made_line command ps ≡ Some l
@@ -127,6 +139,19 @@ module _ (ps : List Part) (h : AllByRecursion IsPart ps) where
   made_call_fits None fits = tt
   made_call_fits (Some c) fits = fits
 
+  compound_made_fits : (n : CompoundName) → IsLine (lines.Compound (made_compound n ps))
+  compound_made_fits compounds.ShowWindow = (o 0, (o 1, tt))
+  compound_made_fits compounds.EnableWindow = (o 0, (o 1, tt))
+  compound_made_fits compounds.SetWindowPos = (o 0, (o 1, (o 2, (o 3, (o 4, (o 5, (o 6, tt)))))))
+  compound_made_fits compounds.ReleaseCapture = tt
+  compound_made_fits compounds.PostAll = (o 0, (o 1, (o 2, tt)))
+  compound_made_fits compounds.NotifyAll = (o 0, (o 1, (o 2, tt)))
+  compound_made_fits compounds.SetFocus = (o 0, tt)
+  compound_made_fits compounds.SetActive = (o 0, tt)
+  compound_made_fits compounds.SetCapture = (o 0, tt)
+  compound_made_fits compounds.BeginPaint = (o 0, tt)
+  compound_made_fits compounds.UpdateWindow = (o 0, tt)
+
   pub line_made_fits : (command : Command) → IfSome (made_line command ps) IsLine
   line_made_fits commands.Procedure = (tt, tt)
   line_made_fits commands.Thread = tt
@@ -141,4 +166,5 @@ module _ (ps : List Part) (h : AllByRecursion IsPart ps) where
   line_made_fits commands.Sleep = (o 0, tt)
   line_made_fits commands.Create = (tt, (tt, (o 2, (o 3, (o 4, (o 5, (o 6, (o 7, (o 8, tt)))))))))
   line_made_fits commands.Destroy = (o 0, tt)
+  line_made_fits (commands.Compound n) = compound_made_fits n
   line_made_fits commands.Default = tt

@@ -24,6 +24,9 @@ use Rattle.script_tree.specs.declared.operand.Comparison.TheVariants as comparis
 use Rattle.call_table.specs.declared.calls.CallName.{CallName}
 use Rattle.call_table.specs.Calls.{call_row}
 use Rattle.call_table.proofs.CallLaws.{each_call_word}
+use Rattle.statement_table.specs.declared.compounds.CompoundName.{CompoundName}
+use Rattle.statement_table.specs.declared.compounds.CompoundName.TheVariants as compounds
+use Rattle.statement_table.specs.Compounds.{compound_word}
 use Rattle.script_lines.specs.declared.line.Command.{Command}
 use Rattle.script_lines.specs.declared.line.Command.TheVariants as commands
 use Rattle.script_lines.specs.declared.line.Line.{Line}
@@ -103,6 +106,10 @@ comparison_is_word comparisons.Below = refl
 call_is_word : (n : CallName) → is_word (call_row n).word ≡ true
 call_is_word = each_call_word is_word refl
 
+compound_is_word : (n : CompoundName) → is_word (compound_word n) ≡ true
+compound_is_word compounds.ShowWindow = refl
+compound_is_word n = refl
+
 command_is_word : (v : Command) → is_word (command_word v) ≡ true
 command_is_word commands.Procedure = refl
 command_is_word commands.Thread = refl
@@ -117,6 +124,7 @@ command_is_word (commands.Call n) = call_is_word n
 command_is_word commands.Sleep = refl
 command_is_word commands.Create = refl
 command_is_word commands.Destroy = refl
+command_is_word (commands.Compound n) = compound_is_word n
 command_is_word commands.Default = refl
 
 operand_is_word : (a : Operand) → IsOperand a → is_word (operand_word a) ≡ true

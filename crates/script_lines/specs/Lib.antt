@@ -6,3 +6,4 @@ pub mod LineTexts
 pub mod LineLimits
 pub mod NameLimits
 pub mod LineReading
+pub mod Forms

@@ -9,6 +9,7 @@ use Rattle.script_lines.specs.declared.line.Command.TheVariants as commands
 use Rattle.statement_table.specs.declared.part.Part.{Part}
 use Rattle.statement_table.specs.declared.part.Part.TheVariants as parts
 use Rattle.statement_table.specs.Parts.{letter_in, operand_in, operator_in, comparison_in, name_in, beginning_in}
+use Rattle.statement_table.specs.Compounds.{compound_name, compound_parts, made_compound}
 use Rattle.statement_table.specs.Statements.{statement_name, statement_parts, made_statement}
 
 -- which line it is
@@ -26,6 +27,7 @@ line_command (lines.Call c) = commands.Call (statement_name c)
 line_command (lines.Sleep ms) = commands.Sleep
 line_command (lines.Create c) = commands.Create
 line_command (lines.Destroy w) = commands.Destroy
+line_command (lines.Compound c) = commands.Compound (compound_name c)
 line_command lines.Default = commands.Default
 
 abbrev pub test_parts : Test → List Part
@@ -51,6 +53,7 @@ line_parts (lines.Call c) = statement_parts c
 line_parts (lines.Sleep ms) = parts.Operand ms ∷ []
 line_parts (lines.Create c) = creation_parts c
 line_parts (lines.Destroy w) = parts.Operand w ∷ []
+line_parts (lines.Compound c) = compound_parts c
 line_parts lines.Default = []
 
 abbrev pub made_test : List Part → Test
@@ -84,4 +87,5 @@ made_line (commands.Call n) ps = option_map (λ c. lines.Call c) (made_statement
 made_line commands.Sleep ps = Some (lines.Sleep (operand_in ps 0))
 made_line commands.Create ps = Some (lines.Create (made_creation ps))
 made_line commands.Destroy ps = Some (lines.Destroy (operand_in ps 0))
+made_line (commands.Compound n) ps = Some (lines.Compound (made_compound n ps))
 made_line commands.Default ps = Some lines.Default

@@ -9,6 +9,8 @@ use Rattle.script_lines.specs.declared.line.Command.{Command}
 use Rattle.script_lines.specs.declared.line.Command.TheVariants as commands
 use Rattle.statement_table.specs.declared.part.Place.{Place}
 use Rattle.statement_table.specs.declared.part.Place.TheVariants as places
+use Rattle.statement_table.specs.declared.compounds.CompoundName.TheVariants as compounds
+use Rattle.statement_table.specs.Compounds.{compound_word, compound_places}
 use Rattle.statement_table.specs.Places.{field_places, statement_places}
 
 -- the first word of a line; that of a statement of a call is the call's
@@ -26,6 +28,7 @@ command_word (commands.Call n) = (call_row n).word
 command_word commands.Sleep = codes "sleep"
 command_word commands.Create = codes "create"
 command_word commands.Destroy = codes "destroy"
+command_word (commands.Compound n) = compound_word n
 command_word commands.Default = codes "default"
 
 abbrev pub test_places : List Place
@@ -46,13 +49,17 @@ command_places (commands.Call n) = statement_places n
 command_places commands.Sleep = places.Operand ∷ []
 command_places commands.Create = field_places (groups.Window windows.NewWindow)
 command_places commands.Destroy = places.Operand ∷ []
+command_places (commands.Compound n) = compound_places n
 command_places commands.Default = []
 
 -- the lines that make no one call
 abbrev pub own_commands : List Command
 own_commands =
     commands.Procedure ∷ commands.Thread ∷ commands.Let ∷ commands.If ∷ commands.Else ∷ commands.While ∷ commands.End ∷ commands.Return ∷
-    commands.Sleep ∷ commands.Create ∷ commands.Destroy ∷ commands.Default ∷ []
+    commands.Sleep ∷ commands.Create ∷ commands.Destroy ∷ commands.Compound compounds.ShowWindow ∷ commands.Compound compounds.EnableWindow ∷
+    commands.Compound compounds.SetWindowPos ∷ commands.Compound compounds.SetFocus ∷ commands.Compound compounds.SetActive ∷
+    commands.Compound compounds.SetCapture ∷ commands.Compound compounds.ReleaseCapture ∷ commands.Compound compounds.BeginPaint ∷
+    commands.Compound compounds.UpdateWindow ∷ commands.Compound compounds.PostAll ∷ commands.Compound compounds.NotifyAll ∷ commands.Default ∷ []
 
 unfoldable pub own_command : List ℕ → Option Command
 own_command word = find (λ c. bytes_eq (command_word c) word) own_commands

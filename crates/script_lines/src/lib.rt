@@ -1,6 +1,8 @@
 //! The words and the lines of a script's procedures and threads, both ways: a line from its words, and its text.
 #![tactic(auto)]
 
+mod forms;
+mod known_writer;
 mod line;
 mod line_form;
 mod line_reader;
@@ -10,9 +12,13 @@ mod operands;
 mod rows;
 mod words;
 
+pub use forms::{
+    all_are_new, all_are_told, all_have_form, has_empty_word, is_decimal, is_printable,
+};
+pub use known_writer::is_text_of;
 pub use line::{Command, Line};
 pub use line_form::{line_command, line_of_parts, line_parts};
-pub use line_reader::{lines_at, split_at, texts_of, word_at};
+pub use line_reader::{FoundLine, line_at, lines_at, split_at, texts_of, word_at};
 pub use line_writer::put_line;
 pub use names::Names;
 pub use operands::{NameTables, number_at};

@@ -1,7 +1,8 @@
 //! The lines of procedures and threads.
 
 use call_table::CallName;
-use script_tree::{CallStatement, Creation, Letter, Operand, Operator, Test};
+use script_tree::{CallStatement, CompoundStatement, Creation, Letter, Operand, Operator, Test};
+use statement_table::CompoundName;
 
 /// A line of a procedure or a thread.
 #[derive(Clone, Copy)]
@@ -32,6 +33,8 @@ pub enum Line {
     Create(Creation),
     /// `destroy W`
     Destroy(Operand),
+    /// One of the other compound statements, with its operands.
+    Compound(CompoundStatement),
     /// `default`
     Default,
 }
@@ -55,5 +58,6 @@ pub enum Command {
     Sleep,
     Create,
     Destroy,
+    Compound(CompoundName),
     Default,
 }

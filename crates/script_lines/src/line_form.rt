@@ -9,8 +9,9 @@ ghost use Rattle.script_lines.specs.LineParts.{test_parts, creation_parts, line_
 use crate::line::{Command, Line};
 use script_tree::{Creation, Test};
 use statement_table::{
-    Part, Parts, beginning_in, comparison_in, letter_in, name_in, operand_in, operator_in,
-    parts_of, statement_name, statement_of_parts, statement_parts,
+    Part, Parts, beginning_in, comparison_in, compound_name, compound_of_parts, compound_parts,
+    letter_in, name_in, operand_in, operator_in, parts_of, statement_name, statement_of_parts,
+    statement_parts,
 };
 
 /// Which line it is.
@@ -31,6 +32,7 @@ pub fn line_command(line: Line) -> Command
         Line::Sleep(_) => Command::Sleep,
         Line::Create(_) => Command::Create,
         Line::Destroy(_) => Command::Destroy,
+        Line::Compound(compound) => Command::Compound(compound_name(compound)),
         Line::Default => Command::Default,
     }
 }
@@ -86,6 +88,7 @@ pub fn line_parts(line: Line) -> Parts
         Line::Sleep(wait) => parts_of(&[Part::Operand(wait)]),
         Line::Create(creation) => creation_parts(creation),
         Line::Destroy(window) => parts_of(&[Part::Operand(window)]),
+        Line::Compound(compound) => compound_parts(compound),
         Line::Default => parts_of(&[]),
     }
 }
@@ -141,6 +144,7 @@ fn made_line(command: Command, parts: &[Part]) -> Option<Line>
         Command::Sleep => Line::Sleep(operand_in(parts, 0)),
         Command::Create => Line::Create(made_creation(parts)),
         Command::Destroy => Line::Destroy(operand_in(parts, 0)),
+        Command::Compound(name) => Line::Compound(compound_of_parts(name, parts)),
         Command::Default => Line::Default,
     };
     Some(line)

@@ -17,7 +17,7 @@ use statement_table::{Part, Parts, Place};
 use std::alloc::{AllocError, Global};
 
 /// A line, or None where the words aren't one.
-type FoundLine = Result<Option<Line>, AllocError>;
+pub type FoundLine = Result<Option<Line>, AllocError>;
 
 /// The parts of a text between the places of a byte.
 pub fn split_at<'a>(alloc: Global, text: &'a [u8], byte: u8) -> Result<Vec<&'a [u8]>, AllocError>
@@ -96,9 +96,11 @@ fn parts_at(
     Ok(Some(parts))
 }
 
-/// The line with these words: its row is found by the first, and the others are its parts.
+/// The line with these words: its row is found by the first, and the others are its parts. None comes where
+/// they are no line, name a procedure whose `proc` line doesn't stand above, begin one a second time, or have a
+/// name too many.
 #[tactic(auto, unfolding(crate::specs::LineReading::line_at))]
-fn line_at(alloc: Global, tables: &NameTables, known: &mut Names, words: &[&[u8]]) -> FoundLine
+pub fn line_at(alloc: Global, tables: &NameTables, known: &mut Names, words: &[&[u8]]) -> FoundLine
     requires { AreKnown known.old }
     ensures found { IfOk result (λ found. option_map (λ l. (l, known.new)) found ≡ line_at known.old (map (λ w. w.now) words.now)) }
     ensures kept { AreKnown known.new }

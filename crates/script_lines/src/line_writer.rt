@@ -20,7 +20,7 @@ use user_io::text::{put_number, put_operand as put_decimal, put_text};
 
 /// Adds a blank and a word.
 #[tactic(auto, using(user_io::proofs::Texts::two))]
-fn put_word(out: &mut Vec<u8>, word: &[u8]) -> Result<(), AllocError>
+pub fn put_word(out: &mut Vec<u8>, word: &[u8]) -> Result<(), AllocError>
     ensures { OnOk result (Adds out.old.items out.new.items (blank_word word.now)) }
 {
     put_text(out, b" ")?;
@@ -49,7 +49,11 @@ fn put_some_word(out: &mut Vec<u8>, word: Option<&[u8]>) -> Result<(), AllocErro
 }
 
 /// Adds a blank and an operand.
-fn put_operand(out: &mut Vec<u8>, tables: &NameTables, operand: Operand) -> Result<(), AllocError>
+pub fn put_operand(
+    out: &mut Vec<u8>,
+    tables: &NameTables,
+    operand: Operand,
+) -> Result<(), AllocError>
     ensures { OnOk result (Adds out.old.items out.new.items (blank_word (operand_word operand))) }
 {
     match operand {

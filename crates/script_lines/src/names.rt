@@ -43,7 +43,7 @@ fn all_name_bytes(bytes: &[u8]) -> bool
 }
 
 /// Whether a word is a name: a lower-case letter, and at most 31 letters, digits and `_`.
-fn is_name(word: &[u8]) -> bool
+pub fn is_name(word: &[u8]) -> bool
     ensures { result ≡ is_name word.now }
 {
     let [first, rest @ ..] = word else {
@@ -104,6 +104,7 @@ impl Model for Names {
 }
 
 impl Names {
+    ghost use Rattle.std.specs.Prelude.{[], slice_index_or};
     ghost use Rattle.script_lines.specs.Known.{nothing_known};
     ghost use Rattle.script_lines.specs.LineReading.{name_at, begun_at, procedure_at};
     ghost use Rattle.script_lines.specs.NameLimits.{AreKnown};
@@ -125,6 +126,40 @@ impl Names {
     {
         let Names { names, procedures } = self;
         (names, procedures)
+    }
+
+    /// The name of a class, a title or a message at a place, empty where there is none.
+    pub fn name_text(&self, place: u32) -> &[u8]
+        ensures { result.now ≡ slice_index_or self.now.names place [] }
+    {
+        match self.names.get(place as usize) {
+            Some(name) => name.text(),
+            None => b"",
+        }
+    }
+
+    /// The name of the procedure at a place, empty where there is none.
+    pub fn procedure_text(&self, place: u32) -> &[u8]
+        ensures { result.now ≡ slice_index_or self.now.procedures place [] }
+    {
+        match self.procedures.get(place as usize) {
+            Some(name) => name.text(),
+            None => b"",
+        }
+    }
+
+    /// How many names of classes, titles and messages there are.
+    pub fn name_count(&self) -> usize
+        ensures { result ≡ length self.now.names }
+    {
+        self.names.len()
+    }
+
+    /// How many procedures have begun.
+    pub fn procedure_count(&self) -> usize
+        ensures { result ≡ length self.now.procedures }
+    {
+        self.procedures.len()
     }
 
     /// The place of the name of a class, a title or a message, from 0. A new one goes to the end; None comes

@@ -8,10 +8,12 @@ ghost use Rattle.script_lines.specs.Rows.{command_word, command_places, own_comm
 use crate::line::Command;
 use arrayvec::ArrayVec;
 use call_table::{CallName, WindowCall, call_form, call_named};
-use statement_table::{Place, Places, field_places, statement_places};
+use statement_table::{
+    CompoundName, Place, Places, compound_places, compound_word, field_places, statement_places,
+};
 
 /// The lines that make no one call.
-static OWN_COMMANDS: [Command; 12] = [
+static OWN_COMMANDS: [Command; 23] = [
     Command::Procedure,
     Command::Thread,
     Command::Let,
@@ -23,6 +25,17 @@ static OWN_COMMANDS: [Command; 12] = [
     Command::Sleep,
     Command::Create,
     Command::Destroy,
+    Command::Compound(CompoundName::ShowWindow),
+    Command::Compound(CompoundName::EnableWindow),
+    Command::Compound(CompoundName::SetWindowPos),
+    Command::Compound(CompoundName::SetFocus),
+    Command::Compound(CompoundName::SetActive),
+    Command::Compound(CompoundName::SetCapture),
+    Command::Compound(CompoundName::ReleaseCapture),
+    Command::Compound(CompoundName::BeginPaint),
+    Command::Compound(CompoundName::UpdateWindow),
+    Command::Compound(CompoundName::PostAll),
+    Command::Compound(CompoundName::NotifyAll),
     Command::Default,
 ];
 
@@ -44,6 +57,7 @@ pub fn command_word(command: Command) -> &'static [u8]
         Command::Sleep => b"sleep",
         Command::Create => b"create",
         Command::Destroy => b"destroy",
+        Command::Compound(name) => compound_word(name),
         Command::Default => b"default",
     }
 }
@@ -81,6 +95,7 @@ pub fn command_places(command: Command) -> Places
         Command::Sleep => places_of(&[Place::Operand]),
         Command::Create => field_places(CallName::Window(WindowCall::NewWindow)),
         Command::Destroy => places_of(&[Place::Operand]),
+        Command::Compound(name) => compound_places(name),
         Command::Default => places_of(&[]),
     }
 }

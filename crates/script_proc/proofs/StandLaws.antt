@@ -17,7 +17,7 @@ use Rattle.script_tree.specs.Steps.{step, passes, statement}
 use Rattle.script_tree.specs.Traces.{silent}
 use Rattle.script_tree.specs.Weights.{weight}
 use Rattle.script_proc.specs.declared.program.Line.{Line}
-use Rattle.script_proc.specs.declared.program.Line.TheVariants.{Let, Compute, If, Else, While, End, Return, Call, Sleep, Create, Destroy, Default}
+use Rattle.script_proc.specs.declared.program.Line.TheVariants.{Let, Compute, If, Else, While, End, Return, Call, Sleep, Create, Destroy, Compound, Default}
 use Rattle.script_proc.specs.Programs.{Says, IsQuiet, IsCompound, Stands, alone, branch, branches, loop, out, over_else, end}
 use Rattle.script_proc.specs.Items.{Keeps}
 
@@ -75,6 +75,7 @@ is_compound (Call k) h a b c d = d k refl
 is_compound (Sleep e) h a b c d = tt
 is_compound (Create k) h a b c d = tt
 is_compound (Destroy e) h a b c d = tt
+is_compound (Compound k) h a b c d = tt
 is_compound Default h a b c d = tt
 is_compound line h a b c d = absurd h
 
@@ -92,6 +93,7 @@ says (Call c) h = (tree.Call c, refl)
 says (Sleep e) h = (tree.Sleep e, refl)
 says (Create c) h = (tree.Create c, refl)
 says (Destroy e) h = (tree.Destroy e, refl)
+says (Compound c) h = (tree.Compound c, refl)
 says Default h = (tree.Default, refl)
 says line h = absurd h
 
@@ -103,6 +105,7 @@ said_weight (Call c) line' h = ap weight h
 said_weight (Sleep e) line' h = ap weight h
 said_weight (Create c) line' h = ap weight h
 said_weight (Destroy e) line' h = ap weight h
+said_weight (Compound c) line' h = ap weight h
 said_weight Default line' h = ap weight h
 said_weight line line' h = absurd h
 

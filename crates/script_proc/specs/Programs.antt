@@ -6,7 +6,7 @@ use Rattle.script_tree.specs.declared.operand.Test.{Test}
 use Rattle.script_tree.specs.Tree.{Tree, ProcedureTree, body_of, procedure_of}
 use Rattle.script_tree.specs.Pieces.{Piece, Lines}
 use Rattle.script_proc.specs.declared.program.Line.{Line}
-use Rattle.script_proc.specs.declared.program.Line.TheVariants.{Let, Compute, If, Else, While, End, Return, Call, Sleep, Create, Destroy, Default}
+use Rattle.script_proc.specs.declared.program.Line.TheVariants.{Let, Compute, If, Else, While, End, Return, Call, Sleep, Create, Destroy, Compound, Default}
 use Rattle.script_proc.specs.declared.program.Program.{Program}
 
 -- a statement without a body
@@ -25,6 +25,7 @@ Says (Call c) line = line ≡ tree.Call c
 Says (Sleep e) line = line ≡ tree.Sleep e
 Says (Create c) line = line ≡ tree.Create c
 Says (Destroy e) line = line ≡ tree.Destroy e
+Says (Compound c) line = line ≡ tree.Compound c
 Says Default line = line ≡ tree.Default
 Says border line = ⊥
 
@@ -40,6 +41,7 @@ abbrev pub IsCompound : Line → Type 0
 IsCompound (Sleep e) = Unit {0}
 IsCompound (Create c) = Unit {0}
 IsCompound (Destroy e) = Unit {0}
+IsCompound (Compound c) = Unit {0}
 IsCompound Default = Unit {0}
 IsCompound line = ⊥
 

@@ -22,6 +22,7 @@ fn alone(statement: &Statement) -> Line
         Statement::Sleep(time) => Line::Sleep(*time),
         Statement::Create(creation) => Line::Create(*creation),
         Statement::Destroy(window) => Line::Destroy(*window),
+        Statement::Compound(compound) => Line::Compound(*compound),
         Statement::Default => Line::Default,
         _ => unreachable!(),
     }

@@ -108,6 +108,7 @@ pub fn statement(line: &Line, variables: &Variables) -> Few
         }
         Line::Create(creation) => begins_with(Begin::creation(creation.call(variables))),
         Line::Destroy(window) => begins_with(Begin::destruction(window.value(variables))),
+        Line::Compound(compound) => begins_with(compound.begin(variables)),
         Line::Default => default_statement(&variables.parameters),
         _ => Few::Nothing,
     }

@@ -4,7 +4,9 @@ ghost use Rattle.std.specs.Prelude.{◌≡◌, ◌-◌, IfOk, slice_get, unwrap_
 ghost use Rattle.script_proc.specs.Programs.{IsProgramOf};
 
 use crate::compile::{put_procedures, put_threads};
-use script_tree::{CallStatement, Creation, Letter, Operand, Operator, Script, Test};
+use script_tree::{
+    CallStatement, CompoundStatement, Creation, Letter, Operand, Operator, Script, Test,
+};
 use std::alloc::{AllocError, Global};
 
 /// A line of a program: a statement that stands alone, or the border of a block. A number says how many
@@ -26,6 +28,7 @@ pub enum Line {
     Sleep(Operand),
     Create(Creation),
     Destroy(Operand),
+    Compound(CompoundStatement),
     Default,
 }
 

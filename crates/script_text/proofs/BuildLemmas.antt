@@ -1,5 +1,5 @@
 -- Blocks and lines.
-use Rattle.std.proofs.Common.{◌≡◌, ℕ, ◌+◌, ◌<◌, ◌≤◌, Bool, true, false, List, [], ◌∷◌, ◌++◌, length, drop, get_or, Option, Some, None, Result, Ok, Err, refl, ap, sym, ◌∙◌, append_assoc, append-nil, arith, subst, inl, inr}
+use Rattle.std.proofs.Common.{◌≡◌, ℕ, ◌+◌, ◌<◌, ◌≤◌, Bool, true, false, not, List, [], ◌∷◌, ◌++◌, length, drop, get_or, Option, Some, None, Result, Ok, Err, refl, ap, sym, ◌∙◌, append_assoc, append-nil, arith, subst, inl, inr}
 use Rattle.std.specs.Prelude.{nat_lt, ◌==◌, ◌&&◌, ◌||◌, if◌then◌else◌, IfOk}
 use Rattle.std.specs.List.{flat_map, list_any, AllByRecursion}
 use Rattle.std.proofs.lemmas.Bool.{false≢true, and_parts, cases_Bool}
@@ -239,9 +239,25 @@ nested_next n m (lines.Call c) h e = entered_next n m n.kinds h e
 nested_next n m (lines.Sleep a) h e = entered_next n m n.kinds h e
 nested_next n m (lines.Create c) h e = entered_next n m n.kinds h e
 nested_next n m (lines.Destroy a) h e = entered_next n m n.kinds h e
+nested_next n m (lines.Compound c) h e = entered_next n m n.kinds h e
 nested_next n m lines.Default h e = inside_next n m h e
 
 pub sound_after : (procedures threads new_procedures new_threads : List (List Statement)) (blocks new_blocks : List Block) (l : Line) (taken : Bool) → IsSound procedures threads blocks → taken ≡ true
     → (if taken then Some (nest_of new_procedures new_threads new_blocks) else None) ≡ nested (nest_of procedures threads blocks) l → IsSound new_procedures new_threads new_blocks
 sound_after procedures threads new_procedures new_threads blocks new_blocks l taken h e step =
     nested_next (nest_of procedures threads blocks) (nest_of new_procedures new_threads new_blocks) l h (sym step ∙ ap (λ (b : Bool). if b then Some (nest_of new_procedures new_threads new_blocks) else None) e)
+
+pub sound_last : {E : Type 0} (r : Result Bool E) (procedures threads new_procedures new_threads : List (List Statement)) (blocks new_blocks : List Block) (l : Line) → IsSound procedures threads blocks
+    → IfOk r (λ t. (if t then Some (nest_of new_procedures new_threads new_blocks) else None) ≡ nested (nest_of procedures threads blocks) l) → IfOk r (λ t. t ≡ true → IsSound new_procedures new_threads new_blocks)
+sound_last (Ok t) procedures threads new_procedures new_threads blocks new_blocks l h step = λ e. sound_after procedures threads new_procedures new_threads blocks new_blocks l t h e step
+sound_last (Err x) procedures threads new_procedures new_threads blocks new_blocks l h step = step
+
+equals_zero : (n : ℕ) → n ≡ 0 → (n == 0) ≡ true
+equals_zero n h = grind (arith, nat_tests, h)
+
+above_zero : (n : ℕ) → 0 < n → (n == 0) ≡ false
+above_zero n h = grind (arith, nat_tests, h)
+
+pub open_told : (bs : List Block) (n : ℕ) (empty : Bool) → empty ≡ (n == 0) → n ≡ length bs → not empty ≡ not (none_open (kinds bs))
+open_told [] n empty h e = ap not (h ∙ equals_zero n e)
+open_told (b ∷ bs) n empty h e = ap not (h ∙ above_zero n (omega (arith, e)))

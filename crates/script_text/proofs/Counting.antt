@@ -1,9 +1,10 @@
 -- How many procedures and threads lines have.
 use Rattle.std.proofs.Common.{◌≡◌, ℕ, ◌+◌, Bool, true, false, List, [], ◌∷◌, ◌++◌, length, Option, Some, None, refl, ap, sym, ◌∙◌, arith}
-use Rattle.std.specs.Prelude.{◌&&◌, ◌==◌, nat_lt, if◌then◌else◌}
+use Rattle.std.specs.Prelude.{◌&&◌, ◌==◌, nat_lt, if◌then◌else◌, map}
 use Rattle.std.specs.List.{flat_map}
 use Rattle.std.proofs.lemmas.Bool.{false≢true}
 use Rattle.std.proofs.lemmas.Bool.Decides.{nat_tests}
+use Rattle.script_tree.specs.declared.operand.Operand.{Operand}
 use Rattle.script_tree.specs.declared.statement.Statement.{Statement, Row_of-Statement, end_of-Statement, more_of-Statement}
 use Rattle.script_tree.specs.declared.statement.Statement.TheVariants as statements
 use Rattle.script_tree.specs.declared.statement.CallStatement.{CallStatement}
@@ -13,9 +14,11 @@ use Rattle.script_lines.specs.declared.line.Line.TheVariants as lines
 use Rattle.statement_table.specs.declared.part.Part.{Part}
 use Rattle.statement_table.specs.declared.part.Part.TheVariants as parts
 use Rattle.script_lines.specs.LineParts.{line_parts}
+use Rattle.statement_table.specs.Compounds.{compound_operands}
 use Rattle.statement_table.specs.Statements.{statement_parts}
 use Rattle.script_lines.specs.NameLimits.{all_seen, begun_after, begun_all, are_procedures_in_order}
 use Rattle.script_lines.proofs.LinesAgain.{none_begun, none_begun_after}
+use Rattle.script_text.specs.Grammar.{thread_of, thread_count}
 use Rattle.script_text.specs.Lines.{statement_lines, row_lines, body_lines, thread_lines, procedure_lines, numbered_lines, code_lines}
 
 -- what a line counts for, where a procedure counts for p and a thread for t
@@ -33,11 +36,21 @@ weight p t (lines.Call c) = 0
 weight p t (lines.Sleep a) = 0
 weight p t (lines.Create c) = 0
 weight p t (lines.Destroy a) = 0
+weight p t (lines.Compound c) = 0
 weight p t lines.Default = 0
 
-abbrev total : ℕ → ℕ → List Line → ℕ
+abbrev pub total : ℕ → ℕ → List Line → ℕ
 total p t [] = 0
 total p t (l ∷ ls) = weight p t l + total p t ls
+
+weighed : (l : Line) → thread_of l ≡ weight 0 1 l
+weighed lines.Thread = refl
+weighed (lines.Procedure k) = refl
+weighed l = refl
+
+pub thread_total : (ls : List Line) → thread_count ls ≡ total 0 1 ls
+thread_total [] = refl
+thread_total (l ∷ ls) = omega (arith, weighed l, thread_total ls)
 
 total_append : (p t : ℕ) (a c : List Line) → total p t (a ++ c) ≡ total p t a + total p t c
 total_append p t [] c = omega arith
@@ -55,6 +68,7 @@ mutual
   none_inside p t (statements.Sleep a) = refl
   none_inside p t (statements.Create c) = refl
   none_inside p t (statements.Destroy a) = refl
+  none_inside p t (statements.Compound c) = refl
   none_inside p t statements.Default = refl
 
   none_in_row : (p t : ℕ) {m : _} (row : Row_of-Statement m) → total p t (row_lines row) ≡ 0
@@ -90,7 +104,7 @@ threads_none (body ∷ bodies) = omega (arith, total_append 1 0 (thread_lines bo
 procedures_counted : (procedures threads : List (List Statement)) → total 1 0 (code_lines procedures threads) ≡ length procedures
 procedures_counted procedures threads = omega (arith, total_append 1 0 (numbered_lines 0 procedures) (flat_map thread_lines threads), procedures_one 0 procedures, threads_none threads)
 
-threads_counted : (procedures threads : List (List Statement)) → total 0 1 (code_lines procedures threads) ≡ length threads
+pub threads_counted : (procedures threads : List (List Statement)) → total 0 1 (code_lines procedures threads) ≡ length threads
 threads_counted procedures threads = omega (arith, total_append 0 1 (numbered_lines 0 procedures) (flat_map thread_lines threads), procedures_none 0 procedures, threads_one threads)
 
 -- the same lines have as many threads
@@ -127,8 +141,14 @@ call_begins : (c : CallStatement) → begins (statement_parts c) ≡ 0
 call_begins calls.Dispatch = refl
 call_begins c = refl
 
+-- no operand begins one
+operands_begin : (ops : List Operand) → begins (map (λ a. parts.Operand a) ops) ≡ 0
+operands_begin [] = refl
+operands_begin (a ∷ ops) = operands_begin ops
+
 line_begins : (l : Line) → begins (line_parts l) ≡ weight 1 0 l
 line_begins (lines.Call c) = call_begins c
+line_begins (lines.Compound c) = operands_begin (compound_operands c)
 line_begins lines.Thread = refl
 line_begins l = refl
 

@@ -6,3 +6,10 @@ pub mod PartsAgain
 pub mod TreeNesting
 pub mod TreeNames
 pub mod NestedTrees
+pub mod Steps
+pub mod Closing
+pub mod HeadLines
+pub mod Judging
+pub mod WholeTexts
+pub mod ReadAgain
+pub mod FirstBad

@@ -45,16 +45,6 @@ pub and_false : (a b : Bool) → b ≡ false → (a && b) ≡ false
 and_false true b e = e
 and_false false b e = refl
 
-both : (a b : Bool) → a ≡ true → b ≡ true → (a && b) ≡ true
-both true b p q = q
-both false b p q = absurd (false≢true p)
-
-le_test : (a b : ℕ) → a ≤ b → nat_le a b ≡ true
-le_test a b h = grind (arith, nat_tests)
-
-lt_test : (a b : ℕ) → a < b → nat_lt a b ≡ true
-lt_test a b h = grind (arith, nat_tests)
-
 le_told : (a b : ℕ) → nat_le a b ≡ true → a ≤ b
 le_told a b h = grind (arith, nat_tests, h)
 
@@ -64,12 +54,6 @@ lt_told a b h = grind (arith, nat_tests, h)
 first_two : (a b : Bool) → (a && b) ≡ true → (a ≡ true) × (b ≡ true)
 first_two true b e = (refl, e)
 first_two false b e = absurd (false≢true e)
-
-pub within_of : (s : Tree) → IsScript s → is_within s ≡ true
-within_of s script =
-    both _ _ (le_test 1 s.width (omega (arith, script.wide.0))) (both _ _ (le_test s.width 128 script.wide.1) (both _ _ (le_test 1 s.height (omega (arith, script.high.0))) (both _ _ (le_test s.height 64 script.high.1)
-    (both _ _ (le_test 1 s.budget (omega (arith, script.budget.0))) (both _ _ (le_test s.budget 65536 script.budget.1) (both _ _ script.turns (both _ _ (le_test (length s.order) 65536 script.few_turns)
-    (both _ _ (lt_test 0 (length s.threads) script.threads.0) (le_test (length s.threads) 15 script.threads.1)))))))))
 
 script_of : (s : Tree) → is_within s ≡ true → AreKnown (known_of s) → AllByRecursion IsLine (script_lines s) → are_in_order (length s.names) (script_lines s) ≡ true → are_procedures_in_order (length s.procedures) (script_lines s) ≡ true → nests (script_lines s) ≡ true → length (spelling s) ≤ 1048576 → IsScript s
 script_of s e named fits ordered begun nested short =

@@ -53,6 +53,7 @@ mutual
   statement_nests (statements.Sleep a) k ks i j fits own = refl
   statement_nests (statements.Create c) k ks i j fits own = refl
   statement_nests (statements.Destroy a) k ks i j fits own = refl
+  statement_nests (statements.Compound c) k ks i j fits own = refl
   statement_nests statements.Default k ks i j fits own = enters k ks i j (own refl)
 
   row_nests : {m : _} (row : Row_of-Statement m) (k : Kind) (ks : List Kind) (i j : ℕ) → row_depth row + length (k ∷ ks) ≤ 33 → (is_row_of_procedure row ≡ true → list_any is_procedure (k ∷ ks) ≡ true) → nested_all (Some (nest (k ∷ ks) i j)) (row_lines row) ≡ Some (nest (k ∷ ks) i j)

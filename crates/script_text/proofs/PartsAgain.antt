@@ -1,8 +1,8 @@
 -- A text that spells a script is taken apart into it.
-use Rattle.std.proofs.Common.{◌≡◌, ℕ, zero, suc, ◌+◌, ◌-◌, ◌^◌, ◌≤◌, ◌<◌, Bool, true, List, [], ◌∷◌, ◌++◌, length, take, drop, get_or, Option, Some, None, refl, ap, sym, ◌∙◌, append_assoc, arith, length-append, length-drop, append-nil, subst}
+use Rattle.std.proofs.Common.{◌≡◌, ℕ, ◌+◌, ◌-◌, ◌^◌, ◌≤◌, ◌<◌, true, List, [], ◌∷◌, ◌++◌, length, take, drop, get_or, Option, Some, None, refl, ap, sym, ◌∙◌, append_assoc, arith, length-append, append-nil, subst}
 use Rattle.std.proofs.Math.Seq.{get_or-append_seam}
-use Rattle.std.proofs.lemmas.List.{take_all, length-map, map-append}
-use Rattle.std.specs.Prelude.{codes, decimal, map, min, nat_lt, nat_le, ◌&&◌}
+use Rattle.std.proofs.lemmas.List.{length-map, map-append}
+use Rattle.std.specs.Prelude.{codes, decimal, map, min, nat_le, ◌&&◌}
 use Rattle.std.specs.List.{AllByRecursion, list_all, flat_map, zip}
 use Rattle.std.proofs.lemmas.Bool.{and_parts, and_from}
 use Rattle.std.proofs.lemmas.Bool.Decides.{nat_tests}
@@ -27,7 +27,7 @@ use Rattle.script_text.specs.Spelling.{head_words, script_words, head_text, proc
 use Rattle.script_lines.proofs.WordsAgain.{number_again}
 use Rattle.script_lines.proofs.TextsAgain.{is_word, decimal_word, is_line_of_words, lines_are_words, words_again, texts_again}
 use Rattle.script_lines.proofs.LinesAgain.{lines_again}
-use Rattle.script_text.proofs.Counting.{same_threads, as_many}
+use Rattle.script_text.proofs.Counting.{as_many}
 
 front : (xs : List (List ℕ)) (x : List ℕ) → take (length xs) (xs ++ x ∷ []) ≡ xs
 front [] x = refl
@@ -39,7 +39,7 @@ le_told a b h = grind (arith, nat_tests, h)
 turn_small : (t : ℕ) → is_turn t ≡ true → t ≤ 15
 turn_small t h = le_told t 15 (and_parts (nat_le 1 t) (nat_le t 15) h).1
 
-turns_words : (order : List ℕ) → list_all is_turn order ≡ true → list_all is_word (map decimal order) ≡ true
+pub turns_words : (order : List ℕ) → list_all is_turn order ≡ true → list_all is_word (map decimal order) ≡ true
 turns_words [] h = refl
 turns_words (t ∷ order) h =
     let two = and_parts (is_turn t) (list_all is_turn order) h in
@@ -55,7 +55,7 @@ screen_words s h =
 budget_words : (s : Tree) → IsScript s → list_all is_word (decimal s.budget ∷ []) ≡ true
 budget_words s h = let n : s.budget < 2 ^ 64 = omega (arith, h.budget.1) in and_from _ _ (decimal_word s.budget n) refl
 
-all_words : (s : Tree) → IsScript s → list_all is_line_of_words (script_words s) ≡ true
+pub all_words : (s : Tree) → IsScript s → list_all is_line_of_words (script_words s) ≡ true
 all_words s h =
     and_from true _ refl (and_from _ _ (screen_words s h) (and_from _ _ (budget_words s h) (and_from _ _ (turns_words s.order h.turns) (lines_are_words (known_of s) (script_lines s) h.lines h.named))))
 
@@ -67,7 +67,7 @@ texts_found s h =
     let len : length (all ++ [] ∷ []) - 1 ≡ length all = omega (arith, length-append all ([] ∷ [])) in
     ap (λ (l : List (List ℕ)). take (length l - 1) l) split ∙ ap (λ (n : ℕ). take n (all ++ [] ∷ [])) len ∙ front all []
 
-small_again : (most n : ℕ) → n ≤ most → n < 2 ^ 64 → small_number_at most (decimal n) ≡ n
+pub small_again : (most n : ℕ) → n ≤ most → n < 2 ^ 64 → small_number_at most (decimal n) ≡ n
 small_again most n le small = let e = number_again n small in ap (λ (x : ℕ). min x most) e ∙ omega arith
 
 width_again : (s : Tree) → IsScript s → width_at (map joined (script_words s)) ≡ s.width
@@ -88,7 +88,7 @@ budget_again s h =
     ap (λ (ws : List (List ℕ)). small_number_at 4294967295 (word_at ws 1)) (words_again (codes "budget") (decimal s.budget ∷ []) refl (budget_words s h))
     ∙ small_again 4294967295 s.budget (omega (arith, h.budget.1)) (omega (arith, h.budget.1))
 
-turns_again : (order : List ℕ) → list_all is_turn order ≡ true → map (small_number_at 255) (map decimal order) ≡ order
+pub turns_again : (order : List ℕ) → list_all is_turn order ≡ true → map (small_number_at 255) (map decimal order) ≡ order
 turns_again [] h = refl
 turns_again (t ∷ order) h =
     let two = and_parts (is_turn t) (list_all is_turn order) h in
@@ -143,24 +143,6 @@ no_lines known seen lines texts none h e clash = let f : None ≡ Some (lines, k
 
 pub these_lines : (known found seen : Known) (lines ls : List Line) (texts : List (List ℕ)) → seen ≡ nothing_known → IsProgram known lines → texts ≡ Texts known lines → Some (ls, found) ≡ lines_at seen texts → (ls ≡ lines) × (found ≡ known)
 these_lines known found seen lines ls texts none h e same = same_pair ls lines found known (same ∙ program_found known seen lines texts none h e)
-
--- ---- through the code's slices
-
-map_drop : {R : Type 0} (read : R → List ℕ) (n : ℕ) (xs : List R) → map read (drop n xs) ≡ drop n (map read xs)
-map_drop read zero xs = refl
-map_drop read (suc n) [] = refl
-map_drop read (suc n) (x ∷ xs) = map_drop read n xs
-
-pub apart_of : {R : Type 0} (read : R → List ℕ) (s : Tree) (bytes : List ℕ) (own lent : List R) → IsScript s → bytes ≡ spelling s → map read own ≡ texts_of bytes → lent ≡ own → Apart (map read lent) s
-apart_of {R = R} read s bytes own lent h e same borrowed = apart s bytes (map read lent) h e (ap (map read) borrowed ∙ same)
-
-pub rest_of : {R : Type 0} (read : R → List ℕ) (s : Tree) (lent : List R) → Apart (map read lent) s → map read (take (length lent - 4) (drop 4 lent)) ≡ Texts (known_of s) (script_lines s)
-rest_of {R = R} read s lent a =
-    let len : length (drop 4 lent) ≤ length lent - 4 = omega (arith, length-drop 4 lent) in
-    ap (map read) (take_all (length lent - 4) (drop 4 lent) len) ∙ map_drop read 4 lent ∙ a.rest
-
-pub too_short : {R : Type 0} (read : R → List ℕ) (s : Tree) (lent : List R) → Apart (map read lent) s → length lent < 4 → ⊥
-too_short read s lent a lt = omega (arith, a.long, length-map lent read)
 
 -- ---- procedures of names and bodies
 
@@ -223,30 +205,8 @@ nests_kept known lines ls lent h e same = ap nests (same ∙ e) ∙ h.nested
 
 -- ---- the tree that was found
 
-abbrev within_form : ℕ → ℕ → ℕ → List ℕ → ℕ → Bool
-within_form w v n turns count = nat_le 1 w && (nat_le w 128 && (nat_le 1 v && (nat_le v 64 && (nat_le 1 n && (nat_le n 65536 && (list_all is_turn turns && (nat_le (length turns) 65536 && (nat_lt 0 count && nat_le count 15))))))))
-
-pub within_same : (s t : Tree) → IsSame t s → is_within s ≡ true → is_within t ≡ true
-unfolding script_lines
-within_same s t h within =
-    ap (λ (x : ℕ). within_form x t.height t.budget t.order (length t.threads)) h.width
-    ∙ ap (λ (x : ℕ). within_form s.width x t.budget t.order (length t.threads)) h.height
-    ∙ ap (λ (x : ℕ). within_form s.width s.height x t.order (length t.threads)) h.budget
-    ∙ ap (λ (x : List ℕ). within_form s.width s.height s.budget x (length t.threads)) h.order
-    ∙ ap (within_form s.width s.height s.budget s.order) (same_threads (bodies_of t.procedures) t.threads (bodies_of s.procedures) s.threads h.lines)
-    ∙ within
-
 abbrev pub tree_of : ℕ → ℕ → ℕ → List ℕ → Names → List ProcedureTree → List (List Statement) → Tree
 tree_of w v n turns names procedures threads = record { width = w; height = v; budget = n; order = turns; names = names; procedures = procedures; threads = threads }
-
-same_parts : (s : Tree) (w v n : ℕ) (turns : List ℕ) (names : Names) (procedures : List ProcedureTree) (threads : List (List Statement)) (texts : List (List ℕ)) → Apart texts s → w ≡ width_at texts → v ≡ height_at texts → n ≡ budget_at texts → turns ≡ order_at texts → IsFound names procedures threads (known_of s) (script_lines s) → IsSame (tree_of w v n turns names procedures threads) s
-unfolding script_lines
-same_parts s w v n turns names procedures threads texts a p q r o found = record { width = p ∙ a.is_width; height = q ∙ a.is_height; budget = r ∙ a.is_budget; order = o ∙ a.is_order; names = found.0; procedures = found.1; lines = found.2 }
-
-pub same_tree : (s t : Tree) (w v n : ℕ) (turns : List ℕ) (names : Names) (procedures : List ProcedureTree) (threads : List (List Statement)) (texts : List (List ℕ)) → t ≡ tree_of w v n turns names procedures threads → Apart texts s → w ≡ width_at texts → v ≡ height_at texts → n ≡ budget_at texts → turns ≡ order_at texts → IsFound names procedures threads (known_of s) (script_lines s) → IsSame t s
-same_tree s t w v n turns names procedures threads texts e a p q r o found =
-    let P : Tree → Type 0 = λ x. IsSame x s in
-    subst P (sym e) (same_parts s w v n turns names procedures threads texts a p q r o found)
 
 program_parts : (w v n : ℕ) (turns : List ℕ) (names : Names) (procedures : List ProcedureTree) (threads : List (List Statement)) → is_within (tree_of w v n turns names procedures threads) ≡ true → IsProgram (known_by names procedures) (code_lines (bodies_of procedures) threads) → IsFitting (tree_of w v n turns names procedures threads)
 unfolding script_lines
@@ -257,21 +217,7 @@ fitting_tree t w v n turns names procedures threads e h g =
     let P : Tree → Type 0 = λ x. IsFitting x in
     subst P (sym e) (program_parts w v n turns names procedures threads (sym (ap is_within e) ∙ h) g)
 
--- ---- trees that say the same
-
-abbrev head_of : ℕ → ℕ → ℕ → List ℕ → List (List (List ℕ))
-head_of w v n turns = (codes "user" ∷ codes "1" ∷ []) ∷ (codes "screen" ∷ decimal w ∷ decimal v ∷ []) ∷ (codes "budget" ∷ decimal n ∷ []) ∷ (codes "order" ∷ map decimal turns) ∷ []
-
-pub same_spelling : (s t : Tree) → IsSame s t → spelling s ≡ spelling t
-unfolding spelling
-same_spelling s t h = ap (flat_map line_text) (
-    ap (λ (x : ℕ). head_of x s.height s.budget s.order ++ map (line_words (known_of s)) (script_lines s)) h.width
-    ∙ ap (λ (x : ℕ). head_of t.width x s.budget s.order ++ map (line_words (known_of s)) (script_lines s)) h.height
-    ∙ ap (λ (x : ℕ). head_of t.width t.height x s.order ++ map (line_words (known_of s)) (script_lines s)) h.budget
-    ∙ ap (λ (x : List ℕ). head_of t.width t.height t.budget x ++ map (line_words (known_of s)) (script_lines s)) h.order
-    ∙ ap (λ (x : Names). head_words t ++ map (line_words (record { names = x; procedures = names_of s.procedures })) (script_lines s)) h.names
-    ∙ ap (λ (x : Names). head_words t ++ map (line_words (record { names = t.names; procedures = x })) (script_lines s)) h.procedures
-    ∙ ap (λ (x : List Line). head_words t ++ map (line_words (known_of t)) x) h.lines)
+-- ---- one tree for a text
 
 pub one_tree : (s t : Tree) → IsScript s → IsScript t → spelling s ≡ spelling t → IsSame s t
 one_tree s t h g e =

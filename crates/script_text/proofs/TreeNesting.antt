@@ -112,6 +112,7 @@ mutual
   statement_stays (statements.Sleep a) k ks i j n few e = plain k ks i j n few e
   statement_stays (statements.Create c) k ks i j n few e = plain k ks i j n few e
   statement_stays (statements.Destroy a) k ks i j n few e = plain k ks i j n few e
+  statement_stays (statements.Compound c) k ks i j n few e = plain k ks i j n few e
   statement_stays statements.Default k ks i j n few e = own_line k ks i j n few (list_any is_procedure (k ∷ ks)) refl e
 
   row_stays : {m : _} (row : Row_of-Statement m) (k : Kind) (ks : List Kind) (i j : ℕ) (n : Nest) → length (k ∷ ks) ≤ 33 → nested_all (Some (nest (k ∷ ks) i j)) (row_lines row) ≡ Some n → Stays (row_depth row) (is_row_of_procedure row) (k ∷ ks) i j n

@@ -8,7 +8,12 @@ pub mod Spelling
 pub mod Limits
 pub mod Reading
 pub mod Nesting
+pub mod Grammar
+pub mod Reasons
+pub mod Heads
+pub mod Steps
 pub mod Building
 pub mod Refusals
+pub mod Judging
 pub mod Programs
 pub mod TreeLimits

@@ -2,7 +2,7 @@
 use Rattle.std.specs.Prelude.{ℕ, ◌+◌, List, [], ◌∷◌, ◌++◌, map}
 use Rattle.std.specs.List.{flat_map}
 use Rattle.script_tree.specs.declared.statement.Statement.{Statement, Row_of-Statement, end_of-Statement, more_of-Statement}
-use Rattle.script_tree.specs.declared.statement.Statement.TheVariants.{Let, Compute, If', IfElse', While', Return, Call, Sleep, Create, Destroy, Default}
+use Rattle.script_tree.specs.declared.statement.Statement.TheVariants.{Let, Compute, If', IfElse', While', Return, Call, Sleep, Create, Destroy, Compound, Default}
 use Rattle.script_tree.specs.Tree.{ProcedureTree, Tree}
 use Rattle.script_lines.specs.declared.line.Line.{Line}
 use Rattle.script_lines.specs.declared.line.Line.TheVariants as lines
@@ -20,6 +20,7 @@ abbrev mutual
   statement_lines (Sleep a) = lines.Sleep a ∷ []
   statement_lines (Create c) = lines.Create c ∷ []
   statement_lines (Destroy a) = lines.Destroy a ∷ []
+  statement_lines (Compound c) = lines.Compound c ∷ []
   statement_lines Default = lines.Default ∷ []
 
   -- the lines of the statements inside of one

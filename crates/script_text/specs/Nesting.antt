@@ -92,6 +92,7 @@ nested n (lines.Call c) = with_kinds n (block_entered n.kinds)
 nested n (lines.Sleep a) = with_kinds n (block_entered n.kinds)
 nested n (lines.Create c) = with_kinds n (block_entered n.kinds)
 nested n (lines.Destroy a) = with_kinds n (block_entered n.kinds)
+nested n (lines.Compound c) = with_kinds n (block_entered n.kinds)
 nested n lines.Default = with_kinds n (procedure_entered n.kinds)
 
 abbrev pub nested_on : Option Nest → Line → Option Nest

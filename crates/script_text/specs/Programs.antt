@@ -1,5 +1,5 @@
 -- What the lines of a text are found to say.
-use Rattle.std.specs.Prelude.{◌≡◌, true, List, length, Option, Some, None}
+use Rattle.std.specs.Prelude.{◌≡◌, ℕ, true, List, length, Option, Some, None}
 use Rattle.std.specs.List.{AllByRecursion}
 use Rattle.script_tree.specs.Tree.{Tree}
 use Rattle.script_lines.specs.declared.line.Line.{Line}
@@ -10,7 +10,7 @@ use Rattle.script_lines.specs.NameLimits.{AreKnown, are_in_order, are_procedures
 use Rattle.script_text.specs.Limits.{is_within}
 use Rattle.script_text.specs.Lines.{names_of, bodies_of, code_lines, script_lines}
 use Rattle.script_text.specs.Nesting.{nests}
-use Rattle.script_text.specs.Refusals.{IsSame}
+use Rattle.script_text.specs.Spelling.{spelling}
 
 -- names and lines within the limits
 pub record IsProgram (known : Known) (lines : List Line) : Type 0 where
@@ -30,7 +30,7 @@ pub record IsFitting (s : Tree) : Type 0 where
   pub within : is_within s ≡ true
   pub program : IsProgram (known_of s) (script_lines s)
 
--- what was found says what s says
-abbrev pub FindsTree : Option Tree → Tree → Type 0
-FindsTree (Some t) s = IsSame t s
-FindsTree None s = ⊥
+-- what was found has this text
+abbrev pub FindsText : Option Tree → List ℕ → Type 0
+FindsText (Some t) bytes = spelling t ≡ bytes
+FindsText None bytes = ⊥

@@ -2,7 +2,7 @@
 use Rattle.std.specs.Prelude.{◌≡◌, ◌≤◌, ◌<◌, ◌+◌, ◌==◌, ℕ, suc, max, Bool, true, false, ◌||◌, List, [], ◌∷◌, ◌++◌, length}
 use Rattle.std.specs.List.{AllByRecursion, list_any, flat_map}
 use Rattle.script_tree.specs.declared.statement.Statement.{Statement, Row_of-Statement, end_of-Statement, more_of-Statement}
-use Rattle.script_tree.specs.declared.statement.Statement.TheVariants.{Let, Compute, If', IfElse', While', Return, Call, Sleep, Create, Destroy, Default}
+use Rattle.script_tree.specs.declared.statement.Statement.TheVariants.{Let, Compute, If', IfElse', While', Return, Call, Sleep, Create, Destroy, Compound, Default}
 use Rattle.script_tree.specs.Tree.{Tree}
 use Rattle.script_lines.specs.declared.line.Line.{Line}
 use Rattle.statement_table.specs.declared.part.Part.{Part}
@@ -23,6 +23,7 @@ abbrev mutual
   depth (Sleep a) = 0
   depth (Create c) = 0
   depth (Destroy a) = 0
+  depth (Compound c) = 0
   depth Default = 0
 
   -- in the statements inside of one
@@ -43,6 +44,7 @@ abbrev mutual
   is_of_procedure (Sleep a) = false
   is_of_procedure (Create c) = false
   is_of_procedure (Destroy a) = false
+  is_of_procedure (Compound c) = false
   is_of_procedure Default = true
 
   -- in the statements inside of one

@@ -1,9 +1,10 @@
 //! Trees from their lines, with a stack of open blocks.
 
-ghost use Rattle.std.specs.Prelude.{◌≡◌, ◌++◌, ◌∷◌, [], length, IfOk, IfSome, OnOk, is_some, true, Some, None, if◌then◌else◌};
+ghost use Rattle.std.specs.Prelude.{◌≡◌, ◌++◌, ◌∷◌, ◌==◌, [], length, IfOk, IfSome, OnOk, is_some, true, not, Some, None, if◌then◌else◌};
 ghost use Rattle.std.specs.List.{list_any};
 ghost use Rattle.script_text.specs.Building.{opening_lines, open_lines, built_lines, kind_of, kinds, nest_of, IsSound};
 ghost use Rattle.script_text.specs.Lines.{body_lines, code_lines, statement_lines};
+ghost use Rattle.script_text.specs.Reasons.{is_if_open};
 ghost use Rattle.script_text.specs.Nesting.{nested, nests, none_open, is_procedure, block_entered, block_opened, procedure_entered, procedure_opened, top_opened, else_opened, closed};
 ghost use Rattle.script_lines.specs.declared.line.Line.TheVariants.{If, Else, While, End};
 
@@ -110,6 +111,19 @@ fn is_procedure(opening: &Opening) -> bool
         Opening::Procedure(_) => true,
         Opening::Thread => false,
         Opening::If(_) => false,
+        Opening::Else(_, _) => false,
+        Opening::While(_) => false,
+    }
+}
+
+/// Whether it is that of an `if` without its `else`.
+fn is_if(opening: &Opening) -> bool
+    ensures { result ≡ is_if_open (kind_of opening.now ∷ []) }
+{
+    match opening {
+        Opening::Procedure(_) => false,
+        Opening::Thread => false,
+        Opening::If(_) => true,
         Opening::Else(_, _) => false,
         Opening::While(_) => false,
     }
@@ -260,8 +274,39 @@ impl Builder {
         open_top(alloc, &mut self.blocks, Opening::Procedure(number))
     }
 
+    /// Whether a block stands open.
+    pub fn is_open(&self) -> bool
+        ensures { result ≡ not (none_open (kinds self.now.blocks.items)) }
+    {
+        !self.blocks.is_empty()
+    }
+
+    /// Whether a thread has ended.
+    pub fn has_thread(&self) -> bool
+        ensures { result ≡ not (length self.now.threads.items == 0) }
+    {
+        !self.threads.is_empty()
+    }
+
+    /// Whether the innermost block is an `if` without its `else`.
+    pub fn is_if_open(&self) -> bool
+        ensures { result ≡ is_if_open (kinds self.now.blocks.items) }
+    {
+        match self.blocks.front() {
+            Some(block) => is_if(&block.opening),
+            None => false,
+        }
+    }
+
+    /// Whether a procedure stands open.
+    pub fn is_in_procedure(&self) -> bool
+        ensures { result ≡ list_any is_procedure (kinds self.now.blocks.items) }
+    {
+        in_procedure(&self.blocks)
+    }
+
     /// Takes one line more; false where it can't stand there.
-    fn take(&mut self, alloc: Global, line: Line) -> Result<bool, AllocError>
+    pub fn take(&mut self, alloc: Global, line: Line) -> Result<bool, AllocError>
         requires { IsSound self.old.procedures.items self.old.threads.items self.old.blocks.items }
         ensures lines { IfOk result (λ taken. taken ≡ true → built_lines self.new.procedures.items self.new.threads.items self.new.blocks.items ≡ built_lines self.old.procedures.items self.old.threads.items self.old.blocks.items ++ line ∷ []) }
         ensures nest { IfOk result (λ taken. (if taken then Some (nest_of self.new.procedures.items self.new.threads.items self.new.blocks.items) else None) ≡ nested (nest_of self.old.procedures.items self.old.threads.items self.old.blocks.items) line) }
@@ -283,6 +328,7 @@ impl Builder {
             Line::Sleep(time) => add_statement(blocks, Statement::Sleep(time)),
             Line::Create(creation) => add_statement(blocks, Statement::Create(creation)),
             Line::Destroy(window) => add_statement(blocks, Statement::Destroy(window)),
+            Line::Compound(compound) => add_statement(blocks, Statement::Compound(compound)),
             Line::Default => add_in_procedure(blocks, Statement::Default),
         }
     }

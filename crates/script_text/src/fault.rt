@@ -5,17 +5,31 @@ ghost use Rattle.script_text.specs.declared.fault.ReadFault.TheVariants.{Memory}
 
 use std::alloc::AllocError;
 
-/// What is wrong with a text.
+/// What is wrong with a text: of a line the first of these that applies.
 #[derive(Clone, Copy, Debug, PartialEq, Eq)]
 pub enum Reason {
-    /// It isn't the text of a script as this version has it; a later one may have it.
-    Later,
+    /// A byte that isn't allowed, or no line feed.
+    Bytes,
+    /// The first word can't stand there, or the number of words or the blanks are wrong.
+    Words,
+    /// A word has the wrong form.
+    Operand,
+    /// A name of a message, a constant or a procedure that isn't known there.
+    Name,
+    /// A procedure's name a second time.
+    Repeated,
+    /// A number or a count beyond its limit.
+    Limit,
+    /// The text ends too early.
+    End,
+    /// The text is too long.
+    Long,
 }
 
 /// Where and why a text was refused.
 #[derive(Clone, Copy, Debug, PartialEq, Eq)]
 pub struct Refusal {
-    /// The line, from 1 on; 0 where no line is told.
+    /// The first bad line, from 1 on; 0 where the text is too long.
     pub line: u32,
     /// What is wrong there.
     pub reason: Reason,

@@ -40,6 +40,7 @@ fn put_statement(statement: &Statement, lines: &mut Vec<Line>) -> Result<(), All
         Statement::Sleep(time) => lines.push(Line::Sleep(*time))?,
         Statement::Create(creation) => lines.push(Line::Create(*creation))?,
         Statement::Destroy(window) => lines.push(Line::Destroy(*window))?,
+        Statement::Compound(compound) => lines.push(Line::Compound(*compound))?,
         Statement::Default => lines.push(Line::Default)?,
     }
     Ok(())

@@ -49,6 +49,8 @@
 mod builder;
 mod fault;
 mod flatten;
+mod head;
+mod judge;
 mod laws;
 mod limits;
 mod parser;
@@ -56,11 +58,11 @@ mod reader;
 mod writer;
 
 pub use fault::{ReadFault, Reason, Refusal};
-pub use laws::limits_of_the_tree;
+pub use laws::{limits_of_the_tree, texts_are_whole};
 pub use limits::SCRIPT_LIMIT;
 pub use reader::{one_tree, read};
 pub use script_tree::{
-    Body, CallStatement, Comparison, Creation, Letter, Name, Operand, Operator, Procedure, Script,
-    Statement, Test, Variable,
+    Body, CallStatement, Comparison, CompoundStatement, Creation, Letter, Name, Operand, Operator,
+    Procedure, Script, Statement, Test, Variable,
 };
 pub use writer::write;

@@ -12,6 +12,9 @@ use statement_table::Part;
 /// How many bytes the text of a script has at most.
 pub const SCRIPT_LIMIT: usize = 1048576;
 
+/// How many threads a script has at most.
+pub const THREAD_LIMIT: usize = 15;
+
 /// Whether all numbers are those of threads.
 fn all_turns(order: &[u8]) -> bool
     ensures { result ≡ list_all is_turn order.now }
@@ -41,7 +44,7 @@ pub fn fits(script: &Script) -> bool
         && all_turns(script.order())
         && script.order().len() <= 65536
         && !threads.is_empty()
-        && threads.len() <= 15
+        && threads.len() <= THREAD_LIMIT
 }
 
 /// How many names there are after one more, where there were so many. None comes where it is neither
@@ -69,7 +72,7 @@ fn seen_with_part(count: usize, seen: usize, part: Part) -> Option<usize>
 }
 
 /// How many names there are after these parts of a line, where there were so many before.
-fn seen_in(count: usize, before: usize, parts: &[Part]) -> Option<usize>
+pub fn seen_in(count: usize, before: usize, parts: &[Part]) -> Option<usize>
     ensures { result ≡ seen_after count (Some before) parts.now }
 {
     let mut seen = before;
@@ -114,7 +117,7 @@ fn begun_with_part(count: usize, begun: usize, part: Part) -> Option<usize>
 }
 
 /// How many procedures have begun after these parts of a line, where so many had before.
-fn begun_in(count: usize, before: usize, parts: &[Part]) -> Option<usize>
+pub fn begun_in(count: usize, before: usize, parts: &[Part]) -> Option<usize>
     ensures { result ≡ begun_after count (Some before) parts.now }
 {
     let mut begun = before;

@@ -3,17 +3,15 @@
 
 ghost use Rattle.std.specs.Prelude.{◌≡◌, List, IfOk, IfSome, length, map};
 ghost use Rattle.std.specs.List.{zip};
-ghost use Rattle.script_tree.specs.Tree.{Tree};
 ghost use Rattle.script_lines.specs.declared.line.Line.{Line};
 ghost use Rattle.script_lines.specs.Known.{Known};
 ghost use Rattle.script_lines.specs.LineReading.{split_at, texts_of};
 ghost use Rattle.script_lines.specs.LineTexts.{joined};
 ghost use Rattle.script_lines.specs.Words.{line_words};
-ghost use Rattle.script_text.specs.Limits.{IsScript};
+ghost use Rattle.script_text.specs.Grammar.{IsWhole};
 ghost use Rattle.script_text.specs.Lines.{names_of, bodies_of, code_lines, procedure_of};
-ghost use Rattle.script_text.specs.Programs.{IsProgram, Finds, IsFitting, FindsTree};
+ghost use Rattle.script_text.specs.Programs.{IsProgram, Finds, IsFitting, FindsText};
 ghost use Rattle.script_text.specs.Reading.{small_number_at, width_at, height_at, budget_at, order_at};
-ghost use Rattle.script_text.specs.Spelling.{spelling};
 
 use crate::builder::build;
 use crate::limits::{are_all_in_order, fits};
@@ -127,7 +125,7 @@ fn program_at(
 /// The script that a text may spell.
 pub fn parse(alloc: Global, tables: &NameTables, bytes: &[u8]) -> Result<Option<Script>, AllocError>
     ensures fits { IfOk result (λ found. IfSome found IsFitting) }
-    ensures again { IfOk result (λ found. (s : Tree) → IsScript s → bytes.now ≡ spelling s → FindsTree found s) }
+    ensures again { IfOk result (λ found. IsWhole bytes.now → FindsText found bytes.now) }
 {
     let texts = texts_of(alloc, bytes)?;
     let [_, _, _, _, lines @ ..] = texts.as_slice() else {

@@ -1,12 +1,14 @@
 //! Reading a script: its text is taken apart loosely, spelled again, and compared.
 
-ghost use Rattle.std.specs.Prelude.{◌≡◌, ◌↔◌, IsTrue, IfOk, IfErr};
+ghost use Rattle.std.specs.Prelude.{◌≡◌, ◌↔◌, ◌≤◌, length, IsTrue, IfOk, IfErr};
 ghost use Rattle.script_tree.specs.Tree.{Tree};
+ghost use Rattle.script_text.specs.Grammar.{IsWhole};
 ghost use Rattle.script_text.specs.Limits.{IsScript};
 ghost use Rattle.script_text.specs.Refusals.{HasCause, IsSame};
 ghost use Rattle.script_text.specs.Spelling.{spelling};
 
 use crate::fault::{ReadFault, Reason, Refusal};
+use crate::judge::first_refusal;
 use crate::limits::SCRIPT_LIMIT;
 use crate::parser::parse;
 use crate::writer::write_with;
@@ -14,10 +16,10 @@ use script_lines::NameTables;
 use script_tree::Script;
 use std::alloc::Global;
 
-/// The refusal of every text that isn't a script.
-const REFUSED: ReadFault = ReadFault::Refused(Refusal {
+/// The refusal of a text that is too long.
+const TOO_LONG: ReadFault = ReadFault::Refused(Refusal {
     line: 0,
-    reason: Reason::Later,
+    reason: Reason::Long,
 });
 
 /// Whether two texts are the same.
@@ -32,23 +34,38 @@ pub fn one_tree()
     ensures { (s : Tree) (t : Tree) → IsScript s → IsScript t → spelling s ≡ spelling t → IsSame s t }
 {}
 
-/// The script whose text the bytes are. `Refused`, with line 0 and `Later`, comes exactly where no
-/// script has this text, one that is too long among them. The form of scripts is this project's own.
+/// Why a text is refused that isn't a script's, however long.
+fn refused(alloc: Global, tables: &NameTables, bytes: &[u8]) -> ReadFault
+    requires short { length bytes.now ≤ 1048576 }
+    requires other { IsWhole bytes.now → ⊥ }
+    ensures { HasCause bytes.now result }
+{
+    match first_refusal(alloc, tables, bytes) {
+        Ok(refusal) => ReadFault::Refused(refusal),
+        Err(error) => ReadFault::from(error),
+    }
+}
+
+/// The script whose text the bytes are. `Refused` comes exactly where no script has this text. It tells the
+/// first bad line, the least number of lines with which no script begins, or one more than there are where the
+/// text ends too early, and the first reason that applies to it; line 0 and `Long` where the text has more than
+/// 1,048,576 bytes. The form of scripts is this project's own.
 pub fn read(alloc: Global, bytes: &[u8]) -> Result<Script, ReadFault>
     ensures script { IfOk result (λ s. IsScript s) }
     ensures text { IfOk result (λ s. bytes.now ≡ spelling s) }
+    ensures whole { IfOk result (λ s. IsWhole bytes.now) }
     ensures cause { IfErr result (HasCause bytes.now) }
 {
     if bytes.len() > SCRIPT_LIMIT {
-        return Err(REFUSED);
+        return Err(TOO_LONG);
     }
     let tables = NameTables::new();
     let Some(script) = parse(alloc, &tables, bytes)? else {
-        return Err(REFUSED);
+        return Err(refused(alloc, &tables, bytes));
     };
     let text = write_with(alloc, &tables, &script)?;
     if !same_text(&text, bytes) {
-        return Err(REFUSED);
+        return Err(refused(alloc, &tables, bytes));
     }
     Ok(script)
 }

@@ -7,7 +7,7 @@ use Rattle.user_model.specs.declared.call.Call.TheVariants.{EndThread, Doom, Lea
 use Rattle.user_model.specs.declared.entry.Answer.{Answer}
 use Rattle.user_model.specs.declared.entry.Answer.TheVariants.{Wait, Enter, Callback, Begun, Refused}
 use Rattle.script_tree.specs.declared.statement.Statement.{Statement}
-use Rattle.script_tree.specs.declared.statement.Statement.TheVariants.{Let, Compute, If', IfElse', While', Return, Call as CallOf, Sleep, Create, Destroy, Default as DefaultOf}
+use Rattle.script_tree.specs.declared.statement.Statement.TheVariants.{Let, Compute, If', IfElse', While', Return, Call as CallOf, Sleep, Create, Destroy, Compound as CompoundOf, Default as DefaultOf}
 use Rattle.script_tree.specs.declared.frame.Lead.{Lead}
 use Rattle.script_tree.specs.declared.frame.Lead.TheVariants.{Calls, Runs, Ends as EndsSo}
 use Rattle.script_tree.specs.declared.variables.Parameters.{Parameters}
@@ -20,7 +20,7 @@ use Rattle.script_tree.specs.Steps.{step, statement, begins, returns_to, takes, 
 use Rattle.script_tree.specs.Stacks.{Kind, Goes, Returns, Gives, kind_of}
 use Rattle.script_tree.specs.Traces.{Makes, over, silent, entry, cut, IsTrace, GoesOn, EndsAfter}
 use Rattle.script_tree.proofs.Defaults.{default_either}
-use Rattle.script_tree.proofs.PlainCalls.{LeadIsPlain, plain_compound, plain_statement, plain_goes_on}
+use Rattle.script_tree.proofs.PlainCalls.{LeadIsPlain, plain_begin, plain_default, plain_compound, plain_statement, plain_goes_on}
 
 -- pieces that make no `end_thread`, where each gets what it can begin with
 abbrev Fit : List Piece → Kind → Type 0
@@ -58,7 +58,7 @@ either left true x y f g = f
 either left false x y f g = g
 
 default_fits : (left : List Piece) (p : Parameters) (ps : List Piece) (v : Variables) → Fit (ps ++ left) Gives → FitStep left (Becomes (default_pieces p ps) (Going v))
-default_fits left p ps v h = default_either (λ qs. FitStep left (Becomes qs (Going v))) p ps (λ e. ((λ f. absurd cc), h)) (λ e. ((λ f. absurd cc), h)) (λ e. ((λ f. absurd cc), h)) (λ e d f. h)
+default_fits left p ps v h = default_either (λ qs. FitStep left (Becomes qs (Going v))) p ps (λ b e. (plain_goes_on b.call (plain_default p b e), h)) (λ e. h)
 
 statement_fits : (left : List Piece) (line : Statement) (v : Variables) (n : ℕ) → Fit left Goes × Fit left Returns → FitStep left (statement line v n)
 statement_fits left (Let x e) v n h = h.0
@@ -71,6 +71,7 @@ statement_fits left (CallOf ask) v n h = (plain_goes_on _ (plain_statement ask v
 statement_fits left (Sleep e) v n h = ((λ e. absurd cc), h.0)
 statement_fits left (Create c) v n h = ((λ e. absurd cc), h.0)
 statement_fits left (Destroy e) v n h = ((λ e. absurd cc), h.0)
+statement_fits left (CompoundOf c) v n h = (plain_goes_on _ (plain_begin c v), h.0)
 statement_fits left DefaultOf v n h = default_fits left v.parameters (Settle (Doom v.parameters.hwnd) ∷ []) v h.0
 
 compound_fits : (left : List Piece) (v : Variables) (next : Lead) → LeadIsPlain next → Fit left Gives → FitStep left (goes_on v next)

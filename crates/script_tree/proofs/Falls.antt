@@ -5,7 +5,7 @@ use Rattle.user_model.specs.declared.entry.Answer.{Answer}
 use Rattle.user_model.specs.declared.entry.Answer.TheVariants.{Refused}
 use Rattle.user_model.specs.declared.call.Call.TheVariants.{Doom, Yield}
 use Rattle.script_tree.specs.declared.statement.Statement.{Statement, Row_of-Statement, end_of-Statement, more_of-Statement, items-the_row-Statement}
-use Rattle.script_tree.specs.declared.statement.Statement.TheVariants.{Let, Compute, If', IfElse', While', Return, Call as CallOf, Sleep, Create, Destroy, Default as DefaultOf}
+use Rattle.script_tree.specs.declared.statement.Statement.TheVariants.{Let, Compute, If', IfElse', While', Return, Call as CallOf, Sleep, Create, Destroy, Compound as CompoundOf, Default as DefaultOf}
 use Rattle.script_tree.specs.declared.frame.Lead.{Lead}
 use Rattle.script_tree.specs.declared.frame.Lead.TheVariants.{Calls, Runs, Ends}
 use Rattle.script_tree.specs.declared.variables.Variables.{Variables}
@@ -58,7 +58,8 @@ module _ (s : Tree) (n : ℕ) (left : List Piece) where
   statement_falls (Sleep e) v = omega arith
   statement_falls (Create c) v = omega arith
   statement_falls (Destroy e) v = omega arith
-  statement_falls DefaultOf v = default_either (λ qs. Falls s n left (steps_left s n (One DefaultOf ∷ left) (Going v)) (Becomes qs (Going v))) v.parameters (Settle (Doom v.parameters.hwnd) ∷ []) (λ e. omega arith) (λ e. omega arith) (λ e. omega arith) (λ e d f. omega arith)
+  statement_falls (CompoundOf c) v = omega arith
+  statement_falls DefaultOf v = default_either (λ qs. Falls s n left (steps_left s n (One DefaultOf ∷ left) (Going v)) (Becomes qs (Going v))) v.parameters (Settle (Doom v.parameters.hwnd) ∷ []) (λ b e. omega arith) (λ e. omega arith)
 
   turn_falls : (b : Bool) (loop : Statement) (v : Variables) → Falls s n left (if b then 1 else 2 + weight loop + max (costs s n left).going (costs s n left).returning) (if b then Becomes (Making Yield ∷ Quiet ∷ One loop ∷ []) (Going v) else Becomes (One loop ∷ []) (Going v))
   turn_falls true loop v = omega arith
@@ -80,7 +81,7 @@ module _ (s : Tree) (n : ℕ) (left : List Piece) where
   begins_falls (PassEnd loop began) v = turn_falls (n == began) loop v
   begins_falls (Making call) v = tt
   begins_falls (Running run) v = omega arith
-  begins_falls (Leaving run) v = either _ (is_callback run.frame) _ _ (omega arith) (default_either (λ qs. Falls s n left 6 (Becomes qs (Going v))) run.parameters (Left (default_result run.parameters) ∷ Leaving run ∷ []) (λ e. omega arith) (λ e. omega arith) (λ e. omega arith) (λ e d f. omega arith))
+  begins_falls (Leaving run) v = either _ (is_callback run.frame) _ _ (omega arith) (default_either (λ qs. Falls s n left 6 (Becomes qs (Going v))) run.parameters (Left (default_result run.parameters) ∷ Leaving run ∷ []) (λ b e. omega arith) (λ e. omega arith))
   begins_falls (Leaves frame x) v = tt
   begins_falls p v = omega arith
 

@@ -2,6 +2,7 @@ pub mod Defaults
 pub mod EndLaws
 pub mod Falls
 pub mod ListedAnswers
+pub mod Numbers
 pub mod PastLaws
 pub mod PlainCalls
 pub mod RowKinds

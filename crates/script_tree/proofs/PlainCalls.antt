@@ -1,25 +1,38 @@
--- Statements and compounds make no `await`, no `leave` and no `end_thread`.
-use Rattle.std.proofs.Common.{◌≢◌, ℕ, Bool, true, false}
-use Rattle.std.specs.Prelude.{◌==◌, if◌then◌else◌}
+-- Statements and compounds make no `await`, no `leave`, no `end_thread` and no call of the clock's actor.
+use Rattle.std.proofs.Common.{◌≡◌, ◌≢◌, ℕ, Bool, true, false}
+use Rattle.std.specs.Prelude.{◌==◌, if◌then◌else◌, Option, Some, None}
 use Rattle.user_model.specs.declared.call.Call.{Call}
-use Rattle.user_model.specs.declared.call.Call.TheVariants.{Await, Leave, EndThread}
+use Rattle.user_model.specs.declared.call.Call.TheVariants.{Await, Leave, EndThread, Tick, Advance}
 use Rattle.user_model.specs.declared.entry.Answer.{Answer}
-use Rattle.user_model.specs.declared.entry.Answer.TheVariants.{Window, Tell, Last, Refused}
+use Rattle.user_model.specs.declared.entry.Answer.TheVariants.{Value, Window, Tell, Last, Refused}
 use Rattle.script_tree.specs.declared.statement.CallStatement.{CallStatement}
 use Rattle.script_tree.specs.declared.statement.CallStatement.TheVariants.{Yield}
+use Rattle.script_tree.specs.declared.statement.CompoundStatement.{CompoundStatement}
+use Rattle.script_tree.specs.declared.statement.CompoundStatement.TheVariants.{PostAll, NotifyAll}
+use Rattle.script_tree.specs.declared.frame.Begin.{Begin}
+use Rattle.script_tree.specs.declared.frame.Notice.{Notice}
+use Rattle.script_tree.specs.declared.frame.Notices.{Notices}
+use Rattle.script_tree.specs.declared.frame.Spread.{Spread}
+use Rattle.script_tree.specs.declared.frame.Spread.TheVariants.{Posts, Notifies}
+use Rattle.script_tree.specs.declared.frame.Broadcast.{Broadcast}
 use Rattle.script_tree.specs.declared.frame.Place.{Place}
-use Rattle.script_tree.specs.declared.frame.Place.TheVariants.{Making, Greeting, Telling, Undoing, Dooming, Unmaking, Destroying, Parting, Dropping, Single, Defaulting}
+use Rattle.script_tree.specs.declared.frame.Place.TheVariants.{Making, Greeting, Telling, Undoing, Dooming, Unmaking, Destroying, Parting, Dropping, Single, Calling, Notifying, Seeking, Reaching, Defaulting}
 use Rattle.script_tree.specs.declared.frame.Lead.{Lead}
 use Rattle.script_tree.specs.declared.frame.Lead.TheVariants.{Calls, Runs, Ends}
+use Rattle.script_tree.specs.declared.variables.Parameters.{Parameters}
 use Rattle.script_tree.specs.declared.variables.Variables.{Variables}
 use Rattle.script_tree.specs.Values.{call_of}
-use Rattle.script_tree.specs.Compounds.{compound_after, after_making}
+use Rattle.script_tree.specs.Notices.{number_in, next_notice, others, notices_after, result_after}
+use Rattle.script_tree.specs.Compounds.{compound_begin, default_begin, compound_after, after_making, notifies_by, after_calling, reach_by, reach, after_seeking}
+use Rattle.script_tree.proofs.Defaults.{each_begin}
 
--- a call that neither waits for a send nor ends anything
+-- a call that neither waits for a send nor ends anything, and that threads make
 abbrev pub IsPlain : Call → Type 0
 IsPlain (Await s) = ⊥
 IsPlain (Leave v) = ⊥
 IsPlain EndThread = ⊥
+IsPlain (Tick ms) = ⊥
+IsPlain Advance = ⊥
 IsPlain call = Unit {0}
 
 abbrev pub LeadIsPlain : Lead → Type 0
@@ -35,6 +48,15 @@ pub plain_statement : (ask : CallStatement) (v : Variables) → IsPlain (call_of
 plain_statement Yield v = tt
 plain_statement ask v = tt
 
+-- what a compound begins with is plain
+pub plain_begin : (c : CompoundStatement) (v : Variables) → IsPlain (compound_begin c v).call
+plain_begin (PostAll m p q) v = tt
+plain_begin (NotifyAll m p q) v = tt
+plain_begin c v = tt
+
+pub plain_default : (p : Parameters) (b : Begin) → Some b ≡ default_begin p → IsPlain b.call
+plain_default p b h = each_begin (λ x. IsPlain x.call) p b h (λ e. tt) (λ e. tt) (λ e. tt) (λ e. tt) (λ e. tt)
+
 either : (b : Bool) (x y : Lead) → LeadIsPlain x → LeadIsPlain y → LeadIsPlain (if b then x else y)
 either true x y f g = f
 either false x y f g = g
@@ -43,6 +65,22 @@ plain_making : (a : Answer) → LeadIsPlain (after_making a)
 plain_making (Window w) = tt
 plain_making (Refused code) = tt
 plain_making a = tt
+
+plain_notifies : (o : Option Notice) (n : Notices) (y : ℕ) → LeadIsPlain (notifies_by o n y)
+plain_notifies (Some x) n y = tt
+plain_notifies None n y = tt
+
+plain_calling : (call : Call) (a : Answer) → LeadIsPlain (after_calling call a)
+plain_calling call (Refused code) = tt
+plain_calling call a = plain_notifies (next_notice (notices_after call (number_in a))) (others (notices_after call (number_in a))) (result_after call (number_in a))
+
+plain_reach : (way : Spread) (b : Broadcast) (w : ℕ) → IsPlain (reach_by way b w)
+plain_reach Posts b w = tt
+plain_reach Notifies b w = tt
+
+plain_seeking : (b : Broadcast) (a : Answer) → LeadIsPlain (after_seeking b a)
+plain_seeking b (Refused code) = tt
+plain_seeking b a = either (number_in a == 0) (Ends (Value 1)) (Calls (reach b (number_in a)) (Reaching b (number_in a))) tt (plain_reach b.spread b (number_in a))
 
 -- what a compound does next is plain
 pub plain_compound : (q : Place) (a : Answer) (x : ℕ) → LeadIsPlain (compound_after q a x)
@@ -61,5 +99,9 @@ plain_compound (Destroying w) a x = tt
 plain_compound (Parting w v) a x = tt
 plain_compound (Dropping w) a x = tt
 plain_compound Single a x = tt
+plain_compound (Calling call) a x = plain_calling call a
+plain_compound (Notifying n y) a x = plain_notifies (next_notice n) (others n) y
+plain_compound (Seeking b) a x = plain_seeking b a
+plain_compound (Reaching b w) a x = tt
 plain_compound (Defaulting y) (Refused code) x = tt
 plain_compound (Defaulting y) a x = tt

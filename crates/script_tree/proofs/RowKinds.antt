@@ -4,11 +4,14 @@ use Rattle.user_model.specs.declared.call.Call.{Call}
 use Rattle.user_model.specs.declared.call.Call.TheVariants.{Doom, SleepUntil}
 use Rattle.user_model.specs.declared.entry.Answer.{Answer}
 use Rattle.user_model.specs.declared.entry.Answer.TheVariants.{Refused}
+use Rattle.script_tree.specs.declared.statement.CompoundStatement.{CompoundStatement}
+use Rattle.script_tree.specs.declared.statement.CompoundStatement.TheVariants.{PostAll, NotifyAll}
 use Rattle.script_tree.specs.declared.variables.Parameters.{Parameters}
+use Rattle.script_tree.specs.declared.variables.Variables.{Variables}
 use Rattle.script_tree.specs.Tree.{Tree}
-use Rattle.script_tree.specs.Values.{value_of, call_of, creation_call, time_after}
+use Rattle.script_tree.specs.Values.{value_of, call_of, first_call, creation_call, time_after}
 use Rattle.script_tree.specs.Pieces.{State, Going, Returning, Given, Trace}
-use Rattle.script_tree.specs.Rows.{Point, At, CutBefore, on, settling, giving, returning, restoring, defaulting, undone, Part, Body, Line, Asleep, Frame, Exit, Rows, call_cut, after_cut, body_over, body, body_left, lets, computes, if_holds, if_fails, if_first, if_second, while_ends, while_left, while_cut, while_again, while_yields, returns, makes, sleeps, asleep_refused, asleep, defaults, destroys, creates, call_waits, call_enters, call_back, leave_back, call_inside, call_calls, call_begins, call_ends, frame, exit_returned, exit_callback, exit_default, default_close, default_paint, default_erase, default_greeting, default_other, destruction, doom_refused, doomed, unmaking, unmade_tell, unmade_last, unmade_refused, unmade_gone, create_refused, create_none, created, greeted_no, greeted, told_refused, told_no, told, thread}
+use Rattle.script_tree.specs.Rows.{Point, At, CutBefore, on, settling, giving, returning, restoring, defaulting, undone, Part, Body, Line, Asleep, Frame, Exit, Rows, call_cut, after_cut, body_over, body, body_left, lets, computes, if_holds, if_fails, if_first, if_second, while_ends, while_left, while_cut, while_again, while_yields, returns, makes, sleeps, asleep_refused, asleep, defaults, destroys, creates, compounds, call_waits, call_enters, call_back, leave_back, call_inside, call_calls, call_begins, call_ends, frame, exit_returned, exit_callback, exit_default, default_close, default_paint, default_erase, default_activate, default_cancel, default_greeting, default_other, destruction, doom_refused, doomed, unmaking, unmade_tell, unmade_last, unmade_refused, unmade_gone, create_refused, create_none, created, greeted_no, greeted, told_refused, told_no, told, compound_part, notifying, notified_refused, notified, sends_over, sends_next, broadcasts, found_refused, found_none, found, thread}
 
 -- an answer, or a cut
 abbrev pub IsGiven : Point → Type 0
@@ -44,6 +47,11 @@ cut_kind (Asleep ms) call = tt
 cut_kind (Frame run) call = tt
 cut_kind (Exit run) call = tt
 cut_kind part call = tt
+
+part_given : (c : CompoundStatement) (v : Variables) (out : Point) → HasKind (compound_part c v) out → IsGiven out
+part_given (PostAll m p q) v out k = k
+part_given (NotifyAll m p q) v out k = k
+part_given c v out k = k
 
 settling_run : (call : Call) (got : Point) → IsGiven got → IsRun (on (settling call) got)
 settling_run call (At (Given v a x)) k = tt
@@ -123,6 +131,7 @@ module _ (s : Tree) where
   kind (defaults {v = v} {got = got} d f) = subst IsRun (sym f) (settling_run (Doom v.parameters.hwnd) got (kind d))
   kind (destroys {e = e} {v = v} {got = got} d f) = subst IsRun (sym f) (settling_run (Doom (value_of e v)) got (kind d))
   kind (creates {c = c} {v = v} {got = got} d e f g) = subst IsRun (sym g) (settling_run (creation_call c v) got (kind e))
+  kind (compounds {c = c} {v = v} {got = got} d f) = subst IsRun (sym f) (settling_run (first_call c v) got (part_given c v got (kind d)))
   kind (call_waits d) = kind d
   kind (call_enters h d e f) = kind e
   kind (call_back h g d e f) = kind e
@@ -138,8 +147,10 @@ module _ (s : Tree) where
   kind (default_close {got = got} h d f) = subst IsGiven (sym f) (defaulting_given 0 got (kind d))
   kind (default_paint {got = got} h d f) = subst IsGiven (sym f) (defaulting_given 0 got (kind d))
   kind (default_erase {got = got} h d f) = subst IsGiven (sym f) (defaulting_given 1 got (kind d))
+  kind (default_activate {got = got} h g d f) = subst IsGiven (sym f) (defaulting_given 0 got (kind d))
+  kind (default_cancel {got = got} h d f) = subst IsGiven (sym f) (defaulting_given 0 got (kind d))
   kind (default_greeting h) = tt
-  kind (default_other h g k i) = tt
+  kind (default_other h g k a c i) = tt
   kind (destruction d e f) = kind e
   kind (doom_refused h) = tt
   kind (doomed h d) = kind d
@@ -156,4 +167,13 @@ module _ (s : Tree) where
   kind (told_refused {got = got} h d f) = subst IsGiven (sym f) (undone_given got (kind d))
   kind (told_no {got = got} h g d f) = subst IsGiven (sym f) (undone_given got (kind d))
   kind (told h g) = tt
+  kind (notifying d e f) = kind e
+  kind (notified_refused h) = tt
+  kind (notified h d) = kind d
+  kind (sends_over h) = tt
+  kind (sends_next h d e f) = kind e
+  kind (broadcasts d e f) = kind e
+  kind (found_refused h) = tt
+  kind (found_none h g) = tt
+  kind (found h g d e f) = kind e
   kind (thread d e f) = kind e

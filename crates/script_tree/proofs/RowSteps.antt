@@ -1,32 +1,28 @@
 -- Where the places of compounds and the answers to calls lead, as the rows say it.
 use Rattle.std.proofs.Common.{◌≡◌, ◌≢◌, ℕ, ◌+◌, Bool, true, false, List, [], ◌∷◌, length, refl, ap, ◌∙◌, arith}
-use Rattle.std.proofs.lemmas.Bool.Decides.{nat_tests}
-use Rattle.std.specs.Prelude.{if◌then◌else◌, ◌==◌, not}
+use Rattle.std.specs.Prelude.{if◌then◌else◌, ◌==◌, not, Some, None}
 use Rattle.user_model.specs.declared.call.Call.{Call}
 use Rattle.user_model.specs.declared.entry.Answer.{Answer}
 use Rattle.user_model.specs.declared.entry.Answer.TheVariants.{Wait, Value, Window as WindowMade, Called, Inside, Begun, Enter, Callback, Tell, Last, Refused}
 use Rattle.user_model.specs.Stacks.{waits}
-use Rattle.script_tree.specs.declared.messages.TheConstants.{WM_PAINT, WM_ERASEBKGND, WM_CLOSE, WM_NCCREATE, WM_CREATE}
+use Rattle.script_tree.specs.declared.messages.TheConstants.{WM_PAINT, WM_ERASEBKGND, WM_CLOSE, WM_ACTIVATE, WM_CANCELMODE, WM_NCCREATE, WM_CREATE}
 use Rattle.script_tree.specs.declared.variables.Parameters.{Parameters}
 use Rattle.script_tree.specs.declared.variables.Variables.{Variables}
-use Rattle.script_tree.specs.declared.frame.Place.TheVariants.{Telling}
+use Rattle.script_tree.specs.declared.frame.Place.TheVariants.{Telling, Notifying, Reaching}
+use Rattle.script_tree.specs.declared.frame.Notice.{Notice}
+use Rattle.script_tree.specs.declared.frame.Notices.{Notices}
+use Rattle.script_tree.specs.declared.frame.Broadcast.{Broadcast}
+use Rattle.script_tree.specs.declared.operand.Operand.{Operand}
+use Rattle.script_tree.specs.declared.statement.CompoundStatement.{CompoundStatement}
+use Rattle.script_tree.specs.declared.statement.CompoundStatement.TheVariants.{PostAll, NotifyAll}
+use Rattle.script_tree.specs.Notices.{number_in, next_notice, others, notices_after, result_after}
+use Rattle.script_tree.specs.Values.{first_call}
 use Rattle.script_tree.specs.declared.frame.Lead.TheVariants.{Calls as CallsLead, Ends}
-use Rattle.script_tree.specs.Compounds.{sent, undoes, unmakes, default_result, after_making, after_greeting, kept_or_undone, after_telling, after_dooming, after_unmaking}
+use Rattle.script_tree.specs.Compounds.{sent, undoes, unmakes, default_result, after_making, after_greeting, kept_or_undone, after_telling, after_dooming, after_unmaking, notifying, compound_begin, notice_call, notifies_by, notifies, after_calling, reach, reaches_or_ends, after_seeking}
 use Rattle.script_tree.specs.Pieces.{Piece, State, Trace}
 use Rattle.script_tree.specs.Steps.{following, follows, given, after_answer, answered, is_last}
 use Rattle.script_tree.specs.Rows.{ends_call, is_final, is_refusal, is_made, is_undone}
-
-pub same_number : (x y : ℕ) → x ≡ y → (x == y) ≡ true
-same_number x y h = grind (arith, nat_tests)
-
-pub other_number : (x y : ℕ) → x ≢ y → (x == y) ≡ false
-other_number x y h = grind (arith, nat_tests)
-
-pub number_is : (x y : ℕ) → (x == y) ≡ true → x ≡ y
-number_is x y h = grind (arith, nat_tests)
-
-pub number_isnt : (x y : ℕ) → (x == y) ≡ false → x ≢ y
-number_isnt x y h = grind (arith, nat_tests)
+use Rattle.script_tree.proofs.Numbers.{same_number, other_number}
 
 -- a pass with an entry, and one with none
 pub counted : (first : Trace) (n m : ℕ) → first ≢ [] → m ≡ n + length first → (m == n) ≡ false
@@ -85,6 +81,48 @@ kept_no w x h = ap (λ z. if z then undoes w else Ends (Value w)) (same_number x
 pub kept_yes : (w x : ℕ) → x ≢ 18446744073709551615 → kept_or_undone w x ≡ Ends (Value w)
 kept_yes w x h = ap (λ z. if z then undoes w else Ends (Value w)) (other_number x 18446744073709551615 h)
 
+-- the places of a compound that sends messages
+pub calling_ends : (call : Call) (a : Answer) → is_refusal a ≡ true → after_calling call a ≡ Ends a
+calling_ends call (Refused code) h = refl
+calling_ends call _ h = absurd cc
+
+pub calling_goes : (call : Call) (a : Answer) → is_refusal a ≡ false → after_calling call a ≡ notifies (notices_after call (number_in a)) (result_after call (number_in a))
+calling_goes call (Refused code) h = absurd cc
+calling_goes call _ h = refl
+
+pub notifies_over : (n : Notices) (y : ℕ) → next_notice n ≡ None → notifies n y ≡ Ends (Value y)
+notifies_over n y h = ap (λ o. notifies_by o (others n) y) h
+
+pub notifies_next : (n : Notices) (x : Notice) (y : ℕ) → next_notice n ≡ Some x → notifies n y ≡ CallsLead (notice_call x) (Notifying (others n) y)
+notifies_next n x y h = ap (λ o. notifies_by o (others n) y) h
+
+-- and of one that goes through the top-level windows
+pub seeking_ends : (b : Broadcast) (a : Answer) → is_refusal a ≡ true → after_seeking b a ≡ Ends a
+seeking_ends b (Refused code) h = refl
+seeking_ends b _ h = absurd cc
+
+seeking_goes : (b : Broadcast) (a : Answer) → is_refusal a ≡ false → after_seeking b a ≡ reaches_or_ends b (number_in a)
+seeking_goes b (Refused code) h = absurd cc
+seeking_goes b _ h = refl
+
+pub seeking_none : (b : Broadcast) (a : Answer) → is_refusal a ≡ false → number_in a ≡ 0 → after_seeking b a ≡ Ends (Value 1)
+seeking_none b a h g = seeking_goes b a h ∙ ap (λ z. if z then Ends (Value 1) else CallsLead (reach b (number_in a)) (Reaching b (number_in a))) (same_number (number_in a) 0 g)
+
+pub seeking_next : (b : Broadcast) (a : Answer) → is_refusal a ≡ false → number_in a ≢ 0 → after_seeking b a ≡ CallsLead (reach b (number_in a)) (Reaching b (number_in a))
+seeking_next b a h g = seeking_goes b a h ∙ ap (λ z. if z then Ends (Value 1) else CallsLead (reach b (number_in a)) (Reaching b (number_in a))) (other_number (number_in a) 0 g)
+
+-- a compound statement begins with its first call
+pub begins_with_first : (c : CompoundStatement) (v : Variables) → (compound_begin c v).call ≡ first_call c v
+begins_with_first (PostAll m p q) v = refl
+begins_with_first (NotifyAll m p q) v = refl
+begins_with_first c v = refl
+
+-- one that doesn't go through the top-level windows sends messages
+pub begins_otherwise : (c : CompoundStatement) (v : Variables) → ((m p q : Operand) → c ≡ PostAll m p q → ⊥) → ((m p q : Operand) → c ≡ NotifyAll m p q → ⊥) → compound_begin c v ≡ notifying (first_call c v)
+begins_otherwise (PostAll m p q) v f g = absurd (f m p q refl)
+begins_otherwise (NotifyAll m p q) v f g = absurd (g m p q refl)
+begins_otherwise c v f g = refl
+
 -- the default procedure
 
 -- its result by the two messages that have another than 0
@@ -96,6 +134,12 @@ close_result p h = result_by p false false (other_number p.number WM_NCCREATE (�
 
 pub paint_result : (p : Parameters) → p.number ≡ WM_PAINT → default_result p ≡ 0
 paint_result p h = result_by p false false (other_number p.number WM_NCCREATE (λ e. absurd (omega arith))) (other_number p.number WM_ERASEBKGND (λ e. absurd (omega arith)))
+
+pub activate_result : (p : Parameters) → p.number ≡ WM_ACTIVATE → default_result p ≡ 0
+activate_result p h = result_by p false false (other_number p.number WM_NCCREATE (λ e. absurd (omega arith))) (other_number p.number WM_ERASEBKGND (λ e. absurd (omega arith)))
+
+pub cancel_result : (p : Parameters) → p.number ≡ WM_CANCELMODE → default_result p ≡ 0
+cancel_result p h = result_by p false false (other_number p.number WM_NCCREATE (λ e. absurd (omega arith))) (other_number p.number WM_ERASEBKGND (λ e. absurd (omega arith)))
 
 pub erase_result : (p : Parameters) → p.number ≡ WM_ERASEBKGND → default_result p ≡ 1
 erase_result p h = result_by p false true (other_number p.number WM_NCCREATE (λ e. absurd (omega arith))) (same_number p.number WM_ERASEBKGND h)

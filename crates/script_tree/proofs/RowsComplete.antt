@@ -1,38 +1,46 @@
 -- Each trace of the table of steps is one by the rows.
 use Rattle.std.proofs.Common.{◌≡◌, ◌≢◌, ℕ, ◌+◌, suc, Bool, true, false, List, [], ◌∷◌, ◌++◌, length, refl, sym, ap, ◌∙◌, subst, append_assoc, append-nil, arith}
 use Rattle.std.proofs.Math.ListN.{length-append}
-use Rattle.std.specs.Prelude.{if◌then◌else◌, ◌==◌, not}
+use Rattle.std.specs.Prelude.{if◌then◌else◌, ◌==◌, not, Option, Some, None}
 use Rattle.win_num.specs.declared.message.Hwnd.{Hwnd}
 use Rattle.win_num.specs.declared.send.SendId.{SendId}
 use Rattle.user_model.specs.declared.call.Call.{Call}
-use Rattle.user_model.specs.declared.call.Call.TheVariants.{Await, Leave, Doom, Unmake, Drop, Erase, Clock, SleepUntil, Yield, EndThread}
+use Rattle.user_model.specs.declared.call.Call.TheVariants.{Await, Leave, Doom, Unmake, Drop, NextTop, SetFocus, ReleaseCapture, Erase, Clock, SleepUntil, Yield, EndThread}
 use Rattle.user_model.specs.declared.entry.Answer.{Answer}
 use Rattle.user_model.specs.declared.entry.Answer.TheVariants.{Wait, Value, Window as WindowMade, Called, Inside, Begun, Enter, Callback, Tell, Last, Refused}
 use Rattle.user_model.specs.Stacks.{leaves, waits}
-use Rattle.script_tree.specs.declared.messages.TheConstants.{WM_PAINT, WM_ERASEBKGND, WM_CLOSE, WM_NCCREATE, WM_CREATE, WM_DESTROY, WM_NCDESTROY}
+use Rattle.script_tree.specs.declared.messages.TheConstants.{WM_PAINT, WM_ERASEBKGND, WM_CLOSE, WM_ACTIVATE, WM_CANCELMODE, WM_NCCREATE, WM_CREATE, WM_DESTROY, WM_NCDESTROY}
 use Rattle.win_num.specs.declared.send.Frame.TheVariants.{Inside as InsideFrame, Called as CalledFrame}
 use Rattle.script_tree.specs.declared.operand.Test.{Test}
 use Rattle.script_tree.specs.declared.operand.Operand.{Operand}
 use Rattle.script_tree.specs.declared.statement.Creation.{Creation}
 use Rattle.script_tree.specs.declared.statement.Statement.{Statement, items-the_row-Statement}
-use Rattle.script_tree.specs.declared.statement.Statement.TheVariants.{Let, Compute, If', IfElse', While', Return, Call as CallOf, Sleep, Create, Destroy, Default as DefaultOf}
+use Rattle.script_tree.specs.declared.statement.Statement.TheVariants.{Let, Compute, If', IfElse', While', Return, Call as CallOf, Sleep, Create, Destroy, Compound as CompoundOf, Default as DefaultOf}
 use Rattle.script_tree.specs.declared.variables.Parameters.{Parameters}
 use Rattle.script_tree.specs.declared.variables.Variables.{Variables}
+use Rattle.script_tree.specs.declared.statement.CompoundStatement.{CompoundStatement}
+use Rattle.script_tree.specs.declared.statement.CompoundStatement.TheVariants.{PostAll, NotifyAll}
+use Rattle.script_tree.specs.declared.frame.Begin.{Begin}
+use Rattle.script_tree.specs.declared.frame.Notice.{Notice}
+use Rattle.script_tree.specs.declared.frame.Notices.{Notices}
+use Rattle.script_tree.specs.declared.frame.Broadcast.{Broadcast}
 use Rattle.script_tree.specs.declared.frame.Run.{Run}
 use Rattle.script_tree.specs.declared.frame.Place.{Place}
-use Rattle.script_tree.specs.declared.frame.Place.TheVariants.{Making as MakingWindow, Greeting, Telling, Undoing, Defaulting, Dooming, Unmaking as UnmakingPlace, Destroying, Parting, Dropping, Single}
+use Rattle.script_tree.specs.declared.frame.Place.TheVariants.{Making as MakingWindow, Greeting, Telling, Undoing, Defaulting, Dooming, Unmaking as UnmakingPlace, Destroying, Parting, Dropping, Single, Calling, Notifying as NotifyingPlace, Seeking, Reaching}
 use Rattle.script_tree.specs.declared.frame.Lead.{Lead}
 use Rattle.script_tree.specs.declared.frame.Lead.TheVariants.{Calls as CallsLead, Ends}
 use Rattle.script_tree.specs.Tree.{Tree, body_of, procedure_of}
 use Rattle.script_tree.specs.Values.{value_of, holds, call_of, creation_call, time_after, start, inside_of, settled}
-use Rattle.script_tree.specs.Compounds.{sent, undoes, validation, default_result, after_making, after_greeting, kept_or_undone, after_telling, after_dooming, after_unmaking, after_default, compound_after}
+use Rattle.script_tree.specs.Notices.{number_in, next_notice, others, notices_after, result_after}
+use Rattle.script_tree.specs.Compounds.{sent, undoes, validation, compound_begin, notice_call, notifies_by, notifies, after_calling, reach, reaches_or_ends, after_seeking, default_begin, default_result, after_making, after_greeting, kept_or_undone, after_telling, after_dooming, after_unmaking, after_default, compound_after}
 use Rattle.script_tree.specs.Pieces.{Piece, Lines, One, PassEnd, Making, Again, Giving, Settle, Quiet, Sleeping, Running, Leaving, Leaves, Left, Restore, Feed, State, Going, Returning, Given, Step, Becomes, Asks, Trace, End}
-use Rattle.script_tree.specs.Steps.{step, statement, begins, returns_to, takes, leaving, default_pieces, is_callback, goes_on, sleeps as slept, passes, follows, following, given, answered, after_answer, is_last, parameters_of, run_of, variables_of}
+use Rattle.script_tree.specs.Steps.{step, statement, begins, begun_over, returns_to, takes, leaving, default_pieces, is_callback, goes_on, sleeps as slept, passes, follows, following, given, answered, after_answer, is_last, parameters_of, run_of, variables_of}
 use Rattle.script_tree.specs.Traces.{Makes, over, silent, entry, cut, program, IsTrace}
-use Rattle.script_tree.specs.Rows.{Point, At, CutBefore, on, going, settling, giving, returning, restoring, defaulting, undone, ends_call, is_final, is_refusal, entered, called_back, end_of, ByRows, Part, Body, Line, Asleep, Calls, Frame, Exit, DefaultFor, Destruction, Doomed, Unmaking, Unmade, Created, Greeted, Told, Thread, Rows, call_cut, after_cut, body_over, body, body_left, lets, computes, if_holds, if_fails, if_first, if_second, while_ends, while_left, while_cut, while_again, while_yields, returns, makes, sleeps, asleep_refused, asleep, defaults, destroys, creates, call_waits, call_enters, call_back, leave_back, call_inside, call_calls, call_begins, call_ends, frame, exit_returned, exit_callback, exit_default, default_close, default_paint, default_erase, default_greeting, default_other, destruction, doom_refused, doomed, unmaking, unmade_tell, unmade_last, unmade_refused, unmade_gone, create_refused, create_none, created, greeted_no, greeted, told_refused, told_no, told, thread}
+use Rattle.script_tree.specs.Rows.{Point, At, CutBefore, on, going, settling, giving, returning, restoring, defaulting, undone, ends_call, is_final, is_refusal, entered, called_back, end_of, ByRows, Part, Body, Line, Asleep, Calls, Frame, Exit, DefaultFor, Destruction, Doomed, Unmaking, Unmade, Created, Greeted, Told, Notifying, Notified, Sends, Broadcasts, Found, Thread, Rows, call_cut, after_cut, body_over, body, body_left, lets, computes, if_holds, if_fails, if_first, if_second, while_ends, while_left, while_cut, while_again, while_yields, returns, makes, sleeps, asleep_refused, asleep, defaults, destroys, creates, compounds, call_waits, call_enters, call_back, leave_back, call_inside, call_calls, call_begins, call_ends, frame, exit_returned, exit_callback, exit_default, default_close, default_paint, default_erase, default_activate, default_cancel, default_greeting, default_other, destruction, doom_refused, doomed, unmaking, unmade_tell, unmade_last, unmade_refused, unmade_gone, create_refused, create_none, created, greeted_no, greeted, told_refused, told_no, told, compound_part, notifying, notified_refused, notified, sends_over, sends_next, broadcasts, found_refused, found_none, found, thread}
 use Rattle.script_tree.proofs.RowKinds.{IsGiven, IsReturned, IsRun, HasKind, kind, answering, answering_given, default_answered}
-use Rattle.script_tree.proofs.RowSteps.{counted, uncounted, number_is, number_isnt, close_result, paint_result, erase_result, alone_result}
-use Rattle.script_tree.proofs.Defaults.{default_either, default_append}
+use Rattle.script_tree.proofs.Numbers.{number_is, number_isnt}
+use Rattle.script_tree.proofs.RowSteps.{counted, uncounted, begins_with_first, close_result, paint_result, erase_result, activate_result, cancel_result, alone_result}
+use Rattle.script_tree.proofs.Defaults.{default_either, default_append, each_begin, PassesNone, no_begin, activates_number, activates_some, activates_not}
 
 -- the `yield` of a `while` sets nothing
 abbrev pub quieting : State → State
@@ -78,6 +86,10 @@ CompoundRow s (Destroying w) v a x tr out = Rows s (Unmaking w) (At (Going v)) t
 CompoundRow s (Parting w part) v a x tr out = Two s (Calls (Drop part)) (At (Going v)) (Unmaking w) going tr out
 CompoundRow s (Dropping w) v a x tr out = Rows s (Unmaking w) (At (Going v)) tr out
 CompoundRow s Single v a x tr out = Maps answering (Given v a x) tr out
+CompoundRow s (Calling call) v a x tr out = Rows s (Notified call) (At (Given v a x)) tr out
+CompoundRow s (NotifyingPlace ns y) v a x tr out = Rows s (Sends ns y) (At (Going v)) tr out
+CompoundRow s (Seeking b) v a x tr out = Rows s (Found b) (At (Given v a x)) tr out
+CompoundRow s (Reaching b w) v a x tr out = Rows s (Broadcasts b w) (At (Going v)) tr out
 CompoundRow s (Defaulting y) v a x tr out = Maps (defaulting y) (Given v a x) tr out
 
 -- one of two
@@ -194,6 +206,11 @@ module _ (s : Tree) where
   either_lead : (st : State) (n : ℕ) (P : Trace → Point → Type 0) (v : Variables) (b : Bool) (x y : Lead) → (b ≡ true → StepTo st n P (goes_on v x)) → (b ≡ false → StepTo st n P (goes_on v y)) → StepTo st n P (goes_on v (if b then x else y))
   either_lead st n P v true x y f g = f refl
   either_lead st n P v false x y f g = g refl
+
+  -- and what follows from them
+  step_maps : (st : State) (n : ℕ) (P Q : Trace → Point → Type 0) (x : Step) → ((tr : Trace) (out : Point) → P tr out → Q tr out) → StepTo st n P x → StepTo st n Q x
+  step_maps st n P Q (Becomes ps st') f h = λ tr out d. f tr out (h tr out d)
+  step_maps st n P Q (Asks call) f h = ((λ a tr out d. f ((call, a) ∷ tr) out (h.0 a tr out d)), f [] (CutBefore call) h.1)
 
   -- calls
   final_last : (call : Call) (a : Answer) → a ≢ Wait → is_last call ≡ true → is_final call a ≡ true
@@ -312,6 +329,59 @@ module _ (s : Tree) where
   single_at (Returning v x) m tr out k r = absurd k
   single_at (Given v a x) m tr out k r = r
 
+  notified_at : (call : Call) (mid : State) (m : ℕ) (tr : Trace) (out : Point) → IsGiven (At mid) → RowOf s (Feed (Calling call)) mid m tr out → Rows s (Notified call) (At mid) tr out
+  notified_at call (Going v) m tr out k r = absurd k
+  notified_at call (Returning v x) m tr out k r = absurd k
+  notified_at call (Given v a x) m tr out k r = r
+
+  sends_at : (ns : Notices) (y : ℕ) (mid : State) (m : ℕ) (tr : Trace) (out : Point) → IsGiven (At mid) → RowOf s (Feed (NotifyingPlace ns y)) mid m tr out → Rows s (Sends ns y) (At (going mid)) tr out
+  sends_at ns y (Going v) m tr out k r = absurd k
+  sends_at ns y (Returning v x) m tr out k r = absurd k
+  sends_at ns y (Given v a x) m tr out k r = r
+
+  found_at : (b : Broadcast) (mid : State) (m : ℕ) (tr : Trace) (out : Point) → IsGiven (At mid) → RowOf s (Feed (Seeking b)) mid m tr out → Rows s (Found b) (At mid) tr out
+  found_at b (Going v) m tr out k r = absurd k
+  found_at b (Returning v x) m tr out k r = absurd k
+  found_at b (Given v a x) m tr out k r = r
+
+  reached_at : (b : Broadcast) (w : ℕ) (mid : State) (m : ℕ) (tr : Trace) (out : Point) → IsGiven (At mid) → RowOf s (Feed (Reaching b w)) mid m tr out → Rows s (Broadcasts b w) (At (going mid)) tr out
+  reached_at b w (Going v) m tr out k r = absurd k
+  reached_at b w (Returning v x) m tr out k r = absurd k
+  reached_at b w (Given v a x) m tr out k r = r
+
+  -- compounds that send messages, and those that go through the top-level windows
+  notifying_rows : (call : Call) (v : Variables) (n : ℕ) (tr : Trace) (out : Point) → Parts s (Making call ∷ Feed (Calling call) ∷ []) (Going v) n tr out → Rows s (Notifying call) (At (Going v)) tr out
+  notifying_rows call v n tr out d = let r = call_first call (Feed (Calling call)) (Notified call) same v n tr out (notified_at call) d in notifying r.one (same_other r) r.all
+
+  broadcasts_rows : (b : Broadcast) (w : ℕ) (v : Variables) (n : ℕ) (tr : Trace) (out : Point) → Parts s (Making (NextTop w) ∷ Feed (Seeking b) ∷ []) (Going v) n tr out → Rows s (Broadcasts b w) (At (Going v)) tr out
+  broadcasts_rows b w v n tr out d = let r = call_first (NextTop w) (Feed (Seeking b)) (Found b) same v n tr out (found_at b) d in broadcasts r.one (same_other r) r.all
+
+  part_rows : (c : CompoundStatement) (v : Variables) (n : ℕ) (tr : Trace) (out : Point) → Parts s (Making (compound_begin c v).call ∷ Feed (compound_begin c v).place ∷ []) (Going v) n tr out → Rows s (compound_part c v) (At (Going v)) tr out
+  part_rows (PostAll m p q) v n tr out d = broadcasts_rows _ 0 v n tr out d
+  part_rows (NotifyAll m p q) v n tr out d = broadcasts_rows _ 0 v n tr out d
+  part_rows c v n tr out d = notifying_rows _ v n tr out d
+
+  notifies_rows : (o : Option Notice) (ns : Notices) (y : ℕ) (v : Variables) (a : Answer) (x n : ℕ) → next_notice ns ≡ o → StepTo (Given v a x) n (λ tr out. Rows s (Sends ns y) (At (Going v)) tr out) (goes_on v (notifies_by o (others ns) y))
+  notifies_rows (Some notice) ns y v a x n h = λ tr out d. let r = call_first (notice_call notice) (Feed (NotifyingPlace (others ns) y)) (Sends (others ns) y) going v n tr out (sends_at (others ns) y) d in sends_next h r.one r.other r.all
+  notifies_rows None ns y v a x n h = λ tr out d. empty (λ tr out. Rows s (Sends ns y) (At (Going v)) tr out) (sends_over h) d
+
+  calling_rows : (call : Call) (v : Variables) (a : Answer) (x n : ℕ) → StepTo (Given v a x) n (λ tr out. Rows s (Notified call) (At (Given v a x)) tr out) (goes_on v (after_calling call a))
+  calling_rows call v (Refused code) x n = λ tr out d. empty (λ tr out. Rows s (Notified call) (At (Given v (Refused code) x)) tr out) (notified_refused refl) d
+  calling_rows call v a x n =
+      let ns = notices_after call (number_in a) in
+      let y = result_after call (number_in a) in
+      step_maps (Given v a x) n (λ tr out. Rows s (Sends ns y) (At (Going v)) tr out) (λ tr out. Rows s (Notified call) (At (Given v a x)) tr out) (goes_on v (notifies ns y)) (λ tr out r. notified refl r) (notifies_rows (next_notice ns) ns y v a x n refl)
+
+  reaches_rows : (b : Broadcast) (v : Variables) (a : Answer) (x n : ℕ) → is_refusal a ≡ false → StepTo (Given v a x) n (λ tr out. Rows s (Found b) (At (Given v a x)) tr out) (goes_on v (reaches_or_ends b (number_in a)))
+  reaches_rows b v a x n g =
+      either_lead (Given v a x) n (λ tr out. Rows s (Found b) (At (Given v a x)) tr out) v (number_in a == 0) (Ends (Value 1)) (CallsLead (reach b (number_in a)) (Reaching b (number_in a)))
+      (λ h tr out d. empty (λ tr out. Rows s (Found b) (At (Given v a x)) tr out) (found_none g (number_is (number_in a) 0 h)) d)
+      (λ h tr out d. let r = call_first (reach b (number_in a)) (Feed (Reaching b (number_in a))) (Broadcasts b (number_in a)) going v n tr out (reached_at b (number_in a)) d in found g (number_isnt (number_in a) 0 h) r.one r.other r.all)
+
+  seeking_rows : (b : Broadcast) (v : Variables) (a : Answer) (x n : ℕ) → StepTo (Given v a x) n (λ tr out. Rows s (Found b) (At (Given v a x)) tr out) (goes_on v (after_seeking b a))
+  seeking_rows b v (Refused code) x n = λ tr out d. empty (λ tr out. Rows s (Found b) (At (Given v (Refused code) x)) tr out) (found_refused refl) d
+  seeking_rows b v a x n = reaches_rows b v a x n refl
+
   -- destructions
   unmaking_rows : (w : ℕ) (v : Variables) (n : ℕ) (tr : Trace) (out : Point) → Parts s (Making (Unmake w) ∷ Feed (UnmakingPlace w) ∷ []) (Going v) n tr out → Rows s (Unmaking w) (At (Going v)) tr out
   unmaking_rows w v n tr out d = let r = call_first (Unmake w) (Feed (UnmakingPlace w)) (Unmade w) same v n tr out (unmade_at w) d in unmaking r.one (same_other r) r.all
@@ -352,17 +422,38 @@ module _ (s : Tree) where
   erase_rows : (p : Parameters) (v : Variables) (n : ℕ) (tr : Trace) (out : Point) → p.number ≡ WM_ERASEBKGND → Parts s (Making (Erase p.hwnd) ∷ Feed Single ∷ Feed (Defaulting (default_result p)) ∷ []) (Going v) n tr out → Rows s (DefaultFor p) (At (Going v)) tr out
   erase_rows p v n tr out h d = let r = one_call_rows (Erase p.hwnd) 1 p v n tr out (erase_result p h) d in default_erase h r.row r.result
 
-  other_rows : (b : Bool) (p : Parameters) (v : Variables) (tr : Trace) (out : Point) → p.number ≢ WM_CLOSE → p.number ≢ WM_PAINT → p.number ≢ WM_ERASEBKGND → (p.number == WM_NCCREATE) ≡ b → (tr ≡ []) × (out ≡ At (Given v (Value (if b then 1 else 0)) 0)) → Rows s (DefaultFor p) (At (Going v)) tr out
-  other_rows true p v tr out f g e h k = at_empty (λ tr out. Rows s (DefaultFor p) (At (Going v)) tr out) (Given v (Value 1) 0) tr out (default_greeting (number_is p.number WM_NCCREATE h)) k
-  other_rows false p v tr out f g e h k = at_empty (λ tr out. Rows s (DefaultFor p) (At (Going v)) tr out) (Given v (Value 0) 0) tr out (default_other f g e (number_isnt p.number WM_NCCREATE h)) k
+  notifying_inside : (call : Call) (p : Parameters) (v : Variables) (n : ℕ) (tr : Trace) (out : Point) → default_result p ≡ 0 → Parts s (Making call ∷ Feed (Calling call) ∷ Feed (Defaulting (default_result p)) ∷ []) (Going v) n tr out → Mapped (λ tr out. Rows s (Notifying call) (At (Going v)) tr out) (defaulting 0) tr out
+  notifying_inside call p v n tr out h d =
+      let e = subst (λ x. Parts s (Making call ∷ Feed (Calling call) ∷ Feed (Defaulting x) ∷ []) (Going v) n tr out) h d in
+      mapped_of (Making call ∷ Feed (Calling call) ∷ []) (Feed (Defaulting 0)) (λ tr out. Rows s (Notifying call) (At (Going v)) tr out) (defaulting 0) (Going v) n tr out (notifying_rows call v n) (λ first mid m tr out r k. defaulting_at 0 mid m tr out (kind s r) k) (divide (Making call ∷ Feed (Calling call) ∷ []) (Feed (Defaulting 0) ∷ []) e)
+
+  activate_rows : (p : Parameters) (v : Variables) (n : ℕ) (tr : Trace) (out : Point) → p.number ≡ WM_ACTIVATE → p.wparam ≢ 0 → Parts s (Making (SetFocus p.hwnd) ∷ Feed (Calling (SetFocus p.hwnd)) ∷ Feed (Defaulting (default_result p)) ∷ []) (Going v) n tr out → Rows s (DefaultFor p) (At (Going v)) tr out
+  activate_rows p v n tr out h g d = let r = notifying_inside (SetFocus p.hwnd) p v n tr out (activate_result p h) d in default_activate h g r.row r.result
+
+  cancel_rows : (p : Parameters) (v : Variables) (n : ℕ) (tr : Trace) (out : Point) → p.number ≡ WM_CANCELMODE → Parts s (Making ReleaseCapture ∷ Feed (Calling ReleaseCapture) ∷ Feed (Defaulting (default_result p)) ∷ []) (Going v) n tr out → Rows s (DefaultFor p) (At (Going v)) tr out
+  cancel_rows p v n tr out h d = let r = notifying_inside ReleaseCapture p v n tr out (cancel_result p h) d in default_cancel h r.row r.result
+
+  other_rows : (b : Bool) (p : Parameters) (v : Variables) (tr : Trace) (out : Point) → PassesNone p → (p.number == WM_NCCREATE) ≡ b → (tr ≡ []) × (out ≡ At (Given v (Value (if b then 1 else 0)) 0)) → Rows s (DefaultFor p) (At (Going v)) tr out
+  other_rows true p v tr out f h k = at_empty (λ tr out. Rows s (DefaultFor p) (At (Going v)) tr out) (Given v (Value 1) 0) tr out (default_greeting (number_is p.number WM_NCCREATE h)) k
+  other_rows false p v tr out f h k =
+      at_empty (λ tr out. Rows s (DefaultFor p) (At (Going v)) tr out) (Given v (Value 0) 0) tr out
+      (default_other (number_isnt p.number WM_CLOSE f.0) (number_isnt p.number WM_PAINT f.1) (number_isnt p.number WM_ERASEBKGND f.2) (activates_not p f.3) (number_isnt p.number WM_CANCELMODE f.4) (number_isnt p.number WM_NCCREATE h)) k
+
+  -- with each compound that it begins with
+  begin_rows : (p : Parameters) (b : Begin) (v : Variables) (n : ℕ) (tr : Trace) (out : Point) → Some b ≡ default_begin p → Parts s (begun_over b (Feed (Defaulting (default_result p)) ∷ [])) (Going v) n tr out → Rows s (DefaultFor p) (At (Going v)) tr out
+  begin_rows p b v n tr out e =
+      each_begin (λ x. Parts s (begun_over x (Feed (Defaulting (default_result p)) ∷ [])) (Going v) n tr out → Rows s (DefaultFor p) (At (Going v)) tr out) p b e
+      (λ h d. close_rows p v n tr out (number_is p.number WM_CLOSE h) d)
+      (λ h d. paint_rows p v n tr out (number_is p.number WM_PAINT h) d)
+      (λ h d. erase_rows p v n tr out (number_is p.number WM_ERASEBKGND h) d)
+      (λ h d. activate_rows p v n tr out (activates_number p h) (number_isnt p.wparam 0 (activates_some p h)) d)
+      (λ h d. cancel_rows p v n tr out (number_is p.number WM_CANCELMODE h) d)
 
   default_rows : (p : Parameters) (v : Variables) (n : ℕ) (tr : Trace) (out : Point) → Parts s (default_pieces p []) (Going v) n tr out → Rows s (DefaultFor p) (At (Going v)) tr out
   default_rows p v n tr out =
       default_either (λ qs. Parts s qs (Going v) n tr out → Rows s (DefaultFor p) (At (Going v)) tr out) p []
-      (λ h d. close_rows p v n tr out (number_is p.number WM_CLOSE h) d)
-      (λ h d. paint_rows p v n tr out (number_is p.number WM_PAINT h) d)
-      (λ h d. erase_rows p v n tr out (number_is p.number WM_ERASEBKGND h) d)
-      (λ f g e d. other_rows (p.number == WM_NCCREATE) p v tr out (number_isnt p.number WM_CLOSE f) (number_isnt p.number WM_PAINT g) (number_isnt p.number WM_ERASEBKGND e) refl (subst (λ x. (tr ≡ []) × (out ≡ At (Given v (Value x) 0))) (alone_result p e) (single d)))
+      (λ b e d. begin_rows p b v n tr out e d)
+      (λ e d. let f = no_begin p e in other_rows (p.number == WM_NCCREATE) p v tr out f refl (subst (λ x. (tr ≡ []) × (out ≡ At (Given v (Value x) 0))) (alone_result p f.2) (single d)))
 
   -- and the pieces behind it
   default_divided : (p : Parameters) (ps : List Piece) (v : Variables) (n : ℕ) (tr : Trace) (out : Point) → Parts s (default_pieces p ps) (Going v) n tr out → Divided s (default_pieces p []) ps (Going v) n tr out
@@ -428,6 +519,10 @@ module _ (s : Tree) where
   compound_rows (Parting w part) v a x n = λ tr out d. call_first (Drop part) (Feed (Dropping w)) (Unmaking w) going v n tr out (dropping_at w) d
   compound_rows (Dropping w) v a x n = λ tr out d. unmaking_rows w v n tr out d
   compound_rows Single v a x n = λ tr out d. nothing d
+  compound_rows (Calling call) v a x n = calling_rows call v a x n
+  compound_rows (NotifyingPlace ns y) v a x n = notifies_rows (next_notice ns) ns y v a x n refl
+  compound_rows (Seeking b) v a x n = seeking_rows b v a x n
+  compound_rows (Reaching b w) v a x n = λ tr out d. broadcasts_rows b w v n tr out d
   compound_rows (Defaulting y) v a x n = defaulted_rows y v a x n
 
   -- procedures
@@ -506,6 +601,12 @@ module _ (s : Tree) where
       let r = mapped_of (Making (Doom (value_of e v)) ∷ Feed (Dooming (value_of e v)) ∷ []) (Settle (Doom (value_of e v))) (λ tr out. Rows s (Destruction (value_of e v)) (At (Going v)) tr out) (settling (Doom (value_of e v))) (Going v) n tr out (destruction_rows (value_of e v) v n) (λ first mid m tr out q k. k) (divide (Making (Doom (value_of e v)) ∷ Feed (Dooming (value_of e v)) ∷ []) (Settle (Doom (value_of e v)) ∷ []) d) in
       destroys r.row r.result
 
+  compound_statement : (c : CompoundStatement) (v : Variables) (n : ℕ) (tr : Trace) (out : Point) → Parts s (Making (compound_begin c v).call ∷ Feed (compound_begin c v).place ∷ Settle (compound_begin c v).call ∷ []) (Going v) n tr out → Rows s (Line (CompoundOf c)) (At (Going v)) tr out
+  compound_statement c v n tr out d =
+      let b = compound_begin c v in
+      let r = mapped_of (Making b.call ∷ Feed b.place ∷ []) (Settle b.call) (λ tr out. Rows s (compound_part c v) (At (Going v)) tr out) (settling b.call) (Going v) n tr out (part_rows c v n) (λ first mid m tr out q k. k) (divide (Making b.call ∷ Feed b.place ∷ []) (Settle b.call ∷ []) d) in
+      compounds r.row (r.result ∙ ap (λ x. on (settling x) r.got) (begins_with_first c v))
+
   default_statement : (v : Variables) (n : ℕ) (tr : Trace) (out : Point) → Parts s (default_pieces v.parameters (Settle (Doom v.parameters.hwnd) ∷ [])) (Going v) n tr out → Rows s (Line DefaultOf) (At (Going v)) tr out
   default_statement v n tr out d =
       let r = mapped_of (default_pieces v.parameters []) (Settle (Doom v.parameters.hwnd)) (λ tr out. Rows s (DefaultFor v.parameters) (At (Going v)) tr out) (settling (Doom v.parameters.hwnd)) (Going v) n tr out (default_rows v.parameters v n) (λ first mid m tr out q k. k) (default_divided v.parameters (Settle (Doom v.parameters.hwnd) ∷ []) v n tr out d) in
@@ -528,6 +629,7 @@ module _ (s : Tree) where
   statement_rows (Sleep e) v n = λ tr out d. let r = call_first Clock (Sleeping (value_of e v)) (Asleep (value_of e v)) same v n tr out (asleep_at (value_of e v)) d in sleeps r.one (same_other r) r.all
   statement_rows (Create c) v n = create_rows c v n
   statement_rows (Destroy e) v n = destroy_rows e v n
+  statement_rows (CompoundOf c) v n = compound_statement c v n
   statement_rows DefaultOf v n = default_statement v n
 
   sleep_rows : (ms : ℕ) (v : Variables) (a : Answer) (x n : ℕ) → StepTo (Given v a x) n (λ tr out. Rows s (Asleep ms) (At (Given v a x)) tr out) (slept ms (settled v Clock a x) a x)

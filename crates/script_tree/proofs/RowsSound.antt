@@ -1,33 +1,38 @@
 -- Each trace by the rows is one of the table of steps.
 use Rattle.std.proofs.Common.{◌≡◌, ℕ, ◌+◌, suc, Bool, true, false, List, [], ◌∷◌, ◌++◌, length, refl, sym, ap, ◌∙◌, subst, append_assoc, append-nil, arith}
-use Rattle.std.specs.Prelude.{if◌then◌else◌, ◌==◌}
+use Rattle.std.specs.Prelude.{if◌then◌else◌, ◌==◌, Option, Some, None}
 use Rattle.user_model.specs.declared.call.Call.{Call}
-use Rattle.user_model.specs.declared.call.Call.TheVariants.{Await, Leave, Doom, Unmake, Drop, Erase, Clock, SleepUntil, Yield, EndThread}
+use Rattle.user_model.specs.declared.call.Call.TheVariants.{Await, Leave, Doom, Unmake, Drop, NextTop, SetFocus, ReleaseCapture, Erase, Clock, SleepUntil, Yield, EndThread}
 use Rattle.user_model.specs.declared.entry.Answer.{Answer}
 use Rattle.user_model.specs.declared.entry.Answer.TheVariants.{Wait, Value, Window as WindowMade, Called, Inside, Begun, Enter, Callback, Tell, Last, Refused}
 use Rattle.user_model.specs.Stacks.{waits}
-use Rattle.script_tree.specs.declared.messages.TheConstants.{WM_PAINT, WM_ERASEBKGND, WM_CLOSE, WM_NCCREATE, WM_CREATE, WM_DESTROY, WM_NCDESTROY}
+use Rattle.script_tree.specs.declared.messages.TheConstants.{WM_PAINT, WM_ERASEBKGND, WM_CLOSE, WM_ACTIVATE, WM_CANCELMODE, WM_NCCREATE, WM_CREATE, WM_DESTROY, WM_NCDESTROY}
 use Rattle.win_num.specs.declared.send.Frame.TheVariants.{Inside as InsideFrame, Called as CalledFrame}
 use Rattle.script_tree.specs.declared.operand.Test.{Test}
 use Rattle.script_tree.specs.declared.statement.Statement.{Statement, items-the_row-Statement}
-use Rattle.script_tree.specs.declared.statement.Statement.TheVariants.{Let, Compute, If', IfElse', While', Return, Call as CallOf, Sleep, Create, Destroy, Default as DefaultOf}
+use Rattle.script_tree.specs.declared.statement.Statement.TheVariants.{Let, Compute, If', IfElse', While', Return, Call as CallOf, Sleep, Create, Destroy, Compound as CompoundOf, Default as DefaultOf}
 use Rattle.script_tree.specs.declared.variables.Parameters.{Parameters}
 use Rattle.script_tree.specs.declared.variables.Variables.{Variables}
+use Rattle.script_tree.specs.declared.statement.CompoundStatement.{CompoundStatement}
+use Rattle.script_tree.specs.declared.statement.CompoundStatement.TheVariants.{PostAll, NotifyAll}
 use Rattle.script_tree.specs.declared.frame.Begin.{Begin}
+use Rattle.script_tree.specs.declared.frame.Notices.{Notices}
+use Rattle.script_tree.specs.declared.frame.Broadcast.{Broadcast}
 use Rattle.script_tree.specs.declared.frame.Run.{Run}
 use Rattle.script_tree.specs.declared.frame.Place.{Place}
-use Rattle.script_tree.specs.declared.frame.Place.TheVariants.{Making as MakingWindow, Greeting, Telling, Undoing, Defaulting, Dooming, Unmaking as UnmakingPlace, Destroying, Parting, Dropping, Single}
+use Rattle.script_tree.specs.declared.frame.Place.TheVariants.{Making as MakingWindow, Greeting, Telling, Undoing, Defaulting, Dooming, Unmaking as UnmakingPlace, Destroying, Parting, Dropping, Single, Calling, Notifying as NotifyingPlace, Seeking, Reaching}
 use Rattle.script_tree.specs.declared.frame.Lead.TheVariants.{Calls as CallsLead, Runs as RunsLead, Ends}
 use Rattle.script_tree.specs.Tree.{Tree, body_of, procedure_of}
 use Rattle.script_tree.specs.Values.{value_of, computed, holds, assigned, call_of, creation_call, time_after, start, inside_of, settled}
-use Rattle.script_tree.specs.Compounds.{sent, unmakes, validation, destruction as destruction_begin, default_result, compound_after}
+use Rattle.script_tree.specs.Notices.{number_in, next_notice, others, notices_after, result_after}
+use Rattle.script_tree.specs.Compounds.{sent, unmakes, validation, destruction as destruction_begin, cleaning, erasing, notifying as notifying_begin, compound_begin, notice_call, notifies, reach, default_begin, default_result, compound_after}
 use Rattle.script_tree.specs.Pieces.{Piece, Lines, One, PassEnd, Making, Again, Giving, Settle, Quiet, Sleeping, Running, Leaving, Leaves, Left, Restore, Feed, State, Going, Returning, Given, Becomes, Asks, Trace, End}
 use Rattle.script_tree.specs.Steps.{step, default_pieces, goes_on, sleeps as slept, passes, makes as calls_for, follows, following, given, answered, after_answer, is_last, parameters_of, run_of, variables_of}
 use Rattle.script_tree.specs.Traces.{Makes, over, silent, entry, cut, program, IsTrace}
-use Rattle.script_tree.specs.Rows.{Point, At, CutBefore, on, going, settling, giving, returning, restoring, defaulting, undone, ended, is_refusal, entered, called_back, end_of, ByRows, Part, Body, Line, Asleep, Calls, Frame, Exit, DefaultFor, Destruction, Doomed, Unmaking, Unmade, Created, Greeted, Told, Thread, Rows, call_cut, after_cut, body_over, body, body_left, lets, computes, if_holds, if_fails, if_first, if_second, while_ends, while_left, while_cut, while_again, while_yields, returns, makes, sleeps, asleep_refused, asleep, defaults, destroys, creates, call_waits, call_enters, call_back, leave_back, call_inside, call_calls, call_begins, call_ends, frame, exit_returned, exit_callback, exit_default, default_close, default_paint, default_erase, default_greeting, default_other, destruction, doom_refused, doomed, unmaking, unmade_tell, unmade_last, unmade_refused, unmade_gone, create_refused, create_none, created, greeted_no, greeted, told_refused, told_no, told, thread}
-use Rattle.script_tree.proofs.Defaults.{default_append, default_by}
+use Rattle.script_tree.specs.Rows.{Point, At, CutBefore, on, going, settling, giving, returning, restoring, defaulting, undone, ended, is_refusal, entered, called_back, end_of, ByRows, Part, Body, Line, Asleep, Calls, Frame, Exit, DefaultFor, Destruction, Doomed, Unmaking, Unmade, Created, Greeted, Told, Notifying, Notified, Sends, Broadcasts, Found, Thread, Rows, call_cut, after_cut, body_over, body, body_left, lets, computes, if_holds, if_fails, if_first, if_second, while_ends, while_left, while_cut, while_again, while_yields, returns, makes, sleeps, asleep_refused, asleep, defaults, destroys, creates, compounds, call_waits, call_enters, call_back, leave_back, call_inside, call_calls, call_begins, call_ends, frame, exit_returned, exit_callback, exit_default, default_close, default_paint, default_erase, default_activate, default_cancel, default_greeting, default_other, destruction, doom_refused, doomed, unmaking, unmade_tell, unmade_last, unmade_refused, unmade_gone, create_refused, create_none, created, greeted_no, greeted, told_refused, told_no, told, compound_part, notifying, notified_refused, notified, sends_over, sends_next, broadcasts, found_refused, found_none, found, thread}
+use Rattle.script_tree.proofs.Defaults.{default_append, default_is, default_none, close_begins, paint_begins, erase_begins, activate_begins, cancel_begins, other_begins}
 use Rattle.script_tree.proofs.RowKinds.{IsGiven, IsReturned, IsRun, kind, answering, answering_given, default_answered}
-use Rattle.script_tree.proofs.RowSteps.{counted, uncounted, same_number, other_number, doom_goes, doom_ends, unmade_ends, unmade_done, made_ends, made_none, greeted_zero, greeted_more, telling_refused, telling_kept, kept_no, kept_yes, close_result, paint_result, erase_result, other_result, greeting_result, final_follows, final_answered}
+use Rattle.script_tree.proofs.RowSteps.{counted, uncounted, doom_goes, doom_ends, unmade_ends, unmade_done, made_ends, made_none, greeted_zero, greeted_more, telling_refused, telling_kept, kept_no, kept_yes, calling_ends, calling_goes, notifies_over, notifies_next, seeking_ends, seeking_none, seeking_next, begins_with_first, close_result, paint_result, erase_result, activate_result, cancel_result, other_result, greeting_result, final_follows, final_answered}
 
 -- The pieces make the trace, up to that place: the table's relation with the state at its end.
 pub data Runs (s : Tree) : List Piece → State → ℕ → Trace → Point → Type 0 where
@@ -160,6 +165,11 @@ module _ (s : Tree) where
   Sound Created st n tr out = Runs s (Feed MakingWindow ∷ []) st n tr out
   Sound (Greeted w) st n tr out = Runs s (Feed (Greeting w) ∷ []) st n tr out
   Sound (Told w) st n tr out = Runs s (Feed (Telling w) ∷ []) st n tr out
+  Sound (Notifying call) st n tr out = Runs s (Making call ∷ Feed (Calling call) ∷ []) st n tr out
+  Sound (Notified call) st n tr out = Runs s (Feed (Calling call) ∷ []) st n tr out
+  Sound (Sends ns y) st n tr out = (a : Answer) (x : ℕ) → Runs s (Feed (NotifyingPlace ns y) ∷ []) (Given (variables_of st) a x) n tr out
+  Sound (Broadcasts b w) st n tr out = Runs s (Making (NextTop w) ∷ Feed (Seeking b) ∷ []) st n tr out
+  Sound (Found b) st n tr out = Runs s (Feed (Seeking b) ∷ []) st n tr out
   Sound (Thread t) st n tr out = Runs s (program s t) st n tr out
 
   -- after that place, whatever the number of entries is
@@ -210,6 +220,24 @@ module _ (s : Tree) where
       let r : (third ≡ []) × (out ≡ CutBefore c) = subst (λ z. Meaning (Unmaking w) (on going z) third out) k.1 l in
       (ap (λ z. z ++ third) k.0 ∙ r.0, r.1)
 
+  -- the messages that are left behind one of them
+  ahead_sends : (ns : Notices) (y : ℕ) (n : ℕ) (first : Trace) (mid : Point) (second : Trace) (out : Point) → IsGiven mid → Meaning (Sends ns y) (on going mid) second out → Follow (Feed (NotifyingPlace ns y) ∷ []) n first mid second out
+  ahead_sends ns y n first (At (Given v a x)) second out g k = λ m e. k m a x
+  ahead_sends ns y n first (At st) second out g k = absurd g
+  ahead_sends ns y n first (CutBefore c) second out g k = k
+
+  -- the next top-level window behind a message to one
+  ahead_seek : (b : Broadcast) (w : ℕ) (n : ℕ) (first : Trace) (mid : Point) (second : Trace) (out : Point) → IsGiven mid → Meaning (Broadcasts b w) (on going mid) second out → Follow (Feed (Reaching b w) ∷ []) n first mid second out
+  ahead_seek b w n first (At (Given v a x)) second out g k = λ m e. feeds (Reaching b w) v a x (NextTop w) (Seeking b) m second out refl (k m)
+  ahead_seek b w n first (At st) second out g k = absurd g
+  ahead_seek b w n first (CutBefore c) second out g k = k
+
+  -- the pieces of a compound statement
+  part_runs : (c : CompoundStatement) (v : Variables) (n : ℕ) (tr : Trace) (out : Point) → Sound (compound_part c v) (Going v) n tr out → Runs s (Making (compound_begin c v).call ∷ Feed (compound_begin c v).place ∷ []) (Going v) n tr out
+  part_runs (PostAll m p q) v n tr out d = d
+  part_runs (NotifyAll m p q) v n tr out d = d
+  part_runs c v n tr out d = d
+
   while_step : (t : Test) (k : _) (a : _) (v : Variables) (n : ℕ) → holds t v ≡ true → step s (One (While' t k a)) (Going v) n ≡ Becomes (Lines (items-the_row-Statement _ a) ∷ PassEnd (While' t k a) n ∷ []) (Going v)
   while_step t k a v n h = ap (λ z. if z then Becomes (Lines (items-the_row-Statement _ a) ∷ PassEnd (While' t k a) n ∷ []) (Going v) else passes (Going v)) h
 
@@ -241,9 +269,9 @@ module _ (s : Tree) where
   ahead_left x run n first (CutBefore c) second out k = k
 
   -- the default procedure without a compound
-  default_alone : (p : Parameters) (v : Variables) (n x : ℕ) → (p.number == WM_CLOSE) ≡ false → (p.number == WM_PAINT) ≡ false → (p.number == WM_ERASEBKGND) ≡ false → default_result p ≡ x → Runs s (default_pieces p []) (Going v) n [] (ended v (Value x))
-  default_alone p v n x f g e h =
-      subst (λ xs. Runs s xs (Going v) n [] (ended v (Value x))) (sym (default_by p [] false false false x f g e h))
+  default_alone : (p : Parameters) (v : Variables) (n x : ℕ) → default_begin p ≡ None → default_result p ≡ x → Runs s (default_pieces p []) (Going v) n [] (ended v (Value x))
+  default_alone p v n x f h =
+      subst (λ xs. Runs s xs (Going v) n [] (ended v (Value x))) (sym (default_none p x [] f h))
       (passed (Giving (Value x)) (Going v) (Given v (Value x) 0) n refl)
 
   -- and with one call
@@ -252,6 +280,10 @@ module _ (s : Tree) where
       then_maps (Making call ∷ Feed Single ∷ []) (Feed (Defaulting y)) (defaulting y) (Going v) n tr (on answering got) out
       (then_maps (Making call ∷ []) (Feed Single) answering (Going v) n tr got (on answering got) (d n) (single_maps got n tr k) refl)
       (defaulting_maps y (on answering got) n tr (answering_given got k)) (f ∙ default_answered y got)
+
+  -- and with a compound that sends messages
+  default_notifying : (call : Call) (y : ℕ) (v : Variables) (n : ℕ) (tr : Trace) (got out : Point) → IsGiven got → ((n : ℕ) → Runs s (Making call ∷ Feed (Calling call) ∷ []) (Going v) n tr got) → out ≡ on (defaulting y) got → Runs s (Making call ∷ Feed (Calling call) ∷ Feed (Defaulting y) ∷ []) (Going v) n tr out
+  default_notifying call y v n tr got out k d f = then_maps (Making call ∷ Feed (Calling call) ∷ []) (Feed (Defaulting y)) (defaulting y) (Going v) n tr got out (d n) (defaulting_maps y got n tr k) f
 
   pub sound : {part : Part} {before : Point} {tr : Trace} {out : Point} → Rows s part before tr out → Meaning part before tr out
   sound (call_cut {call}) = λ n. runs_cut call refl
@@ -307,6 +339,10 @@ module _ (s : Tree) where
       becomes (One (Create c)) (Making (creation_call c v) ∷ Feed MakingWindow ∷ Settle (creation_call c v) ∷ []) (Going v) (Going v) n tr out refl
       (maps (Making (creation_call c v) ∷ Feed MakingWindow ∷ []) (Settle (creation_call c v)) (settling (creation_call c v)) (Going v) n tr got out
       (both (Making (creation_call c v) ∷ []) (Feed MakingWindow ∷ []) (Going v) n tr first second mid got (sound d n) (ahead (Feed MakingWindow ∷ []) n first mid second got (sound e)) f) (settle_maps (creation_call c v)) g)
+  sound (compounds {c} {v} {tr} {got} {out} d f) = λ n.
+      let b = compound_begin c v in
+      becomes (One (CompoundOf c)) (Making b.call ∷ Feed b.place ∷ Settle b.call ∷ []) (Going v) (Going v) n tr out refl
+      (maps (Making b.call ∷ Feed b.place ∷ []) (Settle b.call) (settling b.call) (Going v) n tr got out (part_runs c v n tr got (sound d n)) (settle_maps b.call) (f ∙ ap (λ x. on (settling x) got) (sym (begins_with_first c v))))
   sound (call_waits {call} {v} {tr} {out} d) = λ n. answers call Wait (Making call ∷ []) v (Going v) n tr out refl refl (sound d (suc n))
   sound (call_enters {call} {v} {sid} {proc_no} {number} {wparam} {lparam} {w} {tr} {first} {second} {mid} {out} h d e f) = λ n.
       answers call (Enter sid proc_no w number wparam lparam) (Running (entered sid proc_no w.0 number wparam lparam) ∷ Again call ∷ []) v (Going v) n tr out
@@ -349,18 +385,24 @@ module _ (s : Tree) where
       (subst (λ xs. Runs s xs (Going v) n tr out) (default_append run.parameters (Left (default_result run.parameters) ∷ Leaving run ∷ []))
       (both (default_pieces run.parameters []) (Left (default_result run.parameters) ∷ Leaving run ∷ []) (Going v) n tr first second mid out (sound d n) (ahead_left (default_result run.parameters) run n first mid second out (sound e)) f))
   sound (default_close {p} {v} {tr} {got} {out} h d f) = λ n.
-      subst (λ xs. Runs s xs (Going v) n tr out) (sym (default_by p [] true (p.number == WM_PAINT) (p.number == WM_ERASEBKGND) 0 (same_number p.number WM_CLOSE h) refl refl (close_result p h)))
+      subst (λ xs. Runs s xs (Going v) n tr out) (sym (default_is p (destruction_begin p.hwnd) 0 [] (close_begins p h) (close_result p h)))
       (then_maps (Making (Doom p.hwnd) ∷ Feed (Dooming p.hwnd) ∷ []) (Feed (Defaulting 0)) (defaulting 0) (Going v) n tr got out (sound d n) (defaulting_maps 0 got n tr (kind s d)) f)
   sound (default_paint {p} {v} {tr} {got} {out} h d f) = λ n.
-      subst (λ xs. Runs s xs (Going v) n tr out) (sym (default_by p [] false true (p.number == WM_ERASEBKGND) 0 (other_number p.number WM_CLOSE (λ e. absurd (omega arith))) (same_number p.number WM_PAINT h) refl (paint_result p h)))
+      subst (λ xs. Runs s xs (Going v) n tr out) (sym (default_is p (cleaning p.hwnd) 0 [] (paint_begins p h) (paint_result p h)))
       (default_one (validation p.hwnd) 0 v n tr got out (kind s d) (sound d) f)
   sound (default_erase {p} {v} {tr} {got} {out} h d f) = λ n.
-      subst (λ xs. Runs s xs (Going v) n tr out) (sym (default_by p [] false false true 1 (other_number p.number WM_CLOSE (λ e. absurd (omega arith))) (other_number p.number WM_PAINT (λ e. absurd (omega arith))) (same_number p.number WM_ERASEBKGND h) (erase_result p h)))
+      subst (λ xs. Runs s xs (Going v) n tr out) (sym (default_is p (erasing p.hwnd) 1 [] (erase_begins p h) (erase_result p h)))
       (default_one (Erase p.hwnd) 1 v n tr got out (kind s d) (sound d) f)
+  sound (default_activate {p} {v} {tr} {got} {out} h g d f) = λ n.
+      subst (λ xs. Runs s xs (Going v) n tr out) (sym (default_is p (notifying_begin (SetFocus p.hwnd)) 0 [] (activate_begins p h g) (activate_result p h)))
+      (default_notifying (SetFocus p.hwnd) 0 v n tr got out (kind s d) (sound d) f)
+  sound (default_cancel {p} {v} {tr} {got} {out} h d f) = λ n.
+      subst (λ xs. Runs s xs (Going v) n tr out) (sym (default_is p (notifying_begin ReleaseCapture) 0 [] (cancel_begins p h) (cancel_result p h)))
+      (default_notifying ReleaseCapture 0 v n tr got out (kind s d) (sound d) f)
   sound (default_greeting {p} {v} h) = λ n.
-      default_alone p v n 1 (other_number p.number WM_CLOSE (λ e. absurd (omega arith))) (other_number p.number WM_PAINT (λ e. absurd (omega arith))) (other_number p.number WM_ERASEBKGND (λ e. absurd (omega arith))) (greeting_result p h)
-  sound (default_other {p} {v} f g e h) = λ n.
-      default_alone p v n 0 (other_number p.number WM_CLOSE f) (other_number p.number WM_PAINT g) (other_number p.number WM_ERASEBKGND e) (other_result p e h)
+      default_alone p v n 1 (other_begins p (λ e. absurd (omega arith)) (λ e. absurd (omega arith)) (λ e. absurd (omega arith)) (λ e. absurd (omega arith)) (λ e. absurd (omega arith))) (greeting_result p h)
+  sound (default_other {p} {v} f g e a c h) = λ n.
+      default_alone p v n 0 (other_begins p f g e a c) (other_result p e h)
   sound (destruction {w} {v} {tr} {first} {second} {got} {out} d e f) = λ n.
       both (Making (Doom w) ∷ []) (Feed (Dooming w) ∷ []) (Going v) n tr first second got out (sound d n) (ahead (Feed (Dooming w) ∷ []) n first got second out (sound e)) f
   sound (doom_refused {w} {x} {v} {a} h) = λ n. feed_ends (Dooming w) v a a x n (doom_ends w a h)
@@ -393,6 +435,22 @@ module _ (s : Tree) where
       feed_runs (Telling w) v a x (destruction_begin w) Undoing n tr out (telling_kept w a x h ∙ kept_no w x g)
       (then_maps (Making (Doom w) ∷ Feed (Dooming w) ∷ []) (Feed Undoing) undone (Going v) n tr got out (sound d n) (undone_maps got n tr (kind s d)) f)
   sound (told {w} {x} {v} {a} h g) = λ n. feed_ends (Telling w) v a (Value w) x n (telling_kept w a x h ∙ kept_yes w x g)
+  sound (notifying {call} {v} {tr} {first} {second} {got} {out} d e f) = λ n.
+      both (Making call ∷ []) (Feed (Calling call) ∷ []) (Going v) n tr first second got out (sound d n) (ahead (Feed (Calling call) ∷ []) n first got second out (sound e)) f
+  sound (notified_refused {call} {x} {v} {a} h) = λ n. feed_ends (Calling call) v a a x n (calling_ends call a h)
+  sound (notified {call} {x} {v} {a} {tr} {out} h d) = λ n.
+      same_step (Feed (NotifyingPlace (notices_after call (number_in a)) (result_after call (number_in a)))) (Feed (Calling call)) [] (Given v a x) (Given v a x) (λ i. ap (goes_on v) (sym (calling_goes call a h))) refl (sound d n a x)
+  sound (sends_over {n = ns} {y} {v} h) = λ n a x. feed_ends (NotifyingPlace ns y) v a (Value y) x n (notifies_over ns y h)
+  sound (sends_next {n = ns} {x = notice} {y} {v} {tr} {first} {second} {mid} {out} h d e f) = λ n a x.
+      feeds (NotifyingPlace ns y) v a x (notice_call notice) (NotifyingPlace (others ns) y) n tr out (notifies_next ns notice y h)
+      (both (Making (notice_call notice) ∷ []) (Feed (NotifyingPlace (others ns) y) ∷ []) (Going v) n tr first second mid out (sound d n) (ahead_sends (others ns) y n first mid second out (kind s d) (sound e)) f)
+  sound (broadcasts {b} {w} {v} {tr} {first} {second} {got} {out} d e f) = λ n.
+      both (Making (NextTop w) ∷ []) (Feed (Seeking b) ∷ []) (Going v) n tr first second got out (sound d n) (ahead (Feed (Seeking b) ∷ []) n first got second out (sound e)) f
+  sound (found_refused {b} {x} {v} {a} h) = λ n. feed_ends (Seeking b) v a a x n (seeking_ends b a h)
+  sound (found_none {b} {x} {v} {a} h g) = λ n. feed_ends (Seeking b) v a (Value 1) x n (seeking_none b a h g)
+  sound (found {b} {x} {v} {a} {tr} {first} {second} {mid} {out} h g d e f) = λ n.
+      feeds (Seeking b) v a x (reach b (number_in a)) (Reaching b (number_in a)) n tr out (seeking_next b a h g)
+      (both (Making (reach b (number_in a)) ∷ []) (Feed (Reaching b (number_in a)) ∷ []) (Going v) n tr first second mid out (sound d n) (ahead_seek b (number_in a) n first mid second out (kind s d) (sound e)) f)
   sound (thread {t} {tr} {first} {second} {mid} {out} d e f) = λ n.
       both (Lines (body_of s t) ∷ []) (Making EndThread ∷ []) (Going start) n tr first second mid out (sound d n) (ahead_end n first mid second out (kind s d) (sound e)) f
 

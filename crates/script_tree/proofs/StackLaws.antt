@@ -8,19 +8,19 @@ use Rattle.user_model.specs.declared.entry.Answer.{Answer}
 use Rattle.user_model.specs.declared.entry.Answer.TheVariants.{Wait, Called, Inside, Begun, Left as LeftOf, Enter, Callback, Done, Refused}
 use Rattle.user_model.specs.Stacks.{stacked}
 use Rattle.script_tree.specs.declared.statement.Statement.{Statement}
-use Rattle.script_tree.specs.declared.statement.Statement.TheVariants.{Let, Compute, If', IfElse', While', Return, Call as CallOf, Sleep, Create, Destroy, Default as DefaultOf}
+use Rattle.script_tree.specs.declared.statement.Statement.TheVariants.{Let, Compute, If', IfElse', While', Return, Call as CallOf, Sleep, Create, Destroy, Compound as CompoundOf, Default as DefaultOf}
 use Rattle.script_tree.specs.declared.frame.Lead.{Lead}
 use Rattle.script_tree.specs.declared.frame.Lead.TheVariants.{Calls, Runs, Ends}
 use Rattle.script_tree.specs.declared.variables.Variables.{Variables}
 use Rattle.script_tree.specs.Tree.{Tree}
 use Rattle.script_tree.specs.Values.{holds, call_of}
-use Rattle.script_tree.specs.Compounds.{default_result, compound_after}
+use Rattle.script_tree.specs.Compounds.{compound_begin, default_result, compound_after}
 use Rattle.script_tree.specs.Pieces.{Piece, Lines, One, PassEnd, Making, Again, Giving, Settle, Quiet, Sleeping, Running, Leaving, Leaves, Left, Restore, Feed, State, Going, Returning, Given, Step, Becomes, Asks, Trace, End, Cut}
 use Rattle.script_tree.specs.Steps.{step, statement, begins, returns_to, takes, goes_on, sleeps, is_callback, follows, answered, variables_of}
 use Rattle.script_tree.specs.Traces.{Makes, IsTrace, over, silent, entry, cut}
 use Rattle.script_tree.specs.Stacks.{stack_after, awaited, frames_in, is_listed, AreListed, Goes, Returns, Gives, kind_of, AwaitsNone, MakingSuits, Suits, Fits}
 use Rattle.script_tree.proofs.Defaults.{default_either}
-use Rattle.script_tree.proofs.PlainCalls.{IsPlain, LeadIsPlain, plain_compound, plain_statement}
+use Rattle.script_tree.proofs.PlainCalls.{IsPlain, LeadIsPlain, plain_begin, plain_default, plain_compound, plain_statement}
 
 plain_suits : (call : Call) (frames : List Frame) (next : Type 0) → IsPlain call → AwaitsNone frames × next → MakingSuits call Goes frames next
 plain_suits (Await s) frames next p h = absurd p
@@ -53,7 +53,8 @@ module _ (s : Tree) (n : ℕ) (left : List Piece) where
   statement_kept (Sleep e) v h = ((h.0, (h.0, h.1)), refl)
   statement_kept (Create c) v h = ((h.0, (h.0, h.1)), refl)
   statement_kept (Destroy e) v h = ((h.0, (h.0, h.1)), refl)
-  statement_kept DefaultOf v h = default_either (λ qs. Kept left (frames_in left) (Becomes qs (Going v))) v.parameters (Settle (Doom v.parameters.hwnd) ∷ []) (λ e. ((h.0, (h.0, (h.0, h.1))), refl)) (λ e. ((h.0, (h.0, (h.0, h.1))), refl)) (λ e. ((h.0, (h.0, (h.0, h.1))), refl)) (λ e d f. (h.1, refl))
+  statement_kept (CompoundOf c) v h = (plain_suits (compound_begin c v).call _ _ (plain_begin c v) (h.0, (h.0, h.1)), plain_frames (compound_begin c v).call _ (plain_begin c v))
+  statement_kept DefaultOf v h = default_either (λ qs. Kept left (frames_in left) (Becomes qs (Going v))) v.parameters (Settle (Doom v.parameters.hwnd) ∷ []) (λ b e. (plain_suits b.call _ _ (plain_default v.parameters b e) (h.0, (h.0, (h.0, h.1))), plain_frames b.call _ (plain_default v.parameters b e))) (λ e. (h.1, refl))
 
   compound_kept : (v : Variables) (next : Lead) → LeadIsPlain next → AwaitsNone (frames_in left) × Suits left Gives → Kept left (frames_in left) (goes_on v next)
   compound_kept v (Calls call q) p h = (plain_suits call _ _ p (h.0, h), plain_frames call _ p)
@@ -71,7 +72,7 @@ module _ (s : Tree) (n : ℕ) (left : List Piece) where
   begins_kept (PassEnd loop began) v h = either _ (n == began) _ _ ((h.0, h), refl) (h, refl)
   begins_kept (Making call) v h = tt
   begins_kept (Running run) v h = ((h.0, h, h), refl)
-  begins_kept (Leaving run) v h = either _ (is_callback run.frame) _ _ (h, refl) (default_either (λ qs. Kept left (run.frame ∷ frames_in left) (Becomes qs (Going v))) run.parameters (Left (default_result run.parameters) ∷ Leaving run ∷ []) (λ e. ((h.0, (h.0, (h.0, h))), refl)) (λ e. ((h.0, (h.0, (h.0, h))), refl)) (λ e. ((h.0, (h.0, (h.0, h))), refl)) (λ e d f. (h, refl)))
+  begins_kept (Leaving run) v h = either _ (is_callback run.frame) _ _ (h, refl) (default_either (λ qs. Kept left (run.frame ∷ frames_in left) (Becomes qs (Going v))) run.parameters (Left (default_result run.parameters) ∷ Leaving run ∷ []) (λ b e. (plain_suits b.call _ _ (plain_default run.parameters b e) (h.0, (h.0, (h.0, h))), plain_frames b.call _ (plain_default run.parameters b e))) (λ e. (h, refl)))
   begins_kept (Leaves frame x) v h = tt
   begins_kept (Giving a) v h = (h, refl)
   begins_kept p v h = absurd h

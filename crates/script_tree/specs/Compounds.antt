@@ -1,16 +1,26 @@
 -- The compounds: how each begins, and where the answer to each of their calls leads. A compound may begin inside of another.
-use Rattle.std.specs.Prelude.{ℕ, pos, ◌==◌, if◌then◌else◌, Option, Some, None}
-use Rattle.script_tree.specs.declared.messages.TheConstants.{WM_PAINT, WM_ERASEBKGND, WM_CLOSE, WM_NCCREATE, WM_CREATE, WM_DESTROY, WM_NCDESTROY}
+use Rattle.std.specs.Prelude.{ℕ, pos, ◌==◌, Bool, not, ◌&&◌, if◌then◌else◌, Option, Some, None}
+use Rattle.script_tree.specs.declared.messages.TheConstants.{WM_PAINT, WM_ERASEBKGND, WM_CLOSE, WM_ACTIVATE, WM_CANCELMODE, WM_NCCREATE, WM_CREATE, WM_DESTROY, WM_NCDESTROY}
 use Rattle.user_model.specs.declared.call.Call.{Call}
-use Rattle.user_model.specs.declared.call.Call.TheVariants.{Send, Doom, Unmake, Drop, Validate, Erase}
+use Rattle.user_model.specs.declared.call.Call.TheVariants.{Post, Send, SendNotify, Doom, Unmake, Drop, NextTop, SetFocus, ReleaseCapture, Validate, Erase}
 use Rattle.user_model.specs.declared.entry.Answer.{Answer}
 use Rattle.user_model.specs.declared.entry.Answer.TheVariants.{Value, Window as WindowMade, Tell, Last, Refused}
 use Rattle.script_tree.specs.declared.variables.Parameters.{Parameters}
 use Rattle.script_tree.specs.declared.frame.Begin.{Begin}
 use Rattle.script_tree.specs.declared.frame.Place.{Place}
-use Rattle.script_tree.specs.declared.frame.Place.TheVariants.{Making, Greeting, Telling, Undoing, Dooming, Unmaking, Destroying, Parting, Dropping, Single, Defaulting}
+use Rattle.script_tree.specs.declared.frame.Place.TheVariants.{Making, Greeting, Telling, Undoing, Dooming, Unmaking, Destroying, Parting, Dropping, Single, Calling, Notifying, Seeking, Reaching, Defaulting}
+use Rattle.script_tree.specs.declared.frame.Notice.{Notice}
+use Rattle.script_tree.specs.declared.frame.Notices.{Notices}
+use Rattle.script_tree.specs.declared.frame.Spread.{Spread}
+use Rattle.script_tree.specs.declared.frame.Spread.TheVariants.{Posts, Notifies}
+use Rattle.script_tree.specs.declared.frame.Broadcast.{Broadcast}
 use Rattle.script_tree.specs.declared.frame.Lead.{Lead}
 use Rattle.script_tree.specs.declared.frame.Lead.TheVariants.{Calls, Runs, Ends}
+use Rattle.script_tree.specs.declared.statement.CompoundStatement.{CompoundStatement}
+use Rattle.script_tree.specs.declared.statement.CompoundStatement.TheVariants.{PostAll, NotifyAll}
+use Rattle.script_tree.specs.declared.variables.Variables.{Variables}
+use Rattle.script_tree.specs.Notices.{number_in, next_notice, others, notices_after, result_after}
+use Rattle.script_tree.specs.Values.{value_of, first_call}
 
 -- a message without parameters is sent
 abbrev pub sent : ℕ → ℕ → Call
@@ -36,9 +46,33 @@ cleaning w = record { call = validation w; place = Single }
 abbrev pub erasing : ℕ → Begin
 erasing w = record { call = Erase w; place = Single }
 
--- the default procedure destroys a window that is to close, makes one clean that is to paint, and paints one whose background is to be painted
+-- a compound that makes a call and then sends messages
+abbrev pub notifying : Call → Begin
+notifying call = record { call = call; place = Calling call }
+
+-- a compound that brings a message to each top-level window
+abbrev pub broadcasting : Broadcast → Begin
+broadcasting b = record { call = NextTop 0; place = Seeking b }
+
+-- a message that goes to each top-level window
+abbrev pub broadcast : Spread → ℕ → ℕ → ℕ → Broadcast
+broadcast way number p q = record { spread = way; number = number; wparam = p; lparam = q }
+
+-- how a compound statement begins
+abbrev pub compound_begin : CompoundStatement → Variables → Begin
+compound_begin (PostAll m p q) v = broadcasting (broadcast Posts (value_of m v) (value_of p v) (value_of q v))
+compound_begin (NotifyAll m p q) v = broadcasting (broadcast Notifies (value_of m v) (value_of p v) (value_of q v))
+compound_begin c v = notifying (first_call c v)
+
+-- whether the message makes its window the active one
+abbrev pub activates : Parameters → Bool
+activates p = (p.number == WM_ACTIVATE) && not (p.wparam == 0)
+
+-- the default procedure destroys a window that is to close, makes one clean that is to paint, paints one whose background is to be painted, gives one the focus that becomes the active one, and takes the capture away where what is going on is to be left
 abbrev pub default_begin : Parameters → Option Begin
-default_begin p = if p.number == WM_CLOSE then Some (destruction p.hwnd) else if p.number == WM_PAINT then Some (cleaning p.hwnd) else if p.number == WM_ERASEBKGND then Some (erasing p.hwnd) else None
+default_begin p =
+    if p.number == WM_CLOSE then Some (destruction p.hwnd) else if p.number == WM_PAINT then Some (cleaning p.hwnd) else if p.number == WM_ERASEBKGND then Some (erasing p.hwnd)
+    else if activates p then Some (notifying (SetFocus p.hwnd)) else if p.number == WM_CANCELMODE then Some (notifying ReleaseCapture) else None
 
 -- the result of the default procedure
 abbrev pub default_result : Parameters → ℕ
@@ -88,6 +122,43 @@ abbrev pub after_default : ℕ → Answer → Lead
 after_default x (Refused code) = Ends (Refused code)
 after_default x _ = Ends (Value x)
 
+-- a message of a compound is sent
+abbrev pub notice_call : Notice → Call
+notice_call n = Send n.window n.number n.wparam n.lparam
+
+-- the next of the messages is sent, and then the others; where there is none the compound ends with this result
+abbrev pub notifies_by : Option Notice → Notices → ℕ → Lead
+notifies_by (Some x) n y = Calls (notice_call x) (Notifying n y)
+notifies_by None n y = Ends (Value y)
+
+abbrev pub notifies : Notices → ℕ → Lead
+notifies n y = notifies_by (next_notice n) (others n) y
+
+-- the messages behind the first call, unless that is refused
+abbrev pub after_calling : Call → Answer → Lead
+after_calling call (Refused code) = Ends (Refused code)
+after_calling call a = notifies (notices_after call (number_in a)) (result_after call (number_in a))
+
+-- the message goes to that window
+abbrev pub reach_by : Spread → Broadcast → ℕ → Call
+reach_by Posts b w = Post w b.number b.wparam b.lparam
+reach_by Notifies b w = SendNotify w b.number b.wparam b.lparam
+
+abbrev pub reach : Broadcast → ℕ → Call
+reach b w = reach_by b.spread b w
+
+-- the message goes to the next top-level window, if there is one
+abbrev pub reaches_or_ends : Broadcast → ℕ → Lead
+reaches_or_ends b w = if w == 0 then Ends (Value 1) else Calls (reach b w) (Reaching b w)
+
+abbrev pub after_seeking : Broadcast → Answer → Lead
+after_seeking b (Refused code) = Ends (Refused code)
+after_seeking b a = reaches_or_ends b (number_in a)
+
+-- the top-level window behind that one is asked for
+abbrev pub seeks : Broadcast → ℕ → Lead
+seeks b w = Calls (NextTop w) (Seeking b)
+
 -- where an answer and its result lead
 abbrev pub compound_after : Place → Answer → ℕ → Lead
 compound_after Making a x = after_making a
@@ -100,4 +171,8 @@ compound_after (Destroying w) a x = unmakes w
 compound_after (Parting w v) a x = Calls (Drop v) (Dropping w)
 compound_after (Dropping w) a x = unmakes w
 compound_after Single a x = Ends a
+compound_after (Calling call) a x = after_calling call a
+compound_after (Notifying n y) a x = notifies n y
+compound_after (Seeking b) a x = after_seeking b a
+compound_after (Reaching b w) a x = seeks b w
 compound_after (Defaulting y) a x = after_default y a

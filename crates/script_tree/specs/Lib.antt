@@ -1,4 +1,5 @@
 pub mod Compounds
+pub mod Notices
 pub mod Pieces
 pub mod Rows
 pub mod Stacks

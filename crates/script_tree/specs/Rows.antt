@@ -1,11 +1,11 @@
 -- The traces of a thread as a reader of the script tells them: one row for each form of statement, call and procedure.
-use Rattle.std.specs.Prelude.{◌≡◌, ◌≢◌, ℕ, not, Bool, true, false, if◌then◌else◌, List, [], ◌∷◌, ◌++◌}
-use Rattle.script_tree.specs.declared.messages.TheConstants.{WM_PAINT, WM_ERASEBKGND, WM_CLOSE, WM_NCCREATE, WM_CREATE, WM_DESTROY, WM_NCDESTROY}
+use Rattle.std.specs.Prelude.{◌≡◌, ◌≢◌, ℕ, not, Bool, true, false, if◌then◌else◌, List, [], ◌∷◌, ◌++◌, Some, None}
+use Rattle.script_tree.specs.declared.messages.TheConstants.{WM_PAINT, WM_ERASEBKGND, WM_CLOSE, WM_ACTIVATE, WM_CANCELMODE, WM_NCCREATE, WM_CREATE, WM_DESTROY, WM_NCDESTROY}
 use Rattle.win_num.specs.declared.message.Hwnd.{Hwnd}
 use Rattle.win_num.specs.declared.send.SendId.{SendId}
 use Rattle.win_num.specs.declared.send.Frame.TheVariants.{Entered, Inside as InsideFrame, Called as CalledFrame, CallbackRun}
 use Rattle.user_model.specs.declared.call.Call.{Call}
-use Rattle.user_model.specs.declared.call.Call.TheVariants.{Await, Leave, Doom, Unmake, Drop, Erase, Clock, SleepUntil, Yield, EndThread}
+use Rattle.user_model.specs.declared.call.Call.TheVariants.{Await, Leave, Doom, Unmake, Drop, NextTop, SetFocus, ReleaseCapture, Erase, Clock, SleepUntil, Yield, EndThread}
 use Rattle.user_model.specs.declared.entry.Answer.{Answer}
 use Rattle.user_model.specs.declared.entry.Answer.TheVariants.{Wait, Value, Window as WindowMade, Called, Inside, Begun, Enter, Callback, Tell, Last, Refused}
 use Rattle.user_model.specs.Stacks.{leaves, waits}
@@ -14,15 +14,22 @@ use Rattle.script_tree.specs.declared.operand.Operand.{Operand}
 use Rattle.script_tree.specs.declared.operand.Operator.{Operator}
 use Rattle.script_tree.specs.declared.operand.Test.{Test}
 use Rattle.script_tree.specs.declared.statement.CallStatement.{CallStatement}
+use Rattle.script_tree.specs.declared.statement.CompoundStatement.{CompoundStatement}
+use Rattle.script_tree.specs.declared.statement.CompoundStatement.TheVariants.{PostAll, NotifyAll}
 use Rattle.script_tree.specs.declared.statement.Creation.{Creation}
 use Rattle.script_tree.specs.declared.statement.Statement.{Statement, items-the_row-Statement}
-use Rattle.script_tree.specs.declared.statement.Statement.TheVariants.{Let, Compute, If', IfElse', While', Return, Call as CallOf, Sleep, Create, Destroy, Default}
+use Rattle.script_tree.specs.declared.statement.Statement.TheVariants.{Let, Compute, If', IfElse', While', Return, Call as CallOf, Sleep, Create, Destroy, Compound as CompoundOf, Default}
 use Rattle.script_tree.specs.declared.variables.Parameters.{Parameters}
 use Rattle.script_tree.specs.declared.variables.Variables.{Variables}
 use Rattle.script_tree.specs.declared.frame.Run.{Run}
+use Rattle.script_tree.specs.declared.frame.Notice.{Notice}
+use Rattle.script_tree.specs.declared.frame.Notices.{Notices}
+use Rattle.script_tree.specs.declared.frame.Broadcast.{Broadcast}
+use Rattle.script_tree.specs.declared.frame.Spread.TheVariants.{Posts, Notifies}
+use Rattle.script_tree.specs.Notices.{number_in, next_notice, others, notices_after, result_after}
 use Rattle.script_tree.specs.Tree.{Tree, body_of, procedure_of}
-use Rattle.script_tree.specs.Values.{value_of, computed, holds, assigned, call_of, creation_call, time_after, start, inside_of, received, settled}
-use Rattle.script_tree.specs.Compounds.{sent, validation, default_result}
+use Rattle.script_tree.specs.Values.{value_of, computed, holds, assigned, call_of, first_call, creation_call, time_after, start, inside_of, received, settled}
+use Rattle.script_tree.specs.Compounds.{sent, validation, notice_call, broadcast, reach, default_result}
 use Rattle.script_tree.specs.Pieces.{State, Going, Returning, Given, Trace, End, Whole, Cut}
 use Rattle.script_tree.specs.Steps.{is_callback, is_last, parameters_from, parameters_of, run_of, result_of, variables_of}
 
@@ -148,8 +155,24 @@ pub data Part : Type 0 where
   Greeted : ℕ → Part
   -- the same, behind WM_CREATE
   Told : ℕ → Part
+  -- a compound that makes a call and then sends messages
+  Notifying : Call → Part
+  -- the same, behind its call
+  Notified : Call → Part
+  -- messages, one after another, and the result of the compound that sends them
+  Sends : Notices → ℕ → Part
+  -- a message to each top-level window above that one
+  Broadcasts : Broadcast → ℕ → Part
+  -- the same, behind the `next_top` that asks for the first of them
+  Found : Broadcast → Part
   -- a thread
   Thread : ℕ → Part
+
+-- a compound statement of a message for each top-level window begins above no window; any other makes its call and sends messages
+abbrev pub compound_part : CompoundStatement → Variables → Part
+compound_part (PostAll m p q) v = Broadcasts (broadcast Posts (value_of m v) (value_of p v) (value_of q v)) 0
+compound_part (NotifyAll m p q) v = Broadcasts (broadcast Notifies (value_of m v) (value_of p v) (value_of q v)) 0
+compound_part c v = Notifying (first_call c v)
 
 -- The part has that trace, from the place before it to the place after it.
 pub data Rows (s : Tree) : Part → Point → Trace → Point → Type 0 where
@@ -201,6 +224,8 @@ pub data Rows (s : Tree) : Part → Point → Trace → Point → Type 0 where
   destroys : {e : Operand} {v : Variables} {tr : Trace} {got out : Point} → Rows s (Destruction (value_of e v)) (At (Going v)) tr got → out ≡ on (settling (Doom (value_of e v))) got → Rows s (Line (Destroy e)) (At (Going v)) tr out
   -- `create`: `new_window`, and then the rest of the `create`, which sets r and err at its end
   creates : {c : Creation} {v : Variables} {tr first second : Trace} {mid got out : Point} → Rows s (Calls (creation_call c v)) (At (Going v)) first mid → Rows s Created mid second got → tr ≡ first ++ second → out ≡ on (settling (creation_call c v)) got → Rows s (Line (Create c)) (At (Going v)) tr out
+  -- one of the other compound statements, which sets r and err at its end
+  compounds : {c : CompoundStatement} {v : Variables} {tr : Trace} {got out : Point} → Rows s (compound_part c v) (At (Going v)) tr got → out ≡ on (settling (first_call c v)) got → Rows s (Line (CompoundOf c)) (At (Going v)) tr out
   -- an attempt that is told to wait, and then the same call
   call_waits : {call : Call} {v : Variables} {tr : Trace} {out : Point} → Rows s (Calls call) (At (Going v)) tr out → Rows s (Calls call) (At (Going v)) ((call, Wait) ∷ tr) out
   -- an attempt that is entered: the procedure of the send, and then the same call
@@ -231,10 +256,14 @@ pub data Rows (s : Tree) : Part → Point → Trace → Point → Type 0 where
   default_paint : {p : Parameters} {v : Variables} {tr : Trace} {got out : Point} → p.number ≡ WM_PAINT → Rows s (Calls (validation p.hwnd)) (At (Going v)) tr got → out ≡ on (defaulting 0) got → Rows s (DefaultFor p) (At (Going v)) tr out
   -- of WM_ERASEBKGND: the call that paints the window with the colour of its class, and the result 1 or the refusal
   default_erase : {p : Parameters} {v : Variables} {tr : Trace} {got out : Point} → p.number ≡ WM_ERASEBKGND → Rows s (Calls (Erase p.hwnd)) (At (Going v)) tr got → out ≡ on (defaulting 1) got → Rows s (DefaultFor p) (At (Going v)) tr out
+  -- of WM_ACTIVATE with a wParam: the compound that gives the window the focus, and the result 0 or the refusal
+  default_activate : {p : Parameters} {v : Variables} {tr : Trace} {got out : Point} → p.number ≡ WM_ACTIVATE → p.wparam ≢ 0 → Rows s (Notifying (SetFocus p.hwnd)) (At (Going v)) tr got → out ≡ on (defaulting 0) got → Rows s (DefaultFor p) (At (Going v)) tr out
+  -- of WM_CANCELMODE: the compound that takes the capture away, and the result 0 or the refusal
+  default_cancel : {p : Parameters} {v : Variables} {tr : Trace} {got out : Point} → p.number ≡ WM_CANCELMODE → Rows s (Notifying ReleaseCapture) (At (Going v)) tr got → out ≡ on (defaulting 0) got → Rows s (DefaultFor p) (At (Going v)) tr out
   -- of WM_NCCREATE: nothing, and the result 1
   default_greeting : {p : Parameters} {v : Variables} → p.number ≡ WM_NCCREATE → Rows s (DefaultFor p) (At (Going v)) [] (ended v (Value 1))
   -- of all other messages: nothing, and the result 0
-  default_other : {p : Parameters} {v : Variables} → p.number ≢ WM_CLOSE → p.number ≢ WM_PAINT → p.number ≢ WM_ERASEBKGND → p.number ≢ WM_NCCREATE → Rows s (DefaultFor p) (At (Going v)) [] (ended v (Value 0))
+  default_other : {p : Parameters} {v : Variables} → p.number ≢ WM_CLOSE → p.number ≢ WM_PAINT → p.number ≢ WM_ERASEBKGND → (p.number ≡ WM_ACTIVATE → p.wparam ≡ 0) → p.number ≢ WM_CANCELMODE → p.number ≢ WM_NCCREATE → Rows s (DefaultFor p) (At (Going v)) [] (ended v (Value 0))
   -- a destruction: `doom`, and then the rest
   destruction : {w : ℕ} {v : Variables} {tr first second : Trace} {got out : Point} → Rows s (Calls (Doom w)) (At (Going v)) first got → Rows s (Doomed w) got second out → tr ≡ first ++ second → Rows s (Destruction w) (At (Going v)) tr out
   -- a refused `doom` ends it
@@ -267,6 +296,24 @@ pub data Rows (s : Tree) : Part → Point → Trace → Point → Type 0 where
   told_no : {w x : ℕ} {v : Variables} {a : Answer} {tr : Trace} {got out : Point} → is_refusal a ≡ false → x ≡ 18446744073709551615 → Rows s (Destruction w) (At (Going v)) tr got → out ≡ on undone got → Rows s (Told w) (At (Given v a x)) tr out
   -- else the window is the result
   told : {w x : ℕ} {v : Variables} {a : Answer} → is_refusal a ≡ false → x ≢ 18446744073709551615 → Rows s (Told w) (At (Given v a x)) [] (ended v (Value w))
+  -- a compound that sends messages: its call, and then the rest
+  notifying : {call : Call} {v : Variables} {tr first second : Trace} {got out : Point} → Rows s (Calls call) (At (Going v)) first got → Rows s (Notified call) got second out → tr ≡ first ++ second → Rows s (Notifying call) (At (Going v)) tr out
+  -- where the call is refused it ends with that
+  notified_refused : {call : Call} {x : ℕ} {v : Variables} {a : Answer} → is_refusal a ≡ true → Rows s (Notified call) (At (Given v a x)) [] (ended v a)
+  -- else it sends what its row says after that answer, and then it has the result that its row says
+  notified : {call : Call} {x : ℕ} {v : Variables} {a : Answer} {tr : Trace} {out : Point} → is_refusal a ≡ false → Rows s (Sends (notices_after call (number_in a)) (result_after call (number_in a))) (At (Going v)) tr out → Rows s (Notified call) (At (Given v a x)) tr out
+  -- no messages are left
+  sends_over : {n : Notices} {y : ℕ} {v : Variables} → next_notice n ≡ None → Rows s (Sends n y) (At (Going v)) [] (ended v (Value y))
+  -- the next message is sent, whatever becomes of it, and then the others
+  sends_next : {n : Notices} {x : Notice} {y : ℕ} {v : Variables} {tr first second : Trace} {mid out : Point} → next_notice n ≡ Some x → Rows s (Calls (notice_call x)) (At (Going v)) first mid → Rows s (Sends (others n) y) (on going mid) second out → tr ≡ first ++ second → Rows s (Sends n y) (At (Going v)) tr out
+  -- a message to each top-level window: `next_top`, and then the rest
+  broadcasts : {b : Broadcast} {w : ℕ} {v : Variables} {tr first second : Trace} {got out : Point} → Rows s (Calls (NextTop w)) (At (Going v)) first got → Rows s (Found b) got second out → tr ≡ first ++ second → Rows s (Broadcasts b w) (At (Going v)) tr out
+  -- a refused `next_top` ends it
+  found_refused : {b : Broadcast} {x : ℕ} {v : Variables} {a : Answer} → is_refusal a ≡ true → Rows s (Found b) (At (Given v a x)) [] (ended v a)
+  -- where there is no window above it ends with 1
+  found_none : {b : Broadcast} {x : ℕ} {v : Variables} {a : Answer} → is_refusal a ≡ false → number_in a ≡ 0 → Rows s (Found b) (At (Given v a x)) [] (ended v (Value 1))
+  -- the message goes to the window, whatever becomes of it, and then to those above
+  found : {b : Broadcast} {x : ℕ} {v : Variables} {a : Answer} {tr first second : Trace} {mid out : Point} → is_refusal a ≡ false → number_in a ≢ 0 → Rows s (Calls (reach b (number_in a))) (At (Going v)) first mid → Rows s (Broadcasts b (number_in a)) (on going mid) second out → tr ≡ first ++ second → Rows s (Found b) (At (Given v a x)) tr out
   -- a thread: its statements from variables of zeros on, and then `end_thread`
   thread : {t : ℕ} {tr first second : Trace} {mid out : Point} → Rows s (Body (body_of s t)) (At (Going start)) first mid → Rows s (Calls EndThread) (on going mid) second out → tr ≡ first ++ second → Rows s (Thread t) (At (Going start)) tr out
 

@@ -5,7 +5,7 @@ use Rattle.win_num.specs.declared.message.Msg.{Msg}
 use Rattle.win_num.specs.Codes.{number_of}
 use Rattle.name_table.specs.Constants.{constant_values}
 use Rattle.user_model.specs.declared.call.Call.{Call}
-use Rattle.user_model.specs.declared.call.Call.TheVariants.{Peek, Get, Post, PostThread, PostQuit, Dispatch, Translate, Send, SendTimeout, SendNotify, SendCallback, Reply, InSend, Message as MessageCall, Register, Unregister, NewWindow, Find, AwaitTitle, NextTop, WindowAt, IsWindow, Parent, GetFocus, GetActive, GetCapture, Attach, Detach, Mouse, Key, KeyState, Invalidate, Validate, UpdateRect, EndPaint, Fill, Snap, SetTimer, KillTimer, Clock, Yield}
+use Rattle.user_model.specs.declared.call.Call.TheVariants.{Place, Show, Enable, SetFocus, SetActive, SetCapture, ReleaseCapture, BeginPaint, Peek, Get, Post, PostThread, PostQuit, Status, Dispatch, Translate, Send, SendTimeout, SendNotify, SendCallback, Reply, InSend, Message as MessageCall, Register, Unregister, NewWindow, Find, AwaitTitle, NextTop, WindowAt, IsWindow, Parent, GetFocus, GetActive, GetCapture, Attach, Detach, Mouse, Key, KeyState, Invalidate, Validate, UpdateRect, EndPaint, Fill, Snap, SetTimer, KillTimer, Clock, Yield}
 use Rattle.user_model.specs.declared.entry.Answer.{Answer}
 use Rattle.user_model.specs.declared.entry.Answer.TheVariants.{Okay, Ended, Nothing, Wait, Stuck, Gone, Value, Window as WindowAnswer, Was, Posted, Input, Called, Inside, Begun, Left, Tell, Last, Advanced, Busy, Update, Painting, Snap as SnapAnswer, Enter, Callback, Done, Got, Refused}
 use Rattle.win_num.specs.declared.send.Cause.{Cause}
@@ -22,7 +22,9 @@ use Rattle.script_tree.specs.declared.operand.Comparison.{Comparison}
 use Rattle.script_tree.specs.declared.operand.Comparison.TheVariants.{Equal, Different, Below}
 use Rattle.script_tree.specs.declared.operand.Test.{Test}
 use Rattle.script_tree.specs.declared.statement.CallStatement.{CallStatement}
-use Rattle.script_tree.specs.declared.statement.CallStatement.TheVariants.{Peek as PeekStatement, Get as GetStatement, Post as PostStatement, PostThread as PostThreadStatement, PostQuit as PostQuitStatement, Dispatch as DispatchStatement, Translate as TranslateStatement, Send as SendStatement, SendTimeout as SendTimeoutStatement, SendNotify as SendNotifyStatement, SendCallback as SendCallbackStatement, Reply as ReplyStatement, InSend as InSendStatement, Message as MessageStatement, Register as RegisterStatement, Unregister as UnregisterStatement, IsWindow as IsWindowStatement, Parent as ParentStatement, NextTop as NextTopStatement, Find as FindStatement, AwaitTitle as AwaitTitleStatement, WindowAt as WindowAtStatement, GetFocus as GetFocusStatement, GetActive as GetActiveStatement, GetCapture as GetCaptureStatement, Attach as AttachStatement, Detach as DetachStatement, Mouse as MouseStatement, Key as KeyStatement, KeyState as KeyStateStatement, Invalidate as InvalidateStatement, Validate as ValidateStatement, UpdateRect as UpdateRectStatement, EndPaint as EndPaintStatement, Fill as FillStatement, Snap as SnapStatement, SetTimer as SetTimerStatement, KillTimer as KillTimerStatement, Clock as ClockStatement, Yield as YieldStatement}
+use Rattle.script_tree.specs.declared.statement.CallStatement.TheVariants.{Peek as PeekStatement, Get as GetStatement, Post as PostStatement, PostThread as PostThreadStatement, PostQuit as PostQuitStatement, Status as StatusStatement, Dispatch as DispatchStatement, Translate as TranslateStatement, Send as SendStatement, SendTimeout as SendTimeoutStatement, SendNotify as SendNotifyStatement, SendCallback as SendCallbackStatement, Reply as ReplyStatement, InSend as InSendStatement, Message as MessageStatement, Register as RegisterStatement, Unregister as UnregisterStatement, IsWindow as IsWindowStatement, Parent as ParentStatement, NextTop as NextTopStatement, Find as FindStatement, AwaitTitle as AwaitTitleStatement, WindowAt as WindowAtStatement, GetFocus as GetFocusStatement, GetActive as GetActiveStatement, GetCapture as GetCaptureStatement, Attach as AttachStatement, Detach as DetachStatement, Mouse as MouseStatement, Key as KeyStatement, KeyState as KeyStateStatement, Invalidate as InvalidateStatement, Validate as ValidateStatement, UpdateRect as UpdateRectStatement, EndPaint as EndPaintStatement, Fill as FillStatement, Snap as SnapStatement, SetTimer as SetTimerStatement, KillTimer as KillTimerStatement, Clock as ClockStatement, Yield as YieldStatement}
+use Rattle.script_tree.specs.declared.statement.CompoundStatement.{CompoundStatement}
+use Rattle.script_tree.specs.declared.statement.CompoundStatement.TheVariants.{ShowWindow, EnableWindow, SetWindowPos, SetFocus as SetFocusStatement, SetActive as SetActiveStatement, SetCapture as SetCaptureStatement, ReleaseCapture as ReleaseCaptureStatement, BeginPaint as BeginPaintStatement, UpdateWindow, PostAll, NotifyAll}
 use Rattle.script_tree.specs.declared.statement.Creation.{Creation}
 use Rattle.script_tree.specs.declared.variables.Letters.{Letters}
 use Rattle.script_tree.specs.declared.variables.Parameters.{Parameters}
@@ -98,6 +100,7 @@ call_of (GetStatement w min max) v = Get (value_of w v) (value_of min v) (value_
 call_of (PostStatement w m p q) v = Post (value_of w v) (value_of m v) (value_of p v) (value_of q v)
 call_of (PostThreadStatement t m p q) v = PostThread (value_of t v) (value_of m v) (value_of p v) (value_of q v)
 call_of (PostQuitStatement code) v = PostQuit (value_of code v)
+call_of (StatusStatement flags) v = Status (value_of flags v)
 call_of DispatchStatement v = dispatch_of v.got
 call_of TranslateStatement v = translate_of v.got
 call_of (SendStatement w m p q) v = Send (value_of w v) (value_of m v) (value_of p v) (value_of q v)
@@ -169,6 +172,7 @@ IsShort (GetStatement w min max) = ⊥
 IsShort (PostStatement w m p q) = ⊥
 IsShort (PostThreadStatement t m p q) = ⊥
 IsShort (PostQuitStatement code) = ⊥
+IsShort (StatusStatement flags) = ⊥
 IsShort DispatchStatement = ⊥
 IsShort (SendStatement w m p q) = ⊥
 IsShort (SendTimeoutStatement w m p q flags ms) = ⊥
@@ -178,6 +182,20 @@ IsShort (InvalidateStatement w l t r b erase) = ⊥
 IsShort (ValidateStatement w l t r b) = ⊥
 IsShort (FillStatement w l t r b colour) = ⊥
 IsShort _ = Unit {0}
+
+-- the first call of a compound statement, with the values of its operands
+abbrev pub first_call : CompoundStatement → Variables → Call
+first_call (ShowWindow w on) v = Show (value_of w v) (value_of on v)
+first_call (EnableWindow w on) v = Enable (value_of w v) (value_of on v)
+first_call (SetWindowPos w after l t r b flags) v = Place (value_of w v) (edge_of after v) (edge_of l v) (edge_of t v) (edge_of r v) (edge_of b v) (value_of flags v)
+first_call (SetFocusStatement w) v = SetFocus (value_of w v)
+first_call (SetActiveStatement w) v = SetActive (value_of w v)
+first_call (SetCaptureStatement w) v = SetCapture (value_of w v)
+first_call ReleaseCaptureStatement v = ReleaseCapture
+first_call (BeginPaintStatement w) v = BeginPaint (value_of w v)
+first_call (UpdateWindow w) v = UpdateRect (value_of w v)
+first_call (PostAll m p q) v = NextTop 0
+first_call (NotifyAll m p q) v = NextTop 0
 
 -- the call that makes the window of a `create`
 abbrev pub creation_call : Creation → Variables → Call

@@ -1,12 +1,14 @@
 //! How compound statements begin, and where they go on.
 
 ghost use Rattle.std.specs.Prelude.{◌≡◌};
-ghost use Rattle.script_tree.specs.Compounds.{sent as sent_of, creation as creation_of, destruction as destruction_of, cleaning as cleaning_of, erasing as erasing_of, default_begin, default_result as default_of, undoes as undoes_of, unmakes as unmakes_of, compound_after, after_making as making_leads, after_greeting as greeting_leads, after_telling as telling_leads, after_dooming as dooming_leads, after_unmaking as unmaking_leads, after_default as default_leads};
+ghost use Rattle.script_tree.specs.Compounds.{sent as sent_of, creation as creation_of, destruction as destruction_of, cleaning as cleaning_of, erasing as erasing_of, notifying as notifying_of, broadcasting as broadcasting_of, activates as activates_of, default_begin, default_result as default_of, undoes as undoes_of, unmakes as unmakes_of, compound_after, after_making as making_leads, after_greeting as greeting_leads, after_telling as telling_leads, after_dooming as dooming_leads, after_unmaking as unmaking_leads, after_default as default_leads, notice_call, reach as reach_of, notifies as notifies_of, after_calling as calling_leads, after_seeking as seeking_leads, seeks as seeks_of};
 
-use crate::frame::{Begin, Lead, Place};
+use crate::frame::{Begin, Broadcast, Lead, Notice, Notices, Place, Spread};
 use crate::messages::{
-    WM_CLOSE, WM_CREATE, WM_DESTROY, WM_ERASEBKGND, WM_NCCREATE, WM_NCDESTROY, WM_PAINT,
+    WM_ACTIVATE, WM_CANCELMODE, WM_CLOSE, WM_CREATE, WM_DESTROY, WM_ERASEBKGND, WM_NCCREATE,
+    WM_NCDESTROY, WM_PAINT,
 };
+use crate::notifying::{notices_after, result_after, told_number};
 use crate::variables::Parameters;
 use user_model::{Answer, Call};
 use win_num::Hwnd;
@@ -52,12 +54,40 @@ impl Begin {
             place: Place::Single,
         }
     }
+
+    /// A compound that makes this call and then sends messages.
+    pub fn notifying(call: Call) -> Begin
+        ensures { result ≡ notifying_of call }
+    {
+        Begin {
+            call,
+            place: Place::Calling(call),
+        }
+    }
+
+    /// A compound that brings this message to each top-level window.
+    pub fn broadcasting(broadcast: Broadcast) -> Begin
+        ensures { result ≡ broadcasting_of broadcast }
+    {
+        Begin {
+            call: Call::NextTop(0),
+            place: Place::Seeking(broadcast),
+        }
+    }
 }
 
 impl Parameters {
+    /// Whether the message makes its window the active one (Microsoft, WM_ACTIVATE message).
+    fn activates(&self) -> bool
+        ensures { result ≡ activates_of self.now }
+    {
+        self.number == u64::from(WM_ACTIVATE) && self.wparam != 0
+    }
+
     /// The compound inside of the default procedure for this message, if there is one: it destroys a window
-    /// that is to close, makes one clean that is to paint, and paints one whose background is to be painted
-    /// (Microsoft, WM_CLOSE, WM_PAINT and WM_ERASEBKGND messages).
+    /// that is to close, makes one clean that is to paint, paints one whose background is to be painted, gives
+    /// one the focus that becomes the active one, and takes the capture away where what is going on is to be
+    /// left (Microsoft, WM_CLOSE, WM_PAINT, WM_ERASEBKGND, WM_ACTIVATE and WM_CANCELMODE messages).
     pub fn default_begin(&self) -> Option<Begin>
         ensures { result ≡ default_begin self.now }
     {
@@ -67,6 +97,10 @@ impl Parameters {
             Some(Begin::cleaning(self.hwnd))
         } else if self.number == u64::from(WM_ERASEBKGND) {
             Some(Begin::erasing(self.hwnd))
+        } else if self.activates() {
+            Some(Begin::notifying(Call::SetFocus(self.hwnd)))
+        } else if self.number == u64::from(WM_CANCELMODE) {
+            Some(Begin::notifying(Call::ReleaseCapture))
         } else {
             None
         }
@@ -101,6 +135,10 @@ impl Place {
             Place::Parting(window, part) => Lead::Calls(Call::Drop(part), Place::Dropping(window)),
             Place::Dropping(window) => unmakes(window),
             Place::Single => Lead::Ends(*answer),
+            Place::Calling(call) => after_calling(&call, answer),
+            Place::Notifying(notices, end) => notifies(notices, end),
+            Place::Seeking(broadcast) => after_seeking(broadcast, answer),
+            Place::Reaching(broadcast, window) => seeks(broadcast, window),
             Place::Defaulting(result) => after_default(result, answer),
         }
     }
@@ -203,4 +241,80 @@ fn after_default(value: u64, answer: &Answer) -> Lead
         Answer::Refused(refusal) => Lead::Ends(Answer::Refused(*refusal)),
         _ => Lead::Ends(Answer::Value(value)),
     }
+}
+
+/// A message of a compound is sent.
+fn notified(notice: &Notice) -> Call
+    ensures { result ≡ notice_call notice.now }
+{
+    Call::Send(
+        notice.window,
+        u64::from(notice.number),
+        notice.wparam,
+        notice.lparam,
+    )
+}
+
+/// The next of these messages is sent, and where there is none the compound ends with this result.
+fn notifies(notices: Notices, value: u64) -> Lead
+    ensures { result ≡ notifies_of notices value }
+{
+    match notices.next() {
+        Some(notice) => Lead::Calls(notified(&notice), Place::Notifying(notices.others(), value)),
+        None => Lead::Ends(Answer::Value(value)),
+    }
+}
+
+/// The messages behind its first call, unless that is refused.
+fn after_calling(call: &Call, answer: &Answer) -> Lead
+    ensures { result ≡ calling_leads call.now answer.now }
+{
+    match answer {
+        Answer::Refused(code) => Lead::Ends(Answer::Refused(*code)),
+        _ => {
+            let told = told_number(answer);
+            notifies(notices_after(call, told), result_after(call, told))
+        }
+    }
+}
+
+/// The message goes to this window.
+fn reach(broadcast: &Broadcast, window: u64) -> Call
+    ensures { result ≡ reach_of broadcast.now window }
+{
+    match broadcast.spread {
+        Spread::Posts => Call::Post(window, broadcast.number, broadcast.wparam, broadcast.lparam),
+        Spread::Notifies => Call::SendNotify(
+            window,
+            broadcast.number,
+            broadcast.wparam,
+            broadcast.lparam,
+        ),
+    }
+}
+
+/// The message goes to the next top-level window, if there is one.
+fn after_seeking(broadcast: Broadcast, answer: &Answer) -> Lead
+    ensures { result ≡ seeking_leads broadcast answer.now }
+{
+    match answer {
+        Answer::Refused(code) => Lead::Ends(Answer::Refused(*code)),
+        _ => {
+            let window = told_number(answer);
+            if window == 0 {
+                return Lead::Ends(Answer::Value(1));
+            }
+            Lead::Calls(
+                reach(&broadcast, window),
+                Place::Reaching(broadcast, window),
+            )
+        }
+    }
+}
+
+/// The top-level window behind this one is asked for.
+fn seeks(broadcast: Broadcast, window: u64) -> Lead
+    ensures { result ≡ seeks_of broadcast window }
+{
+    Lead::Calls(Call::NextTop(window), Place::Seeking(broadcast))
 }

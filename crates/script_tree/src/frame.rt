@@ -14,6 +14,44 @@ pub struct Run {
     pub frame: Frame,
 }
 
+/// A message that a compound statement sends, whatever becomes of it.
+#[derive(Clone, Copy)]
+pub struct Notice {
+    /// The number of the window.
+    pub window: u64,
+    /// The number of the message.
+    pub number: u32,
+    pub wparam: u64,
+    pub lparam: u64,
+}
+
+/// The messages that a compound statement still sends, one after another: those of the three that are there.
+#[derive(Clone, Copy)]
+pub struct Notices {
+    pub first: Option<Notice>,
+    pub second: Option<Notice>,
+    pub third: Option<Notice>,
+}
+
+/// How a message goes to each top-level window.
+#[derive(Clone, Copy)]
+pub enum Spread {
+    /// It is posted (Microsoft, PostMessage function).
+    Posts,
+    /// It is sent, and nobody waits for it (Microsoft, SendNotifyMessage function).
+    Notifies,
+}
+
+/// A message that goes to each top-level window.
+#[derive(Clone, Copy)]
+pub struct Broadcast {
+    pub spread: Spread,
+    /// The number of the message, as it was written.
+    pub number: u64,
+    pub wparam: u64,
+    pub lparam: u64,
+}
+
 /// Where a compound statement stands: behind one of its calls, or behind the end of a compound inside of
 /// it. Windows are named by their numbers.
 #[derive(Clone, Copy)]
@@ -38,6 +76,14 @@ pub enum Place {
     Dropping(u64),
     /// A compound of one call: that is being made.
     Single,
+    /// A compound that sends messages after its first call: that is being made, and is this one.
+    Calling(Call),
+    /// The same: a message is being sent. These are sent after it, and then the compound ends with this result.
+    Notifying(Notices, u64),
+    /// `post_all` and `notify_all`: the next top-level window is asked for.
+    Seeking(Broadcast),
+    /// The same: the message goes to the window of this number.
+    Reaching(Broadcast, u64),
     /// The default procedure, which has this result where nothing is refused: the compound inside of it
     /// runs (Microsoft, DefWindowProc function).
     Defaulting(u64),

@@ -7,6 +7,7 @@ mod compound;
 mod frame;
 mod laws;
 pub mod messages;
+mod notifying;
 mod operand;
 mod script;
 mod statement;
@@ -14,12 +15,12 @@ mod values;
 mod variables;
 
 pub use answers::result_of;
-pub use frame::{Begin, Lead, Place, Run};
+pub use frame::{Begin, Broadcast, Lead, Notice, Notices, Place, Run, Spread};
 pub use laws::{
     calls_come_in_turn, calls_fit_the_stack, ends_once, one_next_call, rows_are_the_table,
     traces_agree,
 };
 pub use operand::{Comparison, Letter, Operand, Operator, Test, Variable};
 pub use script::{Body, Name, Procedure, Script};
-pub use statement::{CallStatement, Creation, Statement};
+pub use statement::{CallStatement, CompoundStatement, Creation, Statement};
 pub use variables::{Letters, Parameters, Variables};

@@ -17,6 +17,8 @@ pub enum CallStatement {
     PostThread(Operand, Operand, Operand, Operand),
     /// `post_quit V` (Microsoft, PostQuitMessage function).
     PostQuit(Operand),
+    /// `status FLAGS` (Microsoft, GetQueueStatus function).
+    Status(Operand),
     /// `dispatch`, with the last message got (Microsoft, DispatchMessage function).
     Dispatch,
     /// `translate`, with the last message got (Microsoft, TranslateMessage function).
@@ -90,6 +92,35 @@ pub enum CallStatement {
     Yield,
 }
 
+/// A compound statement that makes a call and then sends messages, or that goes through the top-level
+/// windows, with its operands in the order in which they are written.
+#[derive(Clone, Copy, Debug, PartialEq, Eq)]
+pub enum CompoundStatement {
+    /// `show_window W ON` (Microsoft, ShowWindow function).
+    ShowWindow(Operand, Operand),
+    /// `enable_window W ON` (Microsoft, EnableWindow function).
+    EnableWindow(Operand, Operand),
+    /// `set_window_pos W AFTER L T R B FLAGS`; a place in the order or an edge from 2^63 on is a number below 0, by
+    /// two's complement (Microsoft, SetWindowPos function).
+    SetWindowPos(Operand, Operand, Operand, Operand, Operand, Operand, Operand),
+    /// `set_focus W` (Microsoft, SetFocus function).
+    SetFocus(Operand),
+    /// `set_active W` (Microsoft, SetActiveWindow function).
+    SetActive(Operand),
+    /// `set_capture W` (Microsoft, SetCapture function).
+    SetCapture(Operand),
+    /// `release_capture` (Microsoft, ReleaseCapture function).
+    ReleaseCapture,
+    /// `begin_paint W` (Microsoft, BeginPaint function).
+    BeginPaint(Operand),
+    /// `update_window W` (Microsoft, UpdateWindow function).
+    UpdateWindow(Operand),
+    /// `post_all M P Q` (Microsoft, PostMessage function, HWND_BROADCAST).
+    PostAll(Operand, Operand, Operand),
+    /// `notify_all M P Q` (Microsoft, SendNotifyMessage function, HWND_BROADCAST).
+    NotifyAll(Operand, Operand, Operand),
+}
+
 /// What `create` makes a window of (Microsoft, CreateWindowEx function).
 #[derive(Clone, Copy, Debug, PartialEq, Eq)]
 pub struct Creation {
@@ -131,6 +162,8 @@ pub enum Statement {
     Create(Creation),
     /// `destroy W` (Microsoft, DestroyWindow function).
     Destroy(Operand),
+    /// One of the other compound statements.
+    Compound(CompoundStatement),
     /// `default`, with the message of the procedure (Microsoft, DefWindowProc function). In procedures alone.
     Default,
 }

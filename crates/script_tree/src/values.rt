@@ -1,10 +1,12 @@
 //! The values of operands and tests, and the calls of statements.
 
 ghost use Rattle.std.specs.Prelude.{◌≡◌};
-ghost use Rattle.script_tree.specs.Values.{value_of, edge_of, computed, compared, holds as holds_of, call_of, creation_call, dispatch_of, translate_of, IsSend, IsRectangle, IsOfInput, IsShort};
+ghost use Rattle.script_tree.specs.Values.{value_of, edge_of, computed, compared, holds as holds_of, call_of, first_call as first_call_of, creation_call, dispatch_of, translate_of, IsSend, IsRectangle, IsOfInput, IsShort};
+ghost use Rattle.script_tree.specs.Compounds.{compound_begin, broadcast as broadcast_of};
 
+use crate::frame::{Begin, Broadcast, Spread};
 use crate::operand::{Comparison, Operand, Operator, Test};
-use crate::statement::{CallStatement, Creation};
+use crate::statement::{CallStatement, CompoundStatement, Creation};
 use crate::variables::Variables;
 use name_table::constant_value;
 use user_model::Call;
@@ -90,6 +92,74 @@ impl Creation {
     }
 }
 
+impl CompoundStatement {
+    /// How it begins, with the values that its operands have where the variables are these.
+    pub fn begin(&self, variables: &Variables) -> Begin
+        ensures { result ≡ compound_begin self.now variables.now }
+    {
+        match self {
+            CompoundStatement::PostAll(number, wparam, lparam) => Begin::broadcasting(broadcast(
+                Spread::Posts,
+                number.value(variables),
+                wparam.value(variables),
+                lparam.value(variables),
+            )),
+            CompoundStatement::NotifyAll(number, wparam, lparam) => Begin::broadcasting(broadcast(
+                Spread::Notifies,
+                number.value(variables),
+                wparam.value(variables),
+                lparam.value(variables),
+            )),
+            _ => Begin::notifying(self.first_call(variables)),
+        }
+    }
+
+    /// Its first call, likewise.
+    fn first_call(&self, variables: &Variables) -> Call
+        ensures { result ≡ first_call_of self.now variables.now }
+    {
+        match self {
+            CompoundStatement::ShowWindow(window, on) => {
+                Call::Show(window.value(variables), on.value(variables))
+            }
+            CompoundStatement::EnableWindow(window, on) => {
+                Call::Enable(window.value(variables), on.value(variables))
+            }
+            CompoundStatement::SetWindowPos(window, after, left, top, right, bottom, flags) => {
+                Call::Place(
+                    window.value(variables),
+                    after.edge(variables),
+                    left.edge(variables),
+                    top.edge(variables),
+                    right.edge(variables),
+                    bottom.edge(variables),
+                    flags.value(variables),
+                )
+            }
+            CompoundStatement::SetFocus(window) => Call::SetFocus(window.value(variables)),
+            CompoundStatement::SetActive(window) => Call::SetActive(window.value(variables)),
+            CompoundStatement::SetCapture(window) => Call::SetCapture(window.value(variables)),
+            CompoundStatement::ReleaseCapture => Call::ReleaseCapture,
+            CompoundStatement::BeginPaint(window) => Call::BeginPaint(window.value(variables)),
+            CompoundStatement::UpdateWindow(window) => Call::UpdateRect(window.value(variables)),
+            CompoundStatement::PostAll(_, _, _) => Call::NextTop(0),
+            CompoundStatement::NotifyAll(_, _, _) => Call::NextTop(0),
+        }
+    }
+}
+
+/// A message for each top-level window.
+fn broadcast(spread: Spread, number: u64, wparam: u64, lparam: u64) -> Broadcast
+    ensures { result ≡ broadcast_of spread number wparam lparam }
+{
+    Broadcast {
+        spread,
+        number,
+        wparam,
+        lparam,
+    }
+}
+
 impl CallStatement {
     /// Its call, with the values that its operands have where the variables are these.
     pub fn call(&self, variables: &Variables) -> Call
@@ -120,6 +190,7 @@ impl CallStatement {
                 lparam.value(variables),
             ),
             CallStatement::PostQuit(code) => Call::PostQuit(code.value(variables)),
+            CallStatement::Status(flags) => Call::Status(flags.value(variables)),
             CallStatement::Dispatch => dispatch(&variables.got),
             CallStatement::Send(_, _, _, _) => self.send(variables),
             CallStatement::SendTimeout(_, _, _, _, _, _) => self.send(variables),

@@ -14,11 +14,12 @@ use Rattle.user_model.specs.Places.{is_end}
 use Rattle.user_model.specs.Stacks.{top}
 use Rattle.user_model.specs.Sends.{answers, answers_in, is_entered_frame, is_one, is_timed_out, left_by, outcome, send, sends}
 use Rattle.user_model.specs.Ready.{ReadyMsg, departs, ready, ready_head}
+use Rattle.user_model.specs.Since.{last_of, ready_last}
 use Rattle.user_model.proofs.ListLaws.{filter_all, all_weaker}
 use Rattle.user_model.proofs.SendLaws.{is_sent, makes_none, ready-next, sends-same}
-use Rattle.send_variants.specs.Lists.{AreBelow, Entry as Item, count_in, count_on, list_of, named_by as send_of, names}
+use Rattle.send_variants.specs.Lists.{AreBelow, Entry as Item, count_in, count_on, last_of as last_entry, list_of, named_by as send_of, names}
 use Rattle.send_variants.proofs.Entries.{count-total, sound-take}
-use Rattle.send_state.specs.Parts.{SendParts, head_of, rank, without_head}
+use Rattle.send_state.specs.Parts.{SendParts, head_of, last_ready, rank, without_head}
 use Rattle.send_state.specs.Standing.{IsOurs, ListsStand, PartsStand, item, ready_as}
 use Rattle.send_state.proofs.Still.{arrives-none, is_drop, loses-none}
 use Rattle.send_state.proofs.StandStill.{below_next}
@@ -191,3 +192,16 @@ lists-served setup e past lists r quiet own is_first leaves h = record {
     | inl x ↦ subst (λ n. each item (list_of (without_head lists e.who.0) n) ≡ each ready_as (filter (stay n) (ready past n))) x.1 own_kept
     | inr x ↦ other_kept t ours x.1
   ]
+
+-- the last entry of a list is what became ready last
+pub last-stands : (es : List Item) (rs : List ReadyMsg) → each item es ≡ each ready_as rs → option_map (λ (e : Item). e.1) (last_entry es) ≡ option_map ready_as (last_of rs)
+last-stands [] [] e = refl
+last-stands [] (r ∷ rs) e = absurd cc
+last-stands (x ∷ es) [] e = absurd cc
+last-stands (x ∷ []) (r ∷ []) e = let head : item x ≡ ready_as r = cc in ap Some head
+last-stands (x ∷ []) (r ∷ q ∷ rs) e = absurd cc
+last-stands (x ∷ y ∷ es) (r ∷ []) e = absurd cc
+last-stands (x ∷ y ∷ es) (r ∷ q ∷ rs) e = let rest : each item (y ∷ es) ≡ each ready_as (q ∷ rs) = cc in last-stands (y ∷ es) (q ∷ rs) rest
+
+pub last_ready-stands : (setup : Setup) (past : Past) (p : SendParts) (t : ℕ) → IsOurs setup t → PartsStand setup past p → last_ready p t ≡ option_map ready_as (ready_last past t)
+last_ready-stands setup past p t ours h = last-stands (list_of p.lists t) (ready past t) (h.lists.ready t ours)

@@ -17,7 +17,7 @@ use Rattle.send_frames.specs.Book.{Book, KnownSend, book_code, answered_by, begu
 use Rattle.send_variants.specs.declared.ready.Ready.{Ready}
 use Rattle.send_variants.specs.declared.ready.Ready.TheVariants.{Send, Result}
 use Rattle.send_variants.specs.contracts.ready.Ready as ready
-use Rattle.send_variants.specs.Lists.{AreBelow, Entry, IsThread, named_by as send_of, all_without, count_on, list_of, place_on, total, with_list}
+use Rattle.send_variants.specs.Lists.{AreBelow, Entry, IsThread, named_by as send_of, all_without, count_on, last_of, list_of, place_on, total, with_list}
 
 -- the sends with their frames, and what is ready for each thread
 pub record SendParts : Type 0 where
@@ -67,6 +67,10 @@ CanBegin p r place = is_inside r ≡ false → map.len p.book.known < 1024 → C
 -- what is first in a thread's list
 abbrev pub head_of : SendParts → ℕ → Option Ready
 head_of p t = option_map (λ e. e.1) (slice_get (list_of p.lists t) 0)
+
+-- what is last in a thread's list
+abbrev pub last_ready : SendParts → ℕ → Option Ready
+last_ready p t = option_map (λ e. e.1) (last_of (list_of p.lists t))
 
 -- a thread's list without its first
 abbrev pub without_head : List (List Entry) → ℕ → List (List Entry)

@@ -6,7 +6,7 @@ ghost use Rattle.send_frames.specs.Book.{IsFaultFor, IsThread, NamesKnown, pushe
 ghost use Rattle.win_num.specs.Clocks.{clock_limit};
 ghost use Rattle.win_num.specs.declared.message.Hwnd.{Hwnd};
 ghost use Rattle.send_variants.specs.Lists.{with_list, IsThread as IsListed};
-ghost use Rattle.send_state.specs.Parts.{CanAnswer, CanBegin, CanJoin, CanLeaveFrom, CanLose, ended, freed_to, is_from, is_losable, lost, CanReplyIn, CanServe, answered, begun, blocks_as, callback_in, deadline_of, dispatched, enter_as, finished, has_depth, head_of, left, lists_joined, lost_count, next_answer, next_window, no_parts, rank, replied, runs_callback, served, timed_out, top_of};
+ghost use Rattle.send_state.specs.Parts.{CanAnswer, CanBegin, CanJoin, CanLeaveFrom, CanLose, ended, freed_to, is_from, is_losable, last_ready, lost, CanReplyIn, CanServe, answered, begun, blocks_as, callback_in, deadline_of, dispatched, enter_as, finished, has_depth, head_of, left, lists_joined, lost_count, next_answer, next_window, no_parts, rank, replied, runs_callback, served, timed_out, top_of};
 ghost use Rattle.send_state.specs.Stories.{EachStory, noted_loss};
 
 use crate::story::{Event, note};
@@ -220,6 +220,14 @@ impl SendState {
         }
         let (Ready::Send(send) | Ready::Result(send)) = self.ready.head(who)?;
         Some(self.sends.row(send)?.hwnd)
+    }
+
+    /// The send or the result that became ready for a thread last.
+    pub fn newest(&self, who: Thread) -> Option<Ready>
+        requires { IsThread self.now.book who.0 }
+        ensures { result ≡ last_ready self.now who.0 }
+    {
+        self.ready.last(who)
     }
 
     /// The answer that runs what a thread has ready, `None` where nothing is ready or the thread has 64

@@ -16,6 +16,12 @@ named_by (Result s) = s.0
 abbrev pub names : ℕ → Entry → Bool
 names s e = named_by e.1 == s
 
+-- the last of a list
+abbrev pub last_of : List Entry → Option Entry
+last_of [] = None
+last_of (e ∷ []) = Some e
+last_of (e ∷ f ∷ es) = last_of (f ∷ es)
+
 -- the list of thread t
 abbrev pub list_of : List (List Entry) → ℕ → List Entry
 list_of lists t = slice_index_or lists (t - 1) []

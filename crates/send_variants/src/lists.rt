@@ -3,7 +3,7 @@
 ghost use Rattle.std.specs.Prelude.{◌≡◌, ◌+◌, ◌<◌, ◌≤◌, ◌∷◌, ◌++◌, ℕ, Some, [], length, vec_len, slice_index_or, slice_set, drop, replicate, slice_get, option_map, IfOk};
 ghost use Rattle.send_variants.specs.declared.slot.Slot.{Slot};
 ghost use Rattle.send_variants.specs.declared.slot.Ends.{Ends};
-ghost use Rattle.send_variants.specs.Lists.{AreBelow, IsSound, IsThread, all_without, count_on, list_of, named_by, place_on, total, with_list};
+ghost use Rattle.send_variants.specs.Lists.{AreBelow, IsSound, IsThread, all_without, count_on, last_of, list_of, named_by, place_on, total, with_list};
 ghost use Rattle.send_variants.specs.Tables.{IsPut, IsTaken, no_ends, slot_of};
 
 use crate::ready::Ready;
@@ -77,6 +77,16 @@ impl ReadyLists {
     {
         let at = usize::from(t.0) - 1;
         let slot = slot_under(&self.slots, self.ends[at].first)?;
+        Some(slot.ready)
+    }
+
+    /// What is ready at the greatest place of a thread's list, `None` exactly where the list is empty.
+    pub fn last(&self, t: Thread) -> Option<Ready>
+        requires { IsThread self.now t.0 }
+        ensures { result ≡ option_map (λ e. e.1) (last_of (list_of self.now t.0)) }
+    {
+        let at = usize::from(t.0) - 1;
+        let slot = slot_under(&self.slots, self.ends[at].last)?;
         Some(slot.ready)
     }
 

@@ -1,1 +1,2 @@
 pub mod StatementLaws
+pub mod CompoundLaws

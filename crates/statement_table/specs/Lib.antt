@@ -1,4 +1,5 @@
 pub mod Clock
+pub mod Compounds
 pub mod Delivery
 pub mod Drawing
 pub mod Input

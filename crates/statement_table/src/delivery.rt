@@ -1,4 +1,4 @@
-//! Statements that take, post and hand on messages, one row each.
+//! Statements that take, post and hand on messages, and that ask which are there, one row each.
 
 ghost use Rattle.std.specs.Prelude.{◌≡◌, option_map};
 ghost use Rattle.statement_table.specs.Delivery.{split_delivery, made_delivery};
@@ -33,6 +33,7 @@ pub fn split_delivery(call: CallStatement) -> Option<SplitStatement>
             &[thread, message, wparam, lparam],
         ),
         CallStatement::PostQuit(code) => split_operands(Delivery(DeliveryCall::PostQuit), &[code]),
+        CallStatement::Status(flags) => split_operands(Delivery(DeliveryCall::Status), &[flags]),
         CallStatement::Dispatch => split_operands(Delivery(DeliveryCall::Dispatch), &[]),
         CallStatement::Translate => split_operands(Delivery(DeliveryCall::Translate), &[]),
         _ => None,
@@ -66,6 +67,7 @@ pub fn made_delivery(name: DeliveryCall, parts: &[Part]) -> Option<CallStatement
             operands[3],
         )),
         DeliveryCall::PostQuit => Some(CallStatement::PostQuit(operands[0])),
+        DeliveryCall::Status => Some(CallStatement::Status(operands[0])),
         DeliveryCall::Dispatch => Some(CallStatement::Dispatch),
         DeliveryCall::Translate => Some(CallStatement::Translate),
     }

@@ -1,4 +1,5 @@
-//! One row for each statement that makes one call: which call, and its parts in their places.
+//! One row for each statement that makes one call: which call, and its parts in their places. One row for each compound
+//! statement whose words are operands alone: its word and its parts.
 //!
 //! A statement is the name of its call and its parts (`split_statement`), and is made of them again
 //! (`statement_of_parts`). What reads or writes statements is a loop over parts. Each group of calls has
@@ -6,6 +7,7 @@
 #![tactic(auto)]
 
 mod clock;
+mod compounds;
 mod delivery;
 mod drawing;
 mod input;
@@ -19,6 +21,9 @@ mod sends;
 mod split;
 mod statements;
 
+pub use compounds::{
+    CompoundName, compound_name, compound_of_parts, compound_parts, compound_places, compound_word,
+};
 pub use part::{Part, Parts, Place, Places};
 pub use parts::{
     beginning_in, comparison_in, letter_in, name_in, operand_in, operator_in, parts_of,

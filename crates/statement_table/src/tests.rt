@@ -2,7 +2,7 @@
 
 use super::*;
 use call_table::{CallName, ClockCall, DrawingCall, InputCall, LookupCall, WindowCall};
-use script_tree::{CallStatement, Comparison, Letter, Operand, Operator};
+use script_tree::{CallStatement, Comparison, CompoundStatement, Letter, Operand, Operator};
 use std::test::Fail;
 
 #[test]
@@ -28,6 +28,7 @@ fn statements_again(rt: HostRuntime) -> Result<(), Fail> {
         (CallStatement::Snap, 0),
         (CallStatement::Dispatch, 0),
         (CallStatement::Translate, 0),
+        (CallStatement::Status(h), 1),
         (CallStatement::Yield, 0),
     ] {
         let split = split_statement(call);
@@ -38,6 +39,34 @@ fn statements_again(rt: HostRuntime) -> Result<(), Fail> {
         assert_eq!(rt; statement_name(call), split.name);
         assert_eq!(rt; statement_parts(call).len(), places);
     }
+    Ok(())
+}
+
+#[test]
+fn compounds_again(rt: HostRuntime) -> Result<(), Fail> {
+    let a = Operand::Number(1);
+    let b = Operand::Number(2);
+    for (compound, places) in [
+        (CompoundStatement::ShowWindow(a, b), 2),
+        (CompoundStatement::EnableWindow(b, a), 2),
+        (CompoundStatement::SetWindowPos(a, b, a, b, b, a, b), 7),
+        (CompoundStatement::SetFocus(b), 1),
+        (CompoundStatement::SetActive(a), 1),
+        (CompoundStatement::SetCapture(b), 1),
+        (CompoundStatement::ReleaseCapture, 0),
+        (CompoundStatement::BeginPaint(a), 1),
+        (CompoundStatement::UpdateWindow(b), 1),
+        (CompoundStatement::PostAll(a, b, b), 3),
+        (CompoundStatement::NotifyAll(b, a, a), 3),
+    ] {
+        let name = compound_name(compound);
+        let parts = compound_parts(compound);
+        assert_eq!(rt; parts.len(), places);
+        assert_eq!(rt; compound_places(name).len(), places);
+        assert!(rt; compound_of_parts(name, &parts) == compound);
+        assert!(rt; !compound_word(name).is_empty());
+    }
+    assert!(rt; compound_word(CompoundName::PostAll) == b"post_all".as_slice());
     Ok(())
 }
 

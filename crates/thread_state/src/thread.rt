@@ -1,6 +1,7 @@
 //! What is kept of one thread.
 
-ghost use Rattle.std.specs.Prelude.{◌≡◌, ◌<◌, ◌==◌, ℕ, [], ◌∷◌, ◌++◌, All, Bool, true, filter, find, length, not, option_map, OnOk, OnErr};
+ghost use Rattle.std.specs.Prelude.{◌≡◌, ◌<◌, ◌==◌, ℕ, [], ◌∷◌, ◌++◌, All, Bool, true, filter, find, length, nat_lt, not, option_map, OnOk, OnErr};
+ghost use Rattle.std.specs.List.{list_any};
 ghost use Rattle.post_queue.specs.Queue.{pair_of, post_of, queue, without_number};
 ghost use Rattle.win_num.specs.declared.message.Hwnd.{Hwnd};
 ghost use Rattle.thread_state.specs.Passing.{passes_here, passes_in};
@@ -81,6 +82,13 @@ impl ThreadState {
         ensures { result ≡ option_map pair_of (find (passes_in tree.now.live filter) self.now.queue.posted) }
     {
         first_in::<Brand>(Blank::new(1), &self.posts, tree, filter)
+    }
+
+    /// Whether a posted message stands with a number above this. No message is read.
+    pub fn has_post_above(&self, number: u32) -> bool
+        ensures { result ≡ list_any (λ p. nat_lt number p.number) self.now.queue.posted }
+    {
+        self.posts.has_above(number)
     }
 
     /// Puts a message at the end.

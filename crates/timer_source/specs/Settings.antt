@@ -106,6 +106,14 @@ first_due t test clock settings = first_passing t (is_due_and clock test) settin
 abbrev pub next_due : Thread → (Timer → Bool) → List Setting → Option ℕ
 next_due t test settings = option_map (λ (x : Timer). x.due) (first_passing t test settings)
 
+-- whether a timer is due at the clock, and later than this time
+abbrev pub is_due_after : ℕ → ℕ → Setting → Bool
+is_due_after after clock s = nat_le (due_of s) clock && nat_lt after (due_of s)
+
+-- whether the thread has such a timer
+abbrev pub has_due : Thread → ℕ → ℕ → List Setting → Bool
+has_due t after clock settings = list_any (λ s. (s.thread.0 == t.0) && is_due_after after clock s) settings
+
 -- the periods began within the clock's bound
 abbrev pub AreEarly : List Setting → Type 0
 AreEarly settings = All (λ s. s.base < clock_limit) settings

@@ -7,7 +7,7 @@ ghost use Rattle.win_num.specs.Clocks.{clock_limit};
 ghost use Rattle.win_num.specs.declared.message.Hwnd.{Hwnd};
 ghost use Rattle.win_num.specs.declared.message.Thread.{Thread};
 ghost use Rattle.timer_source.specs.declared.timer.Timer.{Timer};
-ghost use Rattle.timer_source.specs.Settings.{AreEarly, is_of, is_set, is_set_for, without, without_window, has_no_room, of_thread, setting_at, restarted, first_passing, with_timer, timer_of, is_before, first_due, next_due, Computes};
+ghost use Rattle.timer_source.specs.Settings.{AreEarly, is_of, is_set, is_set_for, without, without_window, has_no_room, of_thread, setting_at, restarted, first_passing, with_timer, timer_of, is_before, first_due, next_due, is_due_after, has_due, Computes};
 
 use crate::setting::Setting;
 use crate::timer::Timer;
@@ -119,6 +119,13 @@ impl Timers {
         ensures passed { IfSome result (λ due. (x : Timer) × (x.due ≡ due) × FnReturnsAt F.Fn pass x true) }
     {
         soonest(&self.settings, t, pass).map(|timer| timer.due)
+    }
+
+    /// Whether a timer of thread `t` is due at the clock, and later than `after`, both in milliseconds.
+    pub fn has_due(&self, t: Thread, after: u64, clock: u64) -> bool
+        ensures { result ≡ has_due t after clock self.now }
+    {
+        any_due(&self.settings, t, after, clock)
     }
 
     /// Begins the period of the timer `id` of the window `w` anew at the clock, which is below 2 to the
@@ -243,6 +250,28 @@ fn soonest<F: Fn(&Timer) -> bool>(settings: &[Setting], t: Thread, pass: F) -> O
         }
     }
     best
+}
+
+/// Whether a timer of thread `t` is due at the clock, and later than `after`.
+fn any_due(settings: &[Setting], t: Thread, after: u64, clock: u64) -> bool
+    requires { AreEarly settings.now }
+    ensures { result ≡ has_due t after clock settings.now }
+{
+    for setting in settings {
+        if setting.thread == t && is_due_after(setting, after, clock) {
+            return true;
+        }
+    }
+    false
+}
+
+/// Whether a timer is due at the clock, and later than `after`.
+fn is_due_after(setting: &Setting, after: u64, clock: u64) -> bool
+    requires { setting.now.base < clock_limit }
+    ensures { result ≡ is_due_after after clock setting.now }
+{
+    let due = setting.base + u64::from(setting.period);
+    due <= clock && after < due
 }
 
 /// The timer that is due first, of the first so far and of one more that counts if it passes.

@@ -1,6 +1,7 @@
 -- What is looked up in the timers that are kept is what the past says.
 use Rattle.std.proofs.Common.{◌≡◌, ℕ, Bool, true, false, cond, eqb, ◌∷◌, List, [], length, Option, Some, None, refl, ap, sym, ◌∙◌, arith}
-use Rattle.std.specs.Prelude.{◌&&◌, ◌||◌, filter, map, min, nat_le, is_some, option_map}
+use Rattle.std.specs.Prelude.{◌&&◌, ◌||◌, filter, map, min, nat_le, nat_lt, is_some, option_map}
+use Rattle.std.specs.List.{list_any}
 use Rattle.std.proofs.lemmas.Bool.{false≢true, eqb-true}
 use Rattle.std.proofs.lemmas.Bool.Decides.{nat_tests}
 use Rattle.win_num.specs.Numbers.{passes_range}
@@ -12,13 +13,14 @@ use Rattle.win_rows.specs.Windows.{Windows}
 use Rattle.win_tree.specs.Kin as kept_kin
 use Rattle.timer_source.specs.declared.timer.Timer.{Timer}
 use Rattle.timer_source.specs.Settings as settings
-use Rattle.timer_source.specs.Settings.{first_due, first_passing, is_set, next_due, of_thread, timer_of}
+use Rattle.timer_source.specs.Settings.{first_due, first_passing, has_due, is_due_after, is_set, next_due, of_thread, timer_of}
 use Rattle.user_model.specs.declared.entry.Setup.{Setup}
 use Rattle.user_model.specs.Past.{Past}
 use Rattle.user_model.specs.Places.{clock}
 use Rattle.user_model.specs.Windows.{find_window, is_live, is_below, thread_of}
 use Rattle.user_model.specs.Filters.{passes_window}
 use Rattle.user_model.specs.Timers.{WinTimer, due, due_time, is_due, is_timer, passes_timer, passing_timers, sooner, soonest_timer, timer, timers, timers_of}
+use Rattle.user_model.specs.Since.{has_due_after}
 use Rattle.user_model.specs.Idle.{least_of, least_with}
 use Rattle.user_model.specs.Legal.{IsLawful}
 use Rattle.user_model.proofs.ListLaws.{all_found, filter_none, filter_same, filter_twice}
@@ -176,3 +178,23 @@ timer_found past window w id same = is_set-kept past window id (timers past) ∙
 
 pub full_found : (past : Past) (t : Thread) → nat_le 256 (length (of_thread t (timers_at past))) ≡ nat_le 256 (length (timers_of past t.0))
 full_found past t = ap (nat_le 256) (ap length (of_thread-kept past t (timers past)) ∙ length_mapped (kept past) (timers_of past t.0))
+
+-- ---- the timers that are due since a time
+
+any_mapped : {A B : Type 0} (f : A → B) (test : B → Bool) (xs : List A) → list_any test (map f xs) ≡ list_any (λ x. test (f x)) xs
+any_mapped f test [] = refl
+any_mapped f test (x ∷ xs) = ap (λ b. test (f x) || b) (any_mapped f test xs)
+
+any_filtered : {A : Type 0} (own test : A → Bool) (xs : List A) → list_any (λ x. own x && test x) xs ≡ list_any test (filter own xs)
+any_filtered own test [] = refl
+any_filtered own test (x ∷ xs) = by (own x) (any_filtered own test xs)
+  where
+    by : (b : Bool) → list_any (λ x. own x && test x) xs ≡ list_any test (filter own xs) → ((b && test x) || list_any (λ x. own x && test x) xs) ≡ list_any test (cond b (x ∷ filter own xs) (filter own xs))
+    by true rest = ap (λ b. test x || b) rest
+    by false rest = rest
+
+pub due_since : (past : Past) (thread : Thread) (after time : ℕ) → time ≡ clock past → has_due thread after time (timers_at past) ≡ has_due_after past thread.0 after
+due_since past thread after time now =
+    ap (λ n. has_due thread after n (timers_at past)) now
+    ∙ any_mapped (kept past) (λ s. eqb s.thread.0 thread.0 && is_due_after after (clock past) s) (timers past)
+    ∙ any_filtered (λ x. eqb (thread_of past x.hwnd) thread.0) (λ x. is_due past x && nat_lt after (due_time past x)) (timers past)

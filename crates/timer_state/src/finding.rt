@@ -4,6 +4,7 @@ ghost use Rattle.std.specs.Prelude.{◌≡◌, length, map, nat_le, option_map, 
 ghost use Rattle.user_model.specs.Idle.{least_of};
 ghost use Rattle.user_model.specs.Past.{Past};
 ghost use Rattle.user_model.specs.Places.{clock};
+ghost use Rattle.user_model.specs.Since.{has_due_after};
 ghost use Rattle.user_model.specs.Timers.{due, due_time, passing_timers, timer, timers_of};
 ghost use Rattle.thread_state.specs.Passing.{passes_window_in};
 ghost use Rattle.window_state.specs.Trees.{IsTreeAt};
@@ -48,6 +49,13 @@ pub fn next_due(timers: &Timers, tree: &Tree, thread: Thread, filter: Filter) ->
         ensures { result ≡ passes_window_in tree.entry.now.live filter.hwnd timer.now.hwnd.0 }
     { passes_window(tree, filter.hwnd, timer.hwnd) };
     timers.next_due(thread, passes)
+}
+
+/// Whether a timer of a thread is due at the clock, and later than `after`, both in milliseconds.
+pub fn has_due_after(timers: &Timers, thread: Thread, after: u64, time: u64) -> bool
+    ensures { (past : Past) → timers.now ≡ timers_at past → time ≡ clock past → result ≡ has_due_after past thread.0 after }
+{
+    timers.has_due(thread, after, time)
 }
 
 /// Whether a live window has a timer with the id.

@@ -5,4 +5,4 @@ mod changes;
 mod finding;
 
 pub use changes::{follow_timers, set_timer};
-pub use finding::{due_timer, has_timer, next_due, timers_are_full};
+pub use finding::{due_timer, has_due_after, has_timer, next_due, timers_are_full};

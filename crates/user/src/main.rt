@@ -5,26 +5,45 @@
 use std::alloc::AllocError;
 use std::process::ExitCode;
 use std::{env, io};
-use user_app::io::{StdSink, StdSource};
-use user_app::{Status, user_plain};
+use user_app::io::{Kept, NoGate, StdSink, StdSource, write_all};
+use user_app::{Status, mistake, user_main};
 
 /// What the program can be asked for.
-const USAGE: &str = "usage: user run [--json] | check | make N";
+const USAGE: &[u8] = b"usage: user run [--json] | check | make N | threads G\n";
 
 fn main(rt: HostRuntime) -> ExitCode {
     let status = match words(&rt) {
         Ok(words) => {
-            let mut source = StdSource::new(rt.stdin());
+            let mut source = Kept::new(rt.alloc(), StdSource::new(rt.stdin()));
             let mut sink = StdSink::new(rt.stdout());
-            user_plain(rt.alloc(), &words, &mut source, &mut sink)
+            let status = user_main(&rt, rt.alloc(), &words, &mut source, &mut sink, &NoGate);
+            if matches!(status, Status::Script) {
+                help(&rt, &words, source.bytes());
+            }
+            status
         }
         Err(status) => status,
     };
     if matches!(status, Status::Words) {
-        // Nobody is left to be told of a failure here.
-        let _told = rt.eprintln(USAGE);
+        tell(&rt, USAGE);
     }
     ExitCode::from(status.number())
+}
+
+/// Says to people what is wrong with the input, where it was kept.
+fn help(rt: &HostRuntime, words: &[String], input: Option<&[u8]>) {
+    let Some(input) = input else {
+        return;
+    };
+    if let Ok(Some(line)) = mistake(rt.alloc(), words, input) {
+        tell(rt, &line);
+    }
+}
+
+/// Writes to standard error. Nobody is left to be told of a failure here.
+fn tell(rt: &HostRuntime, text: &[u8]) {
+    let mut errors = StdSink::new(rt.stderr());
+    let _told = write_all(&mut errors, text);
 }
 
 /// The words after the program's name. Words that are no text ask for nothing; without memory for them

@@ -5,13 +5,14 @@ use Rattle.std.specs.Result.{IsErrOf}
 use Rattle.std.specs.Io.KnownBytes.{Consumes}
 use Rattle.user_model.specs.Past.{Past}
 use Rattle.script_tree.specs.Tree.{Tree}
+use Rattle.script_text.specs.declared.fault.Refusal.{Refusal}
 use Rattle.script_text.specs.Spelling.{spelling}
 use Rattle.log_text.specs.Logs.{log}
 use Rattle.log_read.specs.Logs.{LogTree, spelling as log_spelling}
 use Rattle.log_read.proofs.RunLogs.{run_text}
 use Rattle.user_app.specs.declared.status.Status.{Status}
 use Rattle.user_app.specs.declared.status.Status.TheVariants as statuses
-use Rattle.user_app.specs.Outcomes.{Refuses}
+use Rattle.user_app.specs.Refusals.{Refuses}
 use Rattle.user_app.specs.Inputs.{IsInput, ReadNoPair}
 use Rattle.illegal_text.specs.declared.illegal.Illegal.{Illegal}
 use Rattle.log_replay.specs.Replays.{IsRunLog, IsNoRunLog, IsFirstBad}
@@ -55,18 +56,20 @@ module _ (left left' : Option (List ℕ)) (missed missed' : ℕ) (holds holds' :
   pair_told s l statuses.Words input ends = absurd ends
   pair_told s l statuses.Stuck input ends = absurd ends
   pair_told s l statuses.Spent input ends = absurd ends
+  pair_told s l statuses.WrongCall input ends = absurd ends
 
   -- of another text
-  pub none_told : (status : Status) → ReadNoPair left left' → Refuses holds holds' faults faults' status → CheckEnds left left' missed missed' holds holds' faults faults' status
-  none_told statuses.Script none refused = (none, refused)
-  none_told statuses.WriteFault none refused = inr (none, refused)
-  none_told statuses.Done none refused = absurd refused
-  none_told statuses.Illegal none refused = absurd refused
-  none_told statuses.Memory none refused = absurd refused
-  none_told statuses.ReadFault none refused = absurd refused
-  none_told statuses.Words none refused = absurd refused
-  none_told statuses.Stuck none refused = absurd refused
-  none_told statuses.Spent none refused = absurd refused
+  pub none_told : (refusal : Refusal) (status : Status) → ReadNoPair left left' refusal → Refuses refusal holds holds' faults faults' status → CheckEnds left left' missed missed' holds holds' faults faults' status
+  none_told refusal statuses.Script none told = record { refusal = refusal; cause = none; written = told }
+  none_told refusal statuses.WriteFault none told = inr (record { refusal = refusal; cause = none; written = told.0 }, told.1)
+  none_told refusal statuses.Memory none told = inl told
+  none_told refusal statuses.Done none told = absurd told
+  none_told refusal statuses.Illegal none told = absurd told
+  none_told refusal statuses.ReadFault none told = absurd told
+  none_told refusal statuses.Words none told = absurd told
+  none_told refusal statuses.Stuck none told = absurd told
+  none_told refusal statuses.Spent none told = absurd told
+  none_told refusal statuses.WrongCall none told = absurd told
 
 -- ---- how the check of a log ends
 
@@ -81,6 +84,7 @@ module _ (s : Tree) (l : LogTree) (holds holds' : Option (List ℕ)) (faults fau
   legal_told history statuses.Words log ends = absurd ends
   legal_told history statuses.Stuck log ends = absurd ends
   legal_told history statuses.Spent log ends = absurd ends
+  legal_told history statuses.WrongCall log ends = absurd ends
 
   pub illegal_told : (past : Past) (found : Illegal) (status : Status) → IsNoRunLog s l → IsFirstBad s l past found → IllegalEnds s past l found holds holds' faults faults' status → LogChecks s l holds holds' faults faults' status
   illegal_told past found statuses.Illegal none first ends = record { no_run = none; found = found; past = past; first = first; ends = ends }
@@ -92,3 +96,4 @@ module _ (s : Tree) (l : LogTree) (holds holds' : Option (List ℕ)) (faults fau
   illegal_told past found statuses.Words none first ends = absurd ends
   illegal_told past found statuses.Stuck none first ends = absurd ends
   illegal_told past found statuses.Spent none first ends = absurd ends
+  illegal_told past found statuses.WrongCall none first ends = absurd ends

@@ -1,6 +1,9 @@
 pub mod CheckEndings
+pub mod InputEndings
 pub mod InputParts
+pub mod InputRefusals
 pub mod MadeScripts
+pub mod OneRefusal
 pub mod Requests
 pub mod RunEnds
 pub mod SameBodies

@@ -1,11 +1,11 @@
 -- Words ask for one thing.
-use Rattle.std.proofs.Common.{◌≡◌, ℕ, ◌<◌, ◌^◌, List, [], ◌∷◌, refl, sym, ap, ◌∙◌, arith}
+use Rattle.std.proofs.Common.{◌≡◌, inl, inr, ℕ, ◌<◌, ◌^◌, List, [], ◌∷◌, length, refl, sym, ap, ◌∙◌, arith}
 use Rattle.std.specs.Prelude.{codes, decimal, Result, Ok}
 use Rattle.std.proofs.lemmas.Fmt.{decimal_is_IsNumeral}
 use Rattle.std.specs.Str.Parse.{digits_value}
 use Rattle.user_app.specs.declared.request.LogForm.{LogForm}
 use Rattle.user_app.specs.declared.request.LogForm.TheVariants.{Plain, Json}
-use Rattle.user_app.specs.Requests.{AskNothing, IsMake, make_words, run_words, check_words}
+use Rattle.user_app.specs.Requests.{AskNothing, AskPlain, AskForThreads, IsMake, IsThreads, make_words, run_words, check_words, threads_words}
 
 same_second : {X : Type 0} (a b c d : X) → a ∷ b ∷ [] ≡ c ∷ d ∷ [] → b ≡ d
 same_second a b c d e = cc
@@ -42,3 +42,37 @@ check_no_run words Json a b = let e : check_words ≡ run_words Json = sym a ∙
 
 pub check_no_make : (words : List (List ℕ)) (n : ℕ) → words ≡ check_words → IsMake words n → ⊥
 check_no_make words n a b = let e : check_words ≡ make_words n = sym a ∙ b.words_are in absurd cc
+
+first_word : (a b c d : List ℕ) → a ∷ b ∷ [] ≡ c ∷ d ∷ [] → a ≡ c
+first_word a b c d e = cc
+
+-- whoever asks for a run by threads asks for no run by turns
+pub run_or_threads : (words : List (List ℕ)) (form : LogForm) (n : ℕ) → words ≡ run_words form → IsThreads words n → ⊥
+run_or_threads words Plain n asks threads = let both : run_words Plain ≡ threads_words n = sym asks ∙ threads.words_are in absurd cc
+run_or_threads words Json n asks threads =
+    let both : run_words Json ≡ threads_words n = sym asks ∙ threads.words_are in
+    let first : codes "run" ≡ codes "threads" = first_word (codes "run") (codes "--json") (codes "threads") (decimal n) both in
+    absurd (omega (arith, ap (λ (l : List ℕ). length l) first))
+
+-- nor for a check
+pub check_no_threads : (words : List (List ℕ)) (n : ℕ) → words ≡ check_words → IsThreads words n → ⊥
+check_no_threads words n a b = let e : check_words ≡ threads_words n = sym a ∙ b.words_are in absurd cc
+
+-- nor for a script that is made
+pub make_or_threads : (words : List (List ℕ)) (m n : ℕ) → IsMake words m → IsThreads words n → ⊥
+make_or_threads words m n made threads =
+    let both : make_words m ≡ threads_words n = sym made.words_are ∙ threads.words_are in
+    let first : codes "make" ≡ codes "threads" = first_word (codes "make") (decimal m) (codes "threads") (decimal n) both in
+    absurd (omega (arith, ap (λ (l : List ℕ). length l) first))
+
+-- whoever asks for a run by threads asks for nothing that is done without them
+pub plain_or_threads : (words : List (List ℕ)) → AskPlain words → AskForThreads words → ⊥
+plain_or_threads words (inl (inl run)) threads = run_or_threads words run.0 threads.0 run.1 threads.1
+plain_or_threads words (inl (inr check)) threads = check_no_threads words threads.0 check threads.1
+plain_or_threads words (inr make) threads = make_or_threads words make.0 threads.0 make.1 threads.1
+
+-- whoever asks for that doesn't ask for nothing
+pub asks_plain : (words : List (List ℕ)) → AskPlain words → AskNothing words → ⊥
+asks_plain words (inl (inl run)) none = asks_to_run words run.0 run.1 none
+asks_plain words (inl (inr check)) none = none.no_check check
+asks_plain words (inr make) none = none.no_make make.0 make.1

@@ -23,15 +23,15 @@ use Rattle.user_app.specs.Outcomes.{IsWhole, SummedPart, RunEnds, MakeEnds}
 use Rattle.user_app.specs.Statuses.{status_of, written_status}
 
 -- the log was written, and the status is that of the end
-pub logged : (form : LogForm) (s : Tree) (holds holds' : Option (List ℕ)) (faults faults' : ℕ) (past : Past) (end : End) (status : Status) → IsListed s past → end ≡ end_of s past → end ≢ Cut → Appends holds holds' (history_text form s past) → status ≡ status_of end
-    → ((send : ℕ) → IsSendStory past send) → (end_of s past ≡ Done → IsSettled past (send_count past)) → RunEnds form s holds holds' faults faults' status
-logged form s holds holds' faults faults' past Done status listed ended over written is stories settled =
-    subst (RunEnds form s holds holds' faults faults') (sym is) (record { history = past; listed = listed; ended = sym ended; written = written; stories = stories; settled = λ e. settled (sym ended) })
-logged form s holds holds' faults faults' past Stuck status listed ended over written is stories settled =
-    subst (RunEnds form s holds holds' faults faults') (sym is) (record { history = past; listed = listed; ended = sym ended; written = written; stories = stories; settled = λ e. settled (sym ended ∙ e) })
-logged form s holds holds' faults faults' past Spent status listed ended over written is stories settled =
-    subst (RunEnds form s holds holds' faults faults') (sym is) (record { history = past; listed = listed; ended = sym ended; written = written; stories = stories; settled = λ e. settled (sym ended ∙ e) })
-logged form s holds holds' faults faults' past Cut status listed ended over written is stories settled = absurd (over refl)
+pub logged : (Runs : Tree → Past → Type 0) (form : LogForm) (s : Tree) (holds holds' : Option (List ℕ)) (faults faults' : ℕ) (past : Past) (end : End) (status : Status) → Runs s past → end ≡ end_of s past → end ≢ Cut → Appends holds holds' (history_text form s past) → status ≡ status_of end
+    → ((send : ℕ) → IsSendStory past send) → (end_of s past ≡ Done → IsSettled past (send_count past)) → RunEnds Runs form s holds holds' faults faults' status
+logged Runs form s holds holds' faults faults' past Done status run ended over written is stories settled =
+    subst (RunEnds Runs form s holds holds' faults faults') (sym is) (record { history = past; run = run; ended = sym ended; written = written; stories = stories; settled = λ e. settled (sym ended) })
+logged Runs form s holds holds' faults faults' past Stuck status run ended over written is stories settled =
+    subst (RunEnds Runs form s holds holds' faults faults') (sym is) (record { history = past; run = run; ended = sym ended; written = written; stories = stories; settled = λ e. settled (sym ended ∙ e) })
+logged Runs form s holds holds' faults faults' past Spent status run ended over written is stories settled =
+    subst (RunEnds Runs form s holds holds' faults faults') (sym is) (record { history = past; run = run; ended = sym ended; written = written; stories = stories; settled = λ e. settled (sym ended ∙ e) })
+logged Runs form s holds holds' faults faults' past Cut status run ended over written is stories settled = absurd (over refl)
 
 -- the summary was written, and the status is that of the end
 pub summed : (n : ℕ) (holds holds' : Option (List ℕ)) (faults faults' : ℕ) (s : Tree) (past : Past) (end : End) (status : Status)
@@ -50,12 +50,12 @@ summed_part n holds holds' s past end made listed ended written =
     record { script = s; is_made = made; history = past; listed = listed; written = subst (λ x. AppendsPart holds holds' (summary n past x)) ended written }
 
 -- the log was written, whole or in part
-pub log_told : (r : Result (Unit {0}) WriteFault) (form : LogForm) (s : Tree) (holds holds' : Option (List ℕ)) (faults faults' : ℕ) (past : Past) (end : End) (status : Status) → IsListed s past → end ≡ end_of s past → end ≢ Cut
+pub log_told : (Runs : Tree → Past → Type 0) (r : Result (Unit {0}) WriteFault) (form : LogForm) (s : Tree) (holds holds' : Option (List ℕ)) (faults faults' : ℕ) (past : Past) (end : End) (status : Status) → Runs s past → end ≡ end_of s past → end ≢ Cut
     → OnOk r (Appends holds holds' (history_text form s past)) → OnErr r (AppendsPart holds holds' (history_text form s past)) → (IsErrOf r Write → Rose faults faults') → status ≡ written_status r end
-    → ((send : ℕ) → IsSendStory past send) → (end_of s past ≡ Done → IsSettled past (send_count past)) → RunEnds form s holds holds' faults faults' status
-log_told (Ok u) form s holds holds' faults faults' past end status listed ended over whole part failed is stories settled = logged form s holds holds' faults faults' past end status listed ended over whole is stories settled
-log_told (Err Write) form s holds holds' faults faults' past end status listed ended over whole part failed is stories settled = subst (RunEnds form s holds holds' faults faults') (sym is) (record { history = past; listed = listed; written = part }, failed refl)
-log_told (Err OutOfMemory) form s holds holds' faults faults' past end status listed ended over whole part failed is stories settled = subst (RunEnds form s holds holds' faults faults') (sym is) (inr (record { history = past; listed = listed; written = part }))
+    → ((send : ℕ) → IsSendStory past send) → (end_of s past ≡ Done → IsSettled past (send_count past)) → RunEnds Runs form s holds holds' faults faults' status
+log_told Runs (Ok u) form s holds holds' faults faults' past end status run ended over whole part failed is stories settled = logged Runs form s holds holds' faults faults' past end status run ended over whole is stories settled
+log_told Runs (Err Write) form s holds holds' faults faults' past end status run ended over whole part failed is stories settled = subst (RunEnds Runs form s holds holds' faults faults') (sym is) (record { history = past; run = run; written = part }, failed refl)
+log_told Runs (Err OutOfMemory) form s holds holds' faults faults' past end status run ended over whole part failed is stories settled = subst (RunEnds Runs form s holds holds' faults faults') (sym is) (inr (record { history = past; run = run; written = part }))
 
 -- the summary was written, whole or in part
 pub summary_told : (r : Result (Unit {0}) WriteFault) (n : ℕ) (holds holds' : Option (List ℕ)) (faults faults' : ℕ) (s : Tree) (past : Past) (end : End) (status : Status) → IsMade n s → IsListed s past → end ≡ end_of s past → end ≢ Cut

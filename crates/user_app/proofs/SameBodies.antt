@@ -3,7 +3,7 @@ use Rattle.std.proofs.Common.{◌≡◌, ℕ, zero, suc, List, [], ◌∷◌, �
 use Rattle.std.specs.Prelude.{⊤, ◌+◌, slice_get}
 use Rattle.std.specs.List.{flat_map}
 use Rattle.script_tree.specs.declared.statement.Statement.{Statement, Row_of-Statement, end_of-Statement, more_of-Statement, items-the_row-Statement}
-use Rattle.script_tree.specs.declared.statement.Statement.TheVariants.{Let, Compute, If', IfElse', While', Return, Call, Sleep, Create, Destroy, Default}
+use Rattle.script_tree.specs.declared.statement.Statement.TheVariants.{Let, Compute, If', IfElse', While', Return, Call, Sleep, Create, Destroy, Compound, Default}
 use Rattle.script_tree.specs.Tree.{ProcedureTree, statements_of}
 use Rattle.script_lines.specs.declared.line.Line.{Line}
 use Rattle.script_lines.specs.declared.line.Line.TheVariants as lines
@@ -34,6 +34,7 @@ not_shut (Call c) r h = h
 not_shut (Sleep a) r h = h
 not_shut (Create c) r h = h
 not_shut (Destroy a) r h = h
+not_shut (Compound c) r h = h
 not_shut Default r h = h
 
 -- and there is one
@@ -48,6 +49,7 @@ some_line (Call c) r e = absurd cc
 some_line (Sleep a) r e = absurd cc
 some_line (Create c) r e = absurd cc
 some_line (Destroy a) r e = absurd cc
+some_line (Compound c) r e = absurd cc
 some_line Default r e = absurd cc
 
 -- lines of a first part and a second, which are told apart
@@ -106,6 +108,7 @@ mutual
   statement_apart (Sleep a) (Sleep b) r q e = one_line _ _ r q e
   statement_apart (Create c) (Create d) r q e = one_line _ _ r q e
   statement_apart (Destroy a) (Destroy b) r q e = one_line _ _ r q e
+  statement_apart (Compound c) (Compound d) r q e = one_line _ _ r q e
   statement_apart Default Default r q e = one_line _ _ r q e
   statement_apart x y r q e = absurd cc
 

@@ -9,6 +9,7 @@ use Rattle.script_text.proofs.PartsAgain.{one_tree}
 use Rattle.log_text.specs.declared.end.End.{End}
 use Rattle.log_text.specs.declared.end.End.TheVariants.{Done, Stuck, Spent, Cut}
 use Rattle.log_text.specs.Ends.{end_of}
+use Rattle.user_pool.specs.Runs.{IsListed}
 use Rattle.user_app.specs.declared.request.LogForm.{LogForm}
 use Rattle.user_app.specs.declared.request.LogForm.TheVariants.{Plain, Json}
 use Rattle.user_app.specs.Histories.{history_text}
@@ -40,7 +41,7 @@ same_status Stuck = refl
 same_status Spent = refl
 same_status Cut = refl
 
-logged : (form : LogForm) (s : Tree) (held new : Option (List ℕ)) (f g : ℕ) (x : End) → RunEnds form s held new f g (status_of x) → Logged form s held new (told x)
+logged : (form : LogForm) (s : Tree) (held new : Option (List ℕ)) (f g : ℕ) (x : End) → RunEnds IsListed form s held new f g (status_of x) → Logged IsListed form s held new (told x)
 logged form s held new f g Done r = r
 logged form s held new f g Stuck r = r
 logged form s held new f g Spent r = r
@@ -51,15 +52,15 @@ pub same_text : (form : LogForm) (s t : Tree) → SameRules s t → (past : Past
 same_text Plain s t h past = same_log s t h past
 same_text Json s t h past = same_json s t h past
 
-same_logged : (form : LogForm) (s t : Tree) (held a b : List ℕ) (x y : End) → SameRules s t → Logged form s (Some held) (Some a) x → Logged form t (Some held) (Some b) y → (a ≡ b) × (x ≡ y)
+same_logged : (form : LogForm) (s t : Tree) (held a b : List ℕ) (x y : End) → SameRules s t → Logged IsListed form s (Some held) (Some a) x → Logged IsListed form t (Some held) (Some b) y → (a ≡ b) × (x ≡ y)
 same_logged form s t held a b x y h p q =
-    let runs : p.history ≡ q.history = same_run s t h p.history q.history p.listed q.listed in (
+    let runs : p.history ≡ q.history = same_run s t h p.history q.history p.run q.run in (
       p.written ∙ ap (λ (l : List ℕ). held ++ l) (same_text form s t h p.history ∙ ap (λ (c : Past). history_text form t c) runs) ∙ sym q.written,
       sym p.ended ∙ same_end s t h p.history ∙ ap (λ (c : Past). end_of t c) runs ∙ q.ended,
     )
 
 pub same_output : (form : LogForm) (text held a b : List ℕ) (l m : Option (List ℕ)) (f f' g g' : ℕ) (x y : End)
-    → Ran form (Some text) l (Some held) (Some a) f f' (status_of x) → Ran form (Some text) m (Some held) (Some b) g g' (status_of y) → (a ≡ b) × (status_of x ≡ status_of y)
+    → Ran IsListed form (Some text) l (Some held) (Some a) f f' (status_of x) → Ran IsListed form (Some text) m (Some held) (Some b) g g' (status_of y) → (a ≡ b) × (status_of x ≡ status_of y)
 same_output form text held a b l m f f' g g' x y p q =
     let one : text ≡ spelling p.script = read_whole text (spelling p.script) l p.input p.read_out in
     let other : text ≡ spelling q.script = read_whole text (spelling q.script) m q.input q.read_out in

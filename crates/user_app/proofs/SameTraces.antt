@@ -6,7 +6,7 @@ use Rattle.user_model.specs.declared.call.Call.{Call}
 use Rattle.user_model.specs.declared.entry.Answer.{Answer}
 use Rattle.script_tree.specs.declared.operand.Test.{Test}
 use Rattle.script_tree.specs.declared.statement.Statement.{Statement}
-use Rattle.script_tree.specs.declared.statement.Statement.TheVariants.{Let, Compute, If', IfElse', While', Return, Call as CallOf, Sleep, Create, Destroy, Default as DefaultOf}
+use Rattle.script_tree.specs.declared.statement.Statement.TheVariants.{Let, Compute, If', IfElse', While', Return, Call as CallOf, Sleep, Create, Destroy, Compound as CompoundOf, Default as DefaultOf}
 use Rattle.script_tree.specs.declared.variables.Variables.{Variables}
 use Rattle.script_tree.specs.Tree.{Tree}
 use Rattle.script_tree.specs.Values.{holds}
@@ -91,6 +91,7 @@ same_statement (CallOf c) (CallOf d) v n e = let f : lines.Call c ≡ lines.Call
 same_statement (Sleep a) (Sleep b) v n e = let f : lines.Sleep a ≡ lines.Sleep b = line_of e in alike (Sleep a) (Sleep b) v n cc
 same_statement (Create c) (Create d) v n e = let f : lines.Create c ≡ lines.Create d = line_of e in alike (Create c) (Create d) v n cc
 same_statement (Destroy a) (Destroy b) v n e = let f : lines.Destroy a ≡ lines.Destroy b = line_of e in alike (Destroy a) (Destroy b) v n cc
+same_statement (CompoundOf c) (CompoundOf d) v n e = let f : lines.Compound c ≡ lines.Compound d = line_of e in alike (CompoundOf c) (CompoundOf d) v n cc
 same_statement DefaultOf DefaultOf v n e = step_itself (statement DefaultOf v n)
 same_statement x y v n e = absurd cc
 

@@ -14,7 +14,7 @@ use Rattle.illegal_text.specs.Texts.{illegal_text}
 use Rattle.user_pool.specs.Runs.{IsRun}
 use Rattle.log_replay.specs.Replays.{IsNoRunLog, IsRunLog, IsFirstBad}
 use Rattle.user_app.specs.Inputs.{IsInput, ReadNoPair}
-use Rattle.user_app.specs.Outcomes.{refusal_text}
+use Rattle.user_app.specs.Refusals.{Refused, RefusedPart}
 use Rattle.user_app.specs.declared.status.Status.{Status}
 use Rattle.user_app.specs.declared.status.Status.TheVariants as statuses
 
@@ -79,8 +79,8 @@ pub record ReadLegal (left left' holds holds' : Option (List ℕ)) : Type 0 wher
 abbrev pub CheckEnds : Option (List ℕ) → Option (List ℕ) → ℕ → ℕ → Option (List ℕ) → Option (List ℕ) → ℕ → ℕ → Status → Type 0
 CheckEnds left left' missed missed' holds holds' faults faults' statuses.Done = ReadLegal left left' holds holds'
 CheckEnds left left' missed missed' holds holds' faults faults' statuses.Illegal = ReadPair left left' holds holds' faults faults' statuses.Illegal
-CheckEnds left left' missed missed' holds holds' faults faults' statuses.Script = ReadNoPair left left' × Appends holds holds' refusal_text
+CheckEnds left left' missed missed' holds holds' faults faults' statuses.Script = Refused (ReadNoPair left left') holds holds'
 CheckEnds left left' missed missed' holds holds' faults faults' statuses.ReadFault = Rose missed missed' × (holds ≡ holds')
-CheckEnds left left' missed missed' holds holds' faults faults' statuses.WriteFault = ReadPair left left' holds holds' faults faults' statuses.WriteFault ⊎ (ReadNoPair left left' × (AppendsPart holds holds' refusal_text × Rose faults faults'))
+CheckEnds left left' missed missed' holds holds' faults faults' statuses.WriteFault = ReadPair left left' holds holds' faults faults' statuses.WriteFault ⊎ (RefusedPart (ReadNoPair left left') holds holds' × Rose faults faults')
 CheckEnds left left' missed missed' holds holds' faults faults' statuses.Memory = (holds ≡ holds') ⊎ ReadPair left left' holds holds' faults faults' statuses.Memory
 CheckEnds left left' missed missed' holds holds' faults faults' status = ⊥

@@ -4,5 +4,6 @@ pub mod Inputs
 pub mod Made
 pub mod Outcomes
 pub mod Parts
+pub mod Refusals
 pub mod Requests
 pub mod Statuses

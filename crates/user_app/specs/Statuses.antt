@@ -18,6 +18,7 @@ number_of statuses.Illegal = 6
 number_of statuses.ReadFault = 7
 number_of statuses.WriteFault = 8
 number_of statuses.Memory = 9
+number_of statuses.WrongCall = 10
 
 -- the status that the end of a run gives
 abbrev pub status_of : End → Status

@@ -10,8 +10,9 @@ ghost use Rattle.log_read.specs.Limits.{IsLog};
 ghost use Rattle.user_app.specs.Checks.{CheckEnds, LogChecks, LegalEnds, IllegalEnds, legal_text};
 ghost use Rattle.user_app.specs.Outcomes.{IsWhole};
 
-use crate::app::{machine, refuse};
+use crate::app::machine;
 use crate::input::{InputFault, read_input};
+use crate::refusal::refuse;
 use crate::status::Status;
 use illegal_text::{Illegal, write_illegal};
 use log_read::Log;
@@ -33,7 +34,7 @@ pub fn check_input<S: Source, K: Sink>(alloc: Global, source: &mut S, sink: &mut
     match read_input(alloc, source) {
         Ok((script, log)) => check(alloc, &script, &log, sink),
         Err(InputFault::Failed) => Status::ReadFault,
-        Err(InputFault::Refused) => refuse(sink),
+        Err(InputFault::Refused(refusal)) => refuse(alloc, refusal, sink),
         Err(InputFault::Memory) => Status::Memory,
     }
 }

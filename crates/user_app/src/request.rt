@@ -9,6 +9,9 @@ use itoa::Buffer;
 /// The greatest number from which a script is made.
 const MOST_MADE: u32 = 60000;
 
+/// How many groups of threads there can be.
+const MOST_GROUPS: u32 = 15;
+
 /// How the log of a run is written.
 #[derive(Clone, Copy, Debug, PartialEq, Eq)]
 pub enum LogForm {
@@ -27,6 +30,8 @@ pub enum Request {
     Make(u32),
     /// `check`: whether the log in the input is that of a run of the script before it.
     Check,
+    /// `threads G`: a run of the script in the input by so many groups of threads, 1 to 15.
+    Threads(u32),
     /// Nothing that the program does.
     Nothing,
 }
@@ -38,15 +43,15 @@ fn same_text(a: &[u8], b: &[u8]) -> bool
     a == b
 }
 
-/// The number from 1 to 60000 that the word is in decimal. None comes exactly where it is none.
-fn made_number(word: &str) -> Option<u32>
-    ensures number { IfSome result (λ n. (0 < n) × (n ≤ 60000) × (word.now ≡ decimal n)) }
-    ensures none { IsNone result → (n : ℕ) → 0 < n → n ≤ 60000 → word.now ≢ decimal n }
+/// The number from 1 to the greatest one that the word is in decimal. None comes exactly where it is none.
+fn number_within(word: &str, most: u32) -> Option<u32>
+    ensures number { IfSome result (λ n. (0 < n) × (n ≤ most) × (word.now ≡ decimal n)) }
+    ensures none { IsNone result → (n : ℕ) → 0 < n → n ≤ most → word.now ≢ decimal n }
 {
     let Ok(number) = word.parse::<u32>() else {
         return None;
     };
-    if number < 1 || number > MOST_MADE {
+    if number < 1 || number > most {
         return None;
     }
     let mut buffer = Buffer::new();
@@ -83,8 +88,18 @@ fn run_word(word: &str) -> Request
 fn make_word(word: &str) -> Request
     ensures { (words : List (List ℕ)) → words ≡ codes "make" ∷ word.now ∷ [] → AskFor words result }
 {
-    match made_number(word) {
+    match number_within(word, MOST_MADE) {
         Some(number) => Request::Make(number),
+        None => Request::Nothing,
+    }
+}
+
+/// What `threads` and one more word ask for.
+fn threads_word(word: &str) -> Request
+    ensures { (words : List (List ℕ)) → words ≡ codes "threads" ∷ word.now ∷ [] → AskFor words result }
+{
+    match number_within(word, MOST_GROUPS) {
+        Some(groups) => Request::Threads(groups),
         None => Request::Nothing,
     }
 }
@@ -98,6 +113,9 @@ fn two_words(first: &str, second: &str) -> Request
     }
     if same_text(first.as_bytes(), b"make") {
         return make_word(second);
+    }
+    if same_text(first.as_bytes(), b"threads") {
+        return threads_word(second);
     }
     Request::Nothing
 }

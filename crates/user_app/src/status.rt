@@ -26,10 +26,12 @@ pub enum Status {
     WriteFault,
     /// No memory was left.
     Memory,
+    /// The words ask for what another call does; nothing was read or written.
+    WrongCall,
 }
 
 impl Status {
-    /// The exit status of the process, 0 to 9.
+    /// The exit status of the process, 0 to 10.
     pub fn number(&self) -> u8
         ensures { result ≡ number_of self.now }
     {
@@ -43,6 +45,7 @@ impl Status {
             Status::ReadFault => 7,
             Status::WriteFault => 8,
             Status::Memory => 9,
+            Status::WrongCall => 10,
         }
     }
 }

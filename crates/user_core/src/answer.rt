@@ -1,7 +1,7 @@
 //! What a call answers, from the state.
 
 ghost use Rattle.std.specs.Prelude.{◌≡◌, ◌<◌, ◌≤◌, false};
-ghost use Rattle.core_deliver.specs.Groups.{is_delivery, is_drawing, is_retrieval, is_window_call};
+ghost use Rattle.core_deliver.specs.Groups.{is_delivery, is_drawing, is_retrieval, is_status, is_window_call};
 ghost use Rattle.user_model.specs.Past.{is_full};
 ghost use Rattle.user_model.specs.Replies.{row, thread_reply};
 ghost use Rattle.win_num.specs.declared.code.Code.TheVariants.{Full};
@@ -12,7 +12,8 @@ use crate::actor::{Actor, actor_of};
 use crate::clock::{advanced, sleep_until_answer, soonest, tick_answer};
 use crate::timers::{kill_timer_answer, set_timer_answer};
 use core_deliver::{
-    admit, delivery_answer, is_delivery, is_drawing, is_retrieval, is_window_call, retrieval_answer,
+    admit, delivery_answer, is_delivery, is_drawing, is_retrieval, is_status, is_window_call,
+    retrieval_answer,
 };
 use core_draw::drawing_answer;
 use core_state::CoreState;
@@ -25,6 +26,7 @@ use win_num::{Code, Thread};
 fn row_answer(state: &CoreState, thread: u8, call: Call) -> Answer
     requires room { is_full state.now.past ≡ false }
     requires no_retrieval { is_retrieval call ≡ false }
+    requires no_status { is_status call ≡ false }
     requires no_delivery { is_delivery call ≡ false }
     requires no_window { is_window_call call ≡ false }
     requires no_drawing { is_drawing call ≡ false }
@@ -45,6 +47,7 @@ fn row_answer(state: &CoreState, thread: u8, call: Call) -> Answer
 /// The answer of a call of time or timers, or of the end of a thread, to an actor other than the clock.
 fn own_answer(state: &CoreState, who: Thread, call: Call) -> Answer
     requires no_retrieval { is_retrieval call ≡ false }
+    requires no_status { is_status call ≡ false }
     requires no_delivery { is_delivery call ≡ false }
     requires no_window { is_window_call call ≡ false }
     requires no_drawing { is_drawing call ≡ false }
@@ -56,10 +59,11 @@ fn own_answer(state: &CoreState, who: Thread, call: Call) -> Answer
     }
 }
 
-/// What any call answers a thread.
+/// What any call but a status answers a thread.
 #[tactic(auto, unfolding(user_model::specs::Idle::reply))]
 fn thread_answer(state: &CoreState, thread: u8, call: Call) -> Answer
-    requires { 0 < thread }
+    requires some { 0 < thread }
+    requires no_status { is_status call ≡ false }
     ensures { result ≡ refuse (is_full state.now.past) Full (thread_reply state.now.setup state.now.past thread call) }
 {
     if is_retrieval(call) {
@@ -101,11 +105,14 @@ fn is_idle(state: &CoreState, thread: u8) -> bool
     }
 }
 
-/// Whether a call would wait now.
+/// Whether a call would wait now. A status never waits.
 fn would_wait(state: &CoreState, thread: u8, call: Call) -> bool
     requires { 0 < thread }
     ensures { result ≡ is_wait (refuse (is_full state.now.past) Full (thread_reply state.now.setup state.now.past thread call)) }
 {
+    if is_status(call) {
+        return false;
+    }
     matches!(thread_answer(state, thread, call), Answer::Wait)
 }
 
@@ -160,6 +167,7 @@ fn clock_answer(state: &CoreState, call: Call) -> Answer
 #[tactic(auto, unfolding(user_model::specs::Idle::reply))]
 pub fn answer(state: &CoreState, who: Thread, call: Call) -> Answer
     requires no_retrieval { is_retrieval call ≡ false }
+    requires no_status { is_status call ≡ false }
     requires no_delivery { is_delivery call ≡ false }
     requires no_window { is_window_call call ≡ false }
     requires no_drawing { is_drawing call ≡ false }

@@ -8,7 +8,9 @@ ghost use Rattle.user_model.specs.Setups.{IsSetup};
 
 use crate::actor::{Actor, actor_of};
 use crate::answer::{answer, have_all_ended, is_barred, is_clock_barred};
-use core_deliver::{deliver, is_delivery, is_drawing, is_retrieval, is_window_call, retrieve};
+use core_deliver::{
+    deliver, is_delivery, is_drawing, is_retrieval, is_window_call, retrieve, status,
+};
 use core_draw::draw;
 use core_state::CoreState;
 use core_window::window;
@@ -73,6 +75,9 @@ impl Machine for User {
     fn step(&mut self, who: Thread, call: Call) -> Result<Answer, AllocError> {
         if is_retrieval(call) {
             return retrieve(&mut self.state, who, call);
+        }
+        if let Call::Status(flags) = call {
+            return status(&mut self.state, who, flags);
         }
         if is_delivery(call) {
             return deliver(&mut self.state, who, call);

@@ -24,7 +24,7 @@ impl<'a, 's, R: Wait, M: Machine> Teller for DeskTeller<'a, 's, R, M> {
 
     ghost serves = { λ t who. IsDeskSeat t.desk.now t.seat.now × (who ≡ t.seat.now.number) };
 
-    ghost is_still = { λ a b. (b.desk ≡ a.desk) × (b.seat.ref_ptr ≡ a.seat.ref_ptr) };
+    ghost is_still = { λ a b. (b.desk ≡ a.desk) × (b.seat.ghost_name ≡ a.seat.ghost_name) };
 
     ghost still_itself = { λ a. (refl, refl) };
 

@@ -13,7 +13,7 @@ use Rattle.win_num.specs.declared.code.Code.{Code}
 use Rattle.win_num.specs.declared.code.Code.TheVariants.{Full, NoTarget, NotNow}
 use Rattle.win_num.specs.declared.names.TheConstants.{WM_MOUSEMOVE}
 use Rattle.user_model.specs.declared.call.Call.{Call}
-use Rattle.user_model.specs.declared.call.Call.TheVariants.{Peek, Get, Mouse, UpdateRect, BeginPaint, Tick, Advance, WindowAt}
+use Rattle.user_model.specs.declared.call.Call.TheVariants.{Peek, Get, Status, Mouse, UpdateRect, BeginPaint, Tick, Advance, WindowAt}
 use Rattle.user_model.specs.declared.entry.Answer.{Answer}
 use Rattle.user_model.specs.declared.entry.Answer.TheVariants.{Input as InputMade, Nothing, Refused, Value, Wait, Window as WindowTold}
 use Rattle.user_model.specs.declared.entry.Entry.{Entry}
@@ -39,7 +39,7 @@ use Rattle.user_model.specs.Legal.{IsLawful}
 use Rattle.user_model.specs.Machines.{entry_of}
 use Rattle.user_model.proofs.PostLaws.{IsRising, posted_rises}
 use Rattle.user_laws.specs.Kept.{ChangesNothing}
-use Rattle.user_laws.proofs.PaintKept.{corner_kept, dirty_kept, next_kept, owner_kept, pixels_kept}
+use Rattle.user_laws.proofs.PaintKept.{corner_kept, dirty_kept, next_kept, owner_kept, pixels_kept, status_kept}
 
 changes_none : (past : Past) (who : Thread) (call : Call) (a : Answer) → is_refusal a ≡ true → ChangesNothing past (entry_of who call a)
 changes_none past who call (Refused code) is = record {
@@ -80,6 +80,7 @@ changes_none past who call (Refused code) is = record {
   same_inputs = λ setup. refl;
   same_input_numbers = refl;
   same_keys = λ t key. refl;
+  same_last_looks = λ t. refl;
 }
 changes_none past who call _ is = absurd (false≢true is)
 
@@ -109,6 +110,7 @@ row_same : (setup : Setup) (past : Past) (by : Thread) (asked : Call) (code : Co
 row_same setup past by asked code who (WindowAt x y) = ap (λ (w : Hwnd). WindowTold w) (owner_kept past by asked code setup (point x y))
 row_same setup past by asked code who (Peek w min max flags) = ap (λ (o : Option Answer). refuse (nat_lt 3 flags) invalid_parameter (refuse (is_no_filter_window past who w) invalid_window_handle (unwrap_or o Nothing))) (next_kept past by asked code setup who (filter_of w min max))
 row_same setup past by asked code who (Get w min max) = ap (λ (o : Option Answer). refuse (is_no_filter_window past who w) invalid_window_handle (unwrap_or o Wait)) (next_kept past by asked code setup who (filter_of w min max))
+row_same setup past by asked code who (Status flags) = ap (λ n. refuse (nat_lt 127 flags) invalid_parameter (Value n)) (status_kept past by asked code setup who flags)
 row_same setup past by asked code who (Mouse number x y) = mouse_same setup past by asked code number x y
 row_same setup past by asked code who (UpdateRect w) = update_same past by asked code setup w (λ n b. if_live past w (update_told n b))
 row_same setup past by asked code who (BeginPaint w) = update_same past by asked code setup w (λ n b. refuse (is_live past w && is_painting past w) invalid_parameter (if_own past who w (painting_begun (must_erase setup past w) b)))

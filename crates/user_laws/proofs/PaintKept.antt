@@ -1,13 +1,13 @@
--- A refused entry leaves who owns each pixel, which pixels are dirty, where input goes, and what comes next.
+-- A refused entry leaves who owns each pixel, which pixels are dirty, where input goes, what comes next, and the status of each queue.
 use Rattle.std.proofs.Common.{◌≡◌, ◌∙◌, ℕ, zero, suc, Bool, true, false, eqb, List, [], ◌∷◌, ◌++◌, cond, length, Option, Some, None, refl, ap, sym}
-use Rattle.std.specs.Prelude.{◌&&◌, ◌+◌, ◌*◌, ◌-ℤ◌, not, find, pos, reverse, option_map, take_while, unwrap_or}
-use Rattle.std.specs.List.{flat_map}
+use Rattle.std.specs.Prelude.{◌&&◌, ◌||◌, ◌+◌, ◌*◌, ◌-ℤ◌, bit_and, not, find, pos, reverse, option_map, take_while, unwrap_or}
+use Rattle.std.specs.List.{flat_map, list_any}
 use Rattle.win_num.specs.declared.message.Thread.{Thread}
 use Rattle.win_num.specs.declared.message.Filter.{Filter}
 use Rattle.win_num.specs.declared.message.Hwnd.{Hwnd}
 use Rattle.win_num.specs.declared.shapes.Point.{Point}
 use Rattle.win_num.specs.declared.code.Code.{Code}
-use Rattle.win_num.specs.declared.names.TheConstants.{WM_PAINT}
+use Rattle.win_num.specs.declared.names.TheConstants.{QS_KEY, QS_MOUSEBUTTON, QS_MOUSEMOVE, QS_PAINT, QS_POSTMESSAGE, QS_SENDMESSAGE, QS_TIMER, WM_PAINT}
 use Rattle.win_num.specs.Numbers.{passes_range}
 use Rattle.region_box.specs.Screens.{screen_points}
 use Rattle.user_model.specs.declared.call.Call.{Call}
@@ -19,15 +19,16 @@ use Rattle.user_model.specs.Past.{Past, last_of, or_else}
 use Rattle.user_model.specs.Filters.{passes_window}
 use Rattle.user_model.specs.Looks.{is_disabled, place_of}
 use Rattle.user_model.specs.Focus.{capture, if_of_group, value_of}
-use Rattle.user_model.specs.Inputs.{Element, or_window, untaken_of}
+use Rattle.user_model.specs.Inputs.{Element, or_window, untaken, untaken_of}
 use Rattle.user_model.specs.Targets.{enabled_at, enabled_within, is_of_mouse, key_window, low_word, message_for, passes_input, taker, taker_at, target, to_take}
 use Rattle.user_model.specs.Posts.{message}
 use Rattle.user_model.specs.Next.{got_input, got_paint, next, next_input, next_paint, next_posted, next_quit, next_timer, next_ready}
 use Rattle.user_model.specs.Pixels.{corner_from, origin, origin_within, owner, point}
-use Rattle.user_model.specs.Windows.{live, parent_in, thread_of}
+use Rattle.user_model.specs.Windows.{Window, live, parent_in, thread_of}
 use Rattle.user_model.specs.ZOrder.{siblings}
-use Rattle.user_model.specs.Dirty.{dirty_pixels, has_some, is_dirty, touches}
+use Rattle.user_model.specs.Dirty.{dirty_pixels, has_some, is_dirty, pixels_of, touches}
 use Rattle.user_model.specs.Painting.{painted_below, painting_order, to_paint, wants_paint}
+use Rattle.user_model.specs.Status.{bit_where, bits_since, came_after, has_input, has_paint, has_post, has_send, has_timer, is_move, is_newly_dirty, is_of_button, is_of_key, last_look, status}
 use Rattle.user_model.specs.Machines.{entry_of}
 use Rattle.user_model.proofs.ListLaws.{filter_same}
 use Rattle.user_model.proofs.OwnersKept.{owner_same}
@@ -52,6 +53,11 @@ mapped_same f g e (Some x) = ap (λ y. Some y) (e x)
 joined_same : {X Y : Type 0} (f g : X → List Y) → ((x : X) → f x ≡ g x) → (xs : List X) → flat_map f xs ≡ flat_map g xs
 joined_same f g e [] = refl
 joined_same f g e (x ∷ xs) = ap (λ l. l ++ flat_map f xs) (e x) ∙ ap (λ l. g x ++ l) (joined_same f g e xs)
+
+-- tests that agree tell the same of whether there is one
+any_same : {X : Type 0} (f g : X → Bool) → ((x : X) → f x ≡ g x) → (xs : List X) → list_any f xs ≡ list_any g xs
+any_same f g e [] = refl
+any_same f g e (x ∷ xs) = ap (λ b. b || list_any f xs) (e x) ∙ ap (λ b. g x || b) (any_same f g e xs)
 
 module _ (past : Past) (by : Thread) (asked : Call) (code : Code) where
   abbrev later : Past
@@ -115,3 +121,33 @@ module _ (past : Past) (by : Thread) (asked : Call) (code : Code) where
   next_kept setup t f =
       ap (λ (o : Option Hwnd). or_else (next_ready past t) (or_else (next_posted past t f) (or_else (next_quit past t) (or_else (next_input setup later t f) (or_else (option_map (got_paint past) o) (next_timer past t f)))))) (to_paint_kept setup t f)
       ∙ ap (λ (o : Option Answer). or_else (next_ready past t) (or_else (next_posted past t f) (or_else (next_quit past t) (or_else o (or_else (next_paint setup past t f) (next_timer past t f)))))) (next_input_kept setup t f)
+
+  -- ---- the status of a queue
+
+  input_kept : (setup : Setup) (is_kind : ℕ → Bool) (t : ℕ) (earlier : Past) → has_input is_kind setup later t earlier ≡ has_input is_kind setup past t earlier
+  input_kept setup is_kind t earlier =
+      any_same (λ (x : Element). is_kind x.message && (came_after earlier x.place && eqb (taker setup later x) t)) (λ (x : Element). is_kind x.message && (came_after earlier x.place && eqb (taker setup past x) t))
+      (λ x. ap (λ b. is_kind x.message && (came_after earlier x.place && b)) (taker_kept setup t x)) (untaken setup past)
+
+  newly_kept : (setup : Setup) (earlier : Past) (w : ℕ) (p : Point) → is_newly_dirty setup later earlier w p ≡ is_newly_dirty setup past earlier w p
+  newly_kept setup earlier w p = ap (λ b. b && not (is_dirty setup earlier w p)) (dirty_kept setup w p)
+
+  new_pixels_kept : (setup : Setup) (t : ℕ) (earlier : Past) → has_paint setup later t earlier ≡ has_paint setup past t earlier
+  new_pixels_kept setup t earlier =
+      any_same (λ (x : Window). eqb x.thread t && has_some (pixels_of setup (is_newly_dirty setup later earlier x.number))) (λ (x : Window). eqb x.thread t && has_some (pixels_of setup (is_newly_dirty setup past earlier x.number)))
+      (λ x. ap (λ ps. eqb x.thread t && has_some ps) (filter_same (is_newly_dirty setup later earlier x.number) (is_newly_dirty setup past earlier x.number) (newly_kept setup earlier x.number) (screen_points setup.width setup.height))) (live past)
+
+  bits_kept : (setup : Setup) (t : ℕ) (earlier : Past) → bits_since setup later t earlier ≡ bits_since setup past t earlier
+  bits_kept setup t earlier =
+      ap (λ b. sum b (has_input is_move setup later t earlier) (has_input is_of_button setup later t earlier) (has_paint setup later t earlier)) (input_kept setup is_of_key t earlier)
+      ∙ ap (λ b. sum (has_input is_of_key setup past t earlier) b (has_input is_of_button setup later t earlier) (has_paint setup later t earlier)) (input_kept setup is_move t earlier)
+      ∙ ap (λ b. sum (has_input is_of_key setup past t earlier) (has_input is_move setup past t earlier) b (has_paint setup later t earlier)) (input_kept setup is_of_button t earlier)
+      ∙ ap (sum (has_input is_of_key setup past t earlier) (has_input is_move setup past t earlier) (has_input is_of_button setup past t earlier)) (new_pixels_kept setup t earlier)
+    where
+      sum : Bool → Bool → Bool → Bool → ℕ
+      sum key moved button paint = bit_where key QS_KEY + bit_where moved QS_MOUSEMOVE + bit_where button QS_MOUSEBUTTON + bit_where (has_post past t earlier) QS_POSTMESSAGE + bit_where (has_timer past t earlier) QS_TIMER + bit_where paint QS_PAINT + bit_where (has_send past t earlier) QS_SENDMESSAGE
+
+  pub status_kept : (setup : Setup) (t flags : ℕ) → status setup later t flags ≡ status setup past t flags
+  status_kept setup t flags =
+      ap (λ n. 65536 * bit_and n flags + bit_and (bits_since setup later t (last_look past t)) flags) (bits_kept setup t [])
+      ∙ ap (λ n. 65536 * bit_and (bits_since setup past t []) flags + bit_and n flags) (bits_kept setup t (last_look past t))

@@ -17,6 +17,7 @@ pub mod KeptWindows
 pub mod LegalLaws
 pub mod ListLaws
 pub mod LiveWindows
+pub mod LookLaws
 pub mod Lowest
 pub mod OwnersKept
 pub mod PastLaws
@@ -37,6 +38,9 @@ pub mod SendReplies
 pub mod SendStanding
 pub mod SendSteps
 pub mod SendStories
+pub mod StatusPosts
+pub mod StatusSends
+pub mod StatusTimers
 pub mod StepReplies
 pub mod Steps
 pub mod TellerLaws

@@ -14,7 +14,7 @@ use Rattle.win_num.specs.declared.code.Code.{Code}
 use Rattle.win_num.specs.declared.code.Code.TheVariants.{Full, NoTarget}
 use Rattle.win_num.specs.declared.names.TheConstants.{WM_CHAR, WM_KEYDOWN}
 use Rattle.user_model.specs.declared.call.Call.{Call}
-use Rattle.user_model.specs.declared.call.Call.TheVariants.{Peek, Get, Post, PostThread, PostQuit, Dispatch, Send, SendTimeout, SendNotify, SendCallback, Await, Leave, Reply, InSend, Message, Translate, Register, Unregister, NewWindow, Doom, Unmake, Drop, Place, Show, Enable, Find, AwaitTitle, NextTop, WindowAt, IsWindow, Parent, SetFocus, SetActive, SetCapture, ReleaseCapture, GetFocus, GetActive, GetCapture, Attach, Detach, Mouse, Key, KeyState, Invalidate, Validate, UpdateRect, BeginPaint, EndPaint, Fill, Erase, Snap, SetTimer, KillTimer, EndThread, Clock, SleepUntil, Yield, Tick, Advance}
+use Rattle.user_model.specs.declared.call.Call.TheVariants.{Peek, Get, Post, PostThread, PostQuit, Status, Dispatch, Send, SendTimeout, SendNotify, SendCallback, Await, Leave, Reply, InSend, Message, Translate, Register, Unregister, NewWindow, Doom, Unmake, Drop, Place, Show, Enable, Find, AwaitTitle, NextTop, WindowAt, IsWindow, Parent, SetFocus, SetActive, SetCapture, ReleaseCapture, GetFocus, GetActive, GetCapture, Attach, Detach, Mouse, Key, KeyState, Invalidate, Validate, UpdateRect, BeginPaint, EndPaint, Fill, Erase, Snap, SetTimer, KillTimer, EndThread, Clock, SleepUntil, Yield, Tick, Advance}
 use Rattle.user_model.specs.declared.entry.Answer.{Answer}
 use Rattle.user_model.specs.declared.entry.Answer.TheVariants as answers
 use Rattle.user_model.specs.declared.entry.Setup.{Setup}
@@ -317,6 +317,7 @@ row_said setup past who (Get w min max) = let call = Get w min max in behind set
 row_said setup past who (Post w m p q) = posted_said setup past who w m p q
 row_said setup past who (PostThread to m p q) = posted_to_thread setup past who to m p q
 row_said setup past who (PostQuit code) = record { says = tt }
+row_said setup past who (Status flags) = plainly setup past who (Status flags) (row setup past who (Status flags)) (search (plain_behind, plain))
 row_said setup past who (Dispatch w m p q) = dispatched setup past who w m p q
 row_said setup past who (Send w m p q) = let call = Send w m p q in behind setup past who call _ invalid_parameter (waiting_send past who w) refl (λ n. waiting_said setup past who call (parts w m p q WaitKind) refl)
 row_said setup past who (SendTimeout w m p q flags ms) = let call = SendTimeout w m p q flags ms in behind setup past who call _ invalid_parameter (waiting_send past who w) refl (λ n. waiting_said setup past who call (parts w m p q (WithTimeout flags ms)) refl)

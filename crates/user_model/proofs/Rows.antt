@@ -16,6 +16,12 @@ pub mod SendBack
 pub mod SenderEnds
 pub mod SharedFocus
 pub mod SharedInput
+pub mod StatusOfInput
+pub mod StatusOfPainting
+pub mod StatusOfPosts
+pub mod StatusOfSends
+pub mod StatusOfTimers
+pub mod StatusWords
 pub mod ThreeDeep
 pub mod TimedOutInside
 pub mod TypedCharacters

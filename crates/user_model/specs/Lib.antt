@@ -34,7 +34,9 @@ pub mod Retrievals
 pub mod SendStories
 pub mod Sends
 pub mod Setups
+pub mod Since
 pub mod Stacks
+pub mod Status
 pub mod Stories
 pub mod Targets
 pub mod Tellers

@@ -7,9 +7,9 @@ use Rattle.user_model.specs.declared.entry.Setup.{Setup}
 use Rattle.user_model.specs.declared.entry.Answer.{Answer}
 use Rattle.user_model.specs.declared.entry.Answer.TheVariants.{Okay, Ended, Refused}
 use Rattle.user_model.specs.declared.call.Call.{Call}
-use Rattle.user_model.specs.declared.call.Call.TheVariants.{Peek, Get, Post, PostThread, PostQuit, Dispatch, Send, SendTimeout, SendNotify, SendCallback, Await, Leave, Reply, InSend, Message, Translate, Register, Unregister, NewWindow, Doom, Unmake, Drop, Place, Show, Enable, Find, AwaitTitle, NextTop, WindowAt, IsWindow, Parent, SetFocus, SetActive, SetCapture, ReleaseCapture, GetFocus, GetActive, GetCapture, Attach, Detach, Mouse, Key, KeyState, Invalidate, Validate, UpdateRect, BeginPaint, EndPaint, Fill, Erase, Snap, SetTimer, KillTimer, EndThread, Clock, SleepUntil, Yield, Tick, Advance}
+use Rattle.user_model.specs.declared.call.Call.TheVariants.{Peek, Get, Post, PostThread, PostQuit, Status, Dispatch, Send, SendTimeout, SendNotify, SendCallback, Await, Leave, Reply, InSend, Message, Translate, Register, Unregister, NewWindow, Doom, Unmake, Drop, Place, Show, Enable, Find, AwaitTitle, NextTop, WindowAt, IsWindow, Parent, SetFocus, SetActive, SetCapture, ReleaseCapture, GetFocus, GetActive, GetCapture, Attach, Detach, Mouse, Key, KeyState, Invalidate, Validate, UpdateRect, BeginPaint, EndPaint, Fill, Erase, Snap, SetTimer, KillTimer, EndThread, Clock, SleepUntil, Yield, Tick, Advance}
 use Rattle.user_model.specs.Past.{Past}
-use Rattle.user_model.specs.ReplyDelivery.{peek_reply, get_reply, post_reply, post_thread_reply}
+use Rattle.user_model.specs.ReplyDelivery.{peek_reply, get_reply, post_reply, post_thread_reply, status_reply}
 use Rattle.user_model.specs.ReplyWindows.{register_reply, unregister_reply, message_reply, new_window_reply, doom_reply, unmake_reply, drop_reply, place_reply, show_reply, enable_reply, find_reply, await_title_reply, next_top_reply, window_at_reply, is_window_reply, parent_reply}
 use Rattle.user_model.specs.Focus.{focus, active, capture}
 use Rattle.user_model.specs.ReplyGroups.{set_focus_reply, set_active_reply, set_capture_reply, was, value_reply, attach_reply, detach_reply}
@@ -28,6 +28,7 @@ row setup past who (Get w min max) = get_reply setup past who w min max
 row setup past who (Post w number wparam lparam) = post_reply past who w number
 row setup past who (PostThread t number wparam lparam) = post_thread_reply setup past t number
 row setup past who (PostQuit code) = Okay
+row setup past who (Status flags) = status_reply setup past who flags
 row setup past who (Dispatch w number wparam lparam) = dispatch_reply past who w number
 row setup past who (Send w number wparam lparam) = send_reply past who w number
 row setup past who (SendTimeout w number wparam lparam flags ms) = send_timeout_reply past who w number flags ms

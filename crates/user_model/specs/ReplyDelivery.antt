@@ -1,13 +1,14 @@
--- The answers of the calls that post and retrieve messages.
+-- The answers of the calls that post and retrieve messages, and of the one that asks which are there.
 use Rattle.std.specs.Prelude.{ℕ, suc, ◌==◌, nat_lt, nat_le, Bool, not, ◌||◌, length, unwrap_or}
 use Rattle.user_model.specs.declared.entry.Setup.{Setup}
 use Rattle.user_model.specs.declared.entry.Answer.{Answer}
-use Rattle.user_model.specs.declared.entry.Answer.TheVariants.{Nothing, Wait, Posted}
+use Rattle.user_model.specs.declared.entry.Answer.TheVariants.{Nothing, Wait, Posted, Value}
 use Rattle.user_model.specs.Past.{Past}
 use Rattle.user_model.specs.Windows.{is_live}
 use Rattle.user_model.specs.Filters.{filter_of, is_no_filter_window}
 use Rattle.user_model.specs.Posts.{posts, posted, queue_of}
 use Rattle.user_model.specs.Next.{next}
+use Rattle.user_model.specs.Status.{status}
 use Rattle.user_model.specs.Refusals.{refuse, is_no_message, invalid_parameter, invalid_window_handle, invalid_thread_id, not_enough_quota}
 use Rattle.user_model.specs.Threads.{is_running}
 
@@ -38,3 +39,7 @@ post_reply past who w number = refuse (is_no_message number) invalid_parameter (
 -- a post to a thread that hasn't ended
 abbrev pub post_thread_reply : Setup → Past → ℕ → ℕ → Answer
 post_thread_reply setup past t number = refuse (is_no_message number) invalid_parameter (refuse (not (is_running setup past t)) invalid_thread_id (post_to past t))
+
+-- what is there, and what came since the last look, as far as the flags ask for it
+abbrev pub status_reply : Setup → Past → ℕ → ℕ → Answer
+status_reply setup past who flags = refuse (nat_lt 127 flags) invalid_parameter (Value (status setup past who flags))

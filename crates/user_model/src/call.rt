@@ -25,6 +25,9 @@ pub enum Call {
     PostThread(u64, u64, u64, u64),
     /// Posts quit to the caller, with its code (Microsoft, PostQuitMessage function).
     PostQuit(u64),
+    /// Which kinds of messages are there for the caller, and which of them came since it looked last, as far as a mask of 0 to 127 has
+    /// their bits (Microsoft, GetQueueStatus function).
+    Status(u64),
     /// Hands a message to the procedure of an own window, or for window 0 to nobody: the window, the
     /// message's number, wParam and lParam (Microsoft, DispatchMessage function).
     Dispatch(u64, u64, u64, u64),

@@ -20,7 +20,7 @@ use Rattle.user_pool.proofs.Turns.{is_thread_of, barred_is_idle, lowest_all, low
 
 -- ---- whether a thread can move, as the machine and its worker tell
 
-used_is : (past : Past) (t : ℕ) → length (trace_of past t) ≡ used past t
+pub used_is : (past : Past) (t : ℕ) → length (trace_of past t) ≡ used past t
 used_is past t = length-reverse (map told (mine past t)) ∙ length-map (mine past t) told
 
 pub seat_used : (s : Tree) (past : Past) (seats : List Seat) (t : ℕ) (d : Seat) → SeatsCount s past seats → 0 < t → t ≤ length seats → (get_or seats (t - 1) d).worker.used ≡ used past t

@@ -4,24 +4,23 @@ use Rattle.std.specs.Prelude.{◌==◌, if◌then◌else◌}
 use Rattle.user_model.specs.declared.call.Call.{Call}
 use Rattle.user_model.specs.declared.call.Call.TheVariants.{Doom, Await, Tick, Advance}
 use Rattle.user_model.specs.declared.entry.Answer.{Answer}
-use Rattle.user_model.specs.declared.entry.Answer.TheVariants.{Wait, Enter, Callback, Begun, Tell, Last, Window, Refused}
+use Rattle.user_model.specs.declared.entry.Answer.TheVariants.{Wait, Enter, Callback, Begun, Refused}
 use Rattle.script_tree.specs.declared.statement.CallStatement.{CallStatement}
-use Rattle.script_tree.specs.declared.statement.CallStatement.TheVariants.{Yield}
 use Rattle.script_tree.specs.declared.statement.Statement.{Statement}
-use Rattle.script_tree.specs.declared.statement.Statement.TheVariants.{Let, Compute, If', IfElse', While', Return, Call as CallOf, Sleep, Create, Destroy, Default as DefaultOf}
+use Rattle.script_tree.specs.declared.statement.Statement.TheVariants.{Let, Compute, If', IfElse', While', Return, Call as CallOf, Sleep, Create, Destroy, Compound as CompoundOf, Default as DefaultOf}
 use Rattle.script_tree.specs.declared.frame.Place.{Place}
-use Rattle.script_tree.specs.declared.frame.Place.TheVariants.{Making as MakingWindow, Greeting, Telling, Undoing, Dooming, Unmaking, Destroying, Parting, Dropping, Single, Defaulting}
 use Rattle.script_tree.specs.declared.frame.Lead.{Lead}
 use Rattle.script_tree.specs.declared.frame.Lead.TheVariants.{Calls, Runs, Ends}
 use Rattle.script_tree.specs.declared.variables.Variables.{Variables}
 use Rattle.user_model.specs.Stacks.{leaves, waits}
 use Rattle.script_tree.specs.Tree.{Tree}
 use Rattle.script_tree.specs.Values.{holds, call_of}
-use Rattle.script_tree.specs.Compounds.{default_result, compound_after, after_making, after_telling, after_dooming, after_unmaking, after_default}
+use Rattle.script_tree.specs.Compounds.{compound_begin, default_result, compound_after}
 use Rattle.script_tree.specs.Pieces.{Piece, Lines, One, PassEnd, Making, Again, Giving, Settle, Sleeping, Running, Leaving, Leaves, Left, Feed, State, Going, Returning, Given, Step, Becomes, Asks, Trace, End, Cut}
 use Rattle.script_tree.specs.Steps.{step, statement, begins, returns_to, takes, goes_on, sleeps, is_callback, is_last, following, follows}
 use Rattle.script_tree.specs.Traces.{Makes, over, silent, entry, cut, IsTrace}
 use Rattle.script_tree.proofs.Defaults.{default_either}
+use Rattle.script_tree.proofs.PlainCalls.{IsPlain, LeadIsPlain, plain_statement, plain_begin, plain_default, plain_compound}
 
 -- a call of the clock
 abbrev pub is_of_clock : Call → Bool
@@ -48,48 +47,22 @@ FreeLead (Ends a) = Unit {0}
 
 -- ---- compounds and statements
 
-one_of : (b : Bool) (x y : Lead) → FreeLead x → FreeLead y → FreeLead (if b then x else y)
-one_of true x y f g = f
-one_of false x y f g = g
+-- a plain call is none
+plain_free : (call : Call) → IsPlain call → is_of_clock call ≡ false
+plain_free (Tick ms) h = absurd h
+plain_free Advance h = absurd h
+plain_free call h = refl
 
-free_making : (a : Answer) → FreeLead (after_making a)
-free_making (Window w) = refl
-free_making a = tt
-
-free_telling : (w : ℕ) (a : Answer) (x : ℕ) → FreeLead (after_telling w a x)
-free_telling w (Refused code) x = refl
-free_telling w a x = one_of (x == 18446744073709551615) _ _ refl tt
-
-free_dooming : (w : ℕ) (a : Answer) → FreeLead (after_dooming w a)
-free_dooming w (Refused code) = tt
-free_dooming w a = refl
-
-free_unmaking : (w : ℕ) (a : Answer) → FreeLead (after_unmaking w a)
-free_unmaking w (Tell v) = refl
-free_unmaking w (Last v) = refl
-free_unmaking w (Refused code) = tt
-free_unmaking w a = tt
-
-free_default : (x : ℕ) (a : Answer) → FreeLead (after_default x a)
-free_default x (Refused code) = tt
-free_default x a = tt
+plain_lead : (next : Lead) → LeadIsPlain next → FreeLead next
+plain_lead (Calls call q) h = plain_free call h
+plain_lead (Runs b q) h = plain_free b.call h
+plain_lead (Ends a) h = tt
 
 free_compound : (q : Place) (a : Answer) (x : ℕ) → FreeLead (compound_after q a x)
-free_compound MakingWindow a x = free_making a
-free_compound (Greeting w) a x = one_of (x == 0) _ _ refl refl
-free_compound (Telling w) a x = free_telling w a x
-free_compound Undoing a x = tt
-free_compound (Dooming w) a x = free_dooming w a
-free_compound (Unmaking w) a x = free_unmaking w a
-free_compound (Destroying w) a x = refl
-free_compound (Parting w v) a x = refl
-free_compound (Dropping w) a x = refl
-free_compound Single a x = tt
-free_compound (Defaulting y) a x = free_default y a
+free_compound q a x = plain_lead (compound_after q a x) (plain_compound q a x)
 
 free_call : (ask : CallStatement) (v : Variables) → is_of_clock (call_of ask v) ≡ false
-free_call Yield v = refl
-free_call ask v = refl
+free_call ask v = plain_free (call_of ask v) (plain_statement ask v)
 
 -- ---- steps
 
@@ -102,7 +75,7 @@ module _ (s : Tree) (n : ℕ) (left : List Piece) (h : Free left) where
   free_statement (If' t k a) v = either (holds t v) _ _ h h
   free_statement (While' t k a) v = either (holds t v) _ _ h h
   free_statement (CallOf ask) v = (free_call ask v, h)
-  free_statement DefaultOf v = default_either (λ qs. FreeStep left (Becomes qs (Going v))) v.parameters (Settle (Doom v.parameters.hwnd) ∷ []) (λ e. (refl, h)) (λ e. (refl, h)) (λ e. (refl, h)) (λ e d f. h)
+  free_statement DefaultOf v = default_either (λ qs. FreeStep left (Becomes qs (Going v))) v.parameters (Settle (Doom v.parameters.hwnd) ∷ []) (λ b e. (plain_free b.call (plain_default v.parameters b e), h)) (λ e. h)
   free_statement (Let x e) v = h
   free_statement (Compute x e op f) v = h
   free_statement (IfElse' t k a j b) v = h
@@ -110,6 +83,7 @@ module _ (s : Tree) (n : ℕ) (left : List Piece) (h : Free left) where
   free_statement (Sleep e) v = (refl, h)
   free_statement (Create c) v = (refl, h)
   free_statement (Destroy e) v = (refl, h)
+  free_statement (CompoundOf c) v = (plain_free (compound_begin c v).call (plain_begin c v), h)
 
   free_lead : (v : Variables) (next : Lead) → FreeLead next → FreeStep left (goes_on v next)
   free_lead v (Calls call q) f = (f, h)
@@ -127,7 +101,7 @@ module _ (s : Tree) (n : ℕ) (left : List Piece) (h : Free left) where
   free_begins (PassEnd loop began) v k = either (n == began) _ _ (refl, h) h
   free_begins (Making call) v k = k
   free_begins (Running run) v k = h
-  free_begins (Leaving run) v k = either (is_callback run.frame) _ _ h (default_either (λ qs. FreeStep left (Becomes qs (Going v))) run.parameters (Left (default_result run.parameters) ∷ Leaving run ∷ []) (λ e. (refl, h)) (λ e. (refl, h)) (λ e. (refl, h)) (λ e d f. h))
+  free_begins (Leaving run) v k = either (is_callback run.frame) _ _ h (default_either (λ qs. FreeStep left (Becomes qs (Going v))) run.parameters (Left (default_result run.parameters) ∷ Leaving run ∷ []) (λ b e. (plain_free b.call (plain_default run.parameters b e), h)) (λ e. h))
   free_begins (Leaves frame x) v k = (refl, h)
   free_begins p v k = h
 

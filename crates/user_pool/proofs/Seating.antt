@@ -28,7 +28,7 @@ use Rattle.user_pool.proofs.Ended.{has_ended-next}
 use Rattle.user_pool.proofs.Turns.{chosen_free, chosen_left}
 
 -- what a call that came next does to the past
-with_entry : (s : Tree) (past now : Past) (t : ℕ) (call : Call) (setup : Setup) → setup ≡ setup_of s → is_full past ≡ false
+pub with_entry : (s : Tree) (past now : Past) (t : ℕ) (call : Call) (setup : Setup) → setup ≡ setup_of s → is_full past ≡ false
     → (let who : Thread = record { 0 = t } in now ≡ after setup past who call) → (let who : Thread = record { 0 = t } in now ≡ entry_by (setup_of s) past who call ∷ past)
 with_entry s past now t call setup same room is =
     let who : Thread = record { 0 = t } in

@@ -3,3 +3,4 @@ pub mod Interleavings
 pub mod Moves
 pub mod Runs
 pub mod Seats
+pub mod Teams

@@ -100,7 +100,7 @@ fn have_all_ended<M: Machine>(script: &Script, machine: &M, seats: &[Seat]) -> b
 }
 
 /// Whether the last entry of a history says that nothing can go on.
-fn ends_stuck(history: &[Entry]) -> bool
+pub fn ends_stuck(history: &[Entry]) -> bool
     ensures { result ≡ ends_stuck (reverse history.now) }
 {
     match history.last() {

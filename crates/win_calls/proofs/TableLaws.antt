@@ -1,17 +1,26 @@
 -- The table comes to one thing from each place.
 use Rattle.std.proofs.Common.{◌≡◌, ℕ, List, ◌++◌, refl, sym, ap, subst}
 use Rattle.user_model.specs.declared.call.Call.TheVariants.{Leave}
+use Rattle.script_tree.specs.declared.statement.Statement.TheVariants.{Compound as CompoundOf}
+use Rattle.script_tree.specs.declared.statement.CompoundStatement.{CompoundStatement}
+use Rattle.script_tree.specs.declared.statement.CompoundStatement.TheVariants.{PostAll, NotifyAll}
 use Rattle.script_tree.specs.declared.variables.Variables.{Variables}
 use Rattle.script_tree.specs.Tree.{Tree}
-use Rattle.script_tree.specs.Pieces.{Piece, Making, Leaves, State, Going, Asks}
-use Rattle.script_tree.specs.Steps.{step}
+use Rattle.script_tree.specs.Pieces.{Piece, Making, Leaves, State, Going, Becomes, Asks}
+use Rattle.script_tree.specs.Steps.{step, statement}
 use Rattle.win_calls.specs.declared.compound.Got.{Got}
 use Rattle.win_calls.specs.declared.compound.Got.TheVariants.{Start, Answered, Returned}
 use Rattle.win_calls.specs.declared.compound.Next.{Next}
 use Rattle.win_calls.specs.declared.compound.Next.TheVariants.{Make}
 use Rattle.win_calls.specs.declared.stage.Stage.{Stage}
-use Rattle.win_calls.specs.Table.{Comes, silent, calls, runs, over, Handed, started, was_answered, was_returned}
+use Rattle.win_calls.specs.Table.{begun, compound_of, Comes, silent, calls, runs, over, Handed, started, was_answered, was_returned}
 use Rattle.win_calls.specs.States.{StandsFor, is_fresh, is_asked, is_running, is_leaving, is_over, Accepts, IsLeave}
+
+-- a compound statement becomes the pieces of the compound with the values of its operands
+pub begins_so : (c : CompoundStatement) (v : Variables) (n : ℕ) → statement (CompoundOf c) v n ≡ Becomes (begun (compound_of c v)) (Going v)
+begins_so (PostAll m p q) v n = refl
+begins_so (NotifyAll m p q) v n = refl
+begins_so c v n = refl
 
 module _ (s : Tree) (n : ℕ) where
   -- the same from other pieces and another state that are equal

@@ -1,7 +1,6 @@
 -- Where the table leads from the pieces that a stage stands for.
-use Rattle.std.proofs.Common.{◌≡◌, ℕ, Bool, true, false, List, [], ◌∷◌, ◌++◌, Option, Some, None, refl, sym, ap, ◌∙◌, subst, lit<, arith}
+use Rattle.std.proofs.Common.{◌≡◌, ℕ, Bool, true, false, List, [], ◌∷◌, ◌++◌, Option, Some, None, refl, sym, ap, ◌∙◌, subst, arith}
 use Rattle.std.specs.Prelude.{if◌then◌else◌, ◌==◌}
-use Rattle.win_num.specs.declared.message.Hwnd.{Hwnd}
 use Rattle.win_num.specs.declared.send.SendId.{SendId}
 use Rattle.win_num.specs.declared.send.Frame.TheVariants.{Entered, Inside as InsideFrame, Called as CalledFrame, CallbackRun}
 use Rattle.user_model.specs.Stacks.{waits, leaves}
@@ -12,19 +11,25 @@ use Rattle.user_model.specs.declared.entry.Answer.TheVariants.{Wait, Window, Tel
 use Rattle.script_tree.specs.declared.frame.Begin.{Begin}
 use Rattle.script_tree.specs.declared.frame.Run.{Run}
 use Rattle.script_tree.specs.declared.frame.Place.{Place}
-use Rattle.script_tree.specs.declared.frame.Place.TheVariants.{Making as MakingWindow, Greeting, Telling, Undoing, Dooming, Unmaking, Destroying, Parting, Dropping, Single, Defaulting}
+use Rattle.script_tree.specs.declared.frame.Place.TheVariants.{Making as MakingWindow, Greeting, Telling, Undoing, Dooming, Unmaking, Destroying, Parting, Dropping, Single, Calling, Notifying, Seeking, Reaching, Defaulting}
+use Rattle.script_tree.specs.declared.frame.Notice.{Notice}
+use Rattle.script_tree.specs.declared.frame.Notices.{Notices}
+use Rattle.script_tree.specs.declared.frame.Broadcast.{Broadcast}
+use Rattle.script_tree.specs.declared.frame.Spread.{Spread}
+use Rattle.script_tree.specs.declared.frame.Spread.TheVariants.{Posts, Notifies}
 use Rattle.script_tree.specs.declared.frame.Lead.{Lead}
 use Rattle.script_tree.specs.declared.frame.Lead.TheVariants.{Calls, Runs, Ends}
 use Rattle.script_tree.specs.declared.variables.Parameters.{Parameters}
 use Rattle.script_tree.specs.declared.variables.Variables.{Variables}
-use Rattle.script_tree.specs.Compounds.{destruction, cleaning, erasing, default_begin, default_result, compound_after}
+use Rattle.script_tree.specs.Notices.{number_in, next_notice, others, notices_after, result_after}
+use Rattle.script_tree.specs.Compounds.{destruction, default_begin, default_result, notifies_by, after_calling, reach_by, reach, after_seeking, compound_after}
+use Rattle.script_tree.proofs.Defaults.{each_begin}
 use Rattle.script_tree.specs.Values.{settled, received, inside_of}
 use Rattle.script_tree.specs.Tree.{Tree}
 use Rattle.script_tree.specs.Pieces.{Piece, Making, Again, Giving, Settle, Running, Leaving, Leaves, Left, Restore, Feed, State, Going, Returning, Given, Becomes}
 use Rattle.script_tree.specs.Steps.{step, follows, following, answered, after_answer, given, result_of, is_last, goes_on, begun_over, default_over, default_pieces, run_of, parameters_from, parameters_of}
 use Rattle.win_calls.specs.declared.compound.Compound.{Compound}
-use Rattle.win_calls.specs.declared.compound.Compound.TheVariants.{Create, Destroy, Default as DefaultOf}
-use Rattle.script_tree.specs.declared.messages.TheConstants.{WM_PAINT, WM_ERASEBKGND, WM_CLOSE}
+use Rattle.win_calls.specs.declared.compound.Compound.TheVariants.{Create, Destroy, PostAll, NotifyAll, Default as DefaultOf}
 use Rattle.win_calls.specs.declared.compound.Got.{Got}
 use Rattle.win_calls.specs.declared.compound.Got.TheVariants.{Start, Answered, Returned}
 use Rattle.win_calls.specs.declared.compound.Next.{Next}
@@ -37,8 +42,8 @@ use Rattle.win_calls.specs.declared.stage.Then.TheVariants.{Again as AgainThen, 
 use Rattle.win_calls.specs.declared.stage.Stage.{Stage}
 use Rattle.win_calls.specs.declared.stage.Stage.TheVariants.{Asked, Running as RunningStage, Leaving as LeavingStage, Over}
 use Rattle.win_calls.specs.declared.stage.Step.{Step}
-use Rattle.win_calls.specs.Table.{silent, calls, runs, over, IsNoRun, runs_first, asked_of, begun, first_call}
-use Rattle.win_calls.specs.States.{Suits, IsTurn, IsSentTo, IsPlaceOf, IsOuter, IsInside, within, outer_in, first_turn, EntersNot, Awaits, Accepts, IsRun, told, around_pieces, behind, then_piece, then_of, Hands, first, more, Below, is_first, is_later, is_asked, is_running, is_leaving, is_over, Leads}
+use Rattle.win_calls.specs.Table.{silent, calls, runs, over, IsNoRun, runs_first, asked_of, begin_of, begun_with, begun}
+use Rattle.win_calls.specs.States.{Suits, IsTurn, IsOuter, IsInside, within, outer_in, first_turn, MayFollow, Awaits, Accepts, IsRun, around_pieces, behind, then_piece, then_of, Hands, first, more, Below, is_first, is_later, is_asked, is_running, is_leaving, is_over, Leads}
 
 -- one compound more may be around
 abbrev pub HasRoom : Around → Type 0
@@ -47,17 +52,17 @@ HasRoom (One a) = Unit {0}
 HasRoom (Two a b) = ⊥
 
 -- what a turn needs of the next call and its place
-abbrev pub LeadSuits : Hwnd → Around → Lead → Type 0
-LeadSuits window around (Calls call q) = Suits window call q around
-LeadSuits window around (Runs b q) = Suits window b.call b.place (within q around) × HasRoom around
-LeadSuits window around (Ends a) = Unit {0}
+abbrev pub LeadSuits : Around → Lead → Type 0
+LeadSuits around (Calls call q) = Suits call q around
+LeadSuits around (Runs b q) = Suits b.call b.place (within q around) × HasRoom around
+LeadSuits around (Ends a) = Unit {0}
 
-either : (b : Bool) (window : Hwnd) (around : Around) (x y : Lead) → LeadSuits window around x → LeadSuits window around y → LeadSuits window around (if b then x else y)
-either true window around x y f g = f
-either false window around x y f g = g
+either : (b : Bool) (around : Around) (x y : Lead) → LeadSuits around x → LeadSuits around y → LeadSuits around (if b then x else y)
+either true around x y f g = f
+either false around x y f g = g
 
-pub plain : {window : Hwnd} {call : Call} {q : Place} {around : Around} → IsSentTo window call → IsPlaceOf window q → leaves call ≡ false → is_last call ≡ false → IsInside q around → Suits window call q around
-plain a b c d e = record { sent = a; leads = b; stays = c; goes_on = d; inside = e }
+pub plain : {call : Call} {q : Place} {around : Around} → leaves call ≡ false → is_last call ≡ false → IsInside q around → Suits call q around
+plain c d e = record { stays = c; goes_on = d; inside = e }
 
 -- a destruction inside of a `create`
 undoing_inside : (w : ℕ) (around : Around) → IsInside (Greeting w) around → IsInside (Dooming w) (within Undoing around)
@@ -70,37 +75,54 @@ undoing_room w Nobody h = tt
 undoing_room w (One a) h = tt
 undoing_room w (Two a b) h = absurd (omega (arith, h.0))
 
-undoing : (w : ℕ) (window : Hwnd) (around : Around) → IsInside (Greeting w) around → LeadSuits window around (Runs (destruction w) Undoing)
-undoing w window around h = (plain tt tt refl refl (undoing_inside w around h), undoing_room w around h)
+undoing : (w : ℕ) (around : Around) → IsInside (Greeting w) around → LeadSuits around (Runs (destruction w) Undoing)
+undoing w around h = (plain refl refl (undoing_inside w around h), undoing_room w around h)
 
--- where a place leads suits the window that is told next
-pub lead_suits : (q : Place) (a : Answer) (x : ℕ) (window : Hwnd) (around : Around) → IsPlaceOf window q → IsInside q around → LeadSuits (told q a window) around (compound_after q a x)
-lead_suits MakingWindow (Window w) x window around h i = plain (refl, lit< tt) refl refl refl i
-lead_suits MakingWindow (Refused code) x window around h i = tt
-lead_suits MakingWindow a x window around h i = tt
-lead_suits (Greeting w) a x window around h i = either (x == 0) window around _ _ (undoing w window around i) (plain (h, lit< tt) tt refl refl i)
-lead_suits (Telling w) (Refused code) x window around h i = undoing w window around i
-lead_suits (Telling w) a x window around h i = either (x == 18446744073709551615) window around _ _ (undoing w window around i) tt
-lead_suits Undoing a x window around h i = tt
-lead_suits (Dooming w) (Refused code) x window around h i = tt
-lead_suits (Dooming w) a x window around h i = plain tt tt refl refl i
-lead_suits (Unmaking w) (Tell v) x window around h i = plain (refl, lit< tt) tt refl refl i
-lead_suits (Unmaking w) (Last v) x window around h i = plain (refl, lit< tt) tt refl refl i
-lead_suits (Unmaking w) (Refused code) x window around h i = tt
-lead_suits (Unmaking w) a x window around h i = tt
-lead_suits (Destroying w) a x window around h i = plain tt tt refl refl i
-lead_suits (Parting w v) a x window around h i = plain tt tt refl refl i
-lead_suits (Dropping w) a x window around h i = plain tt tt refl refl i
-lead_suits Single a x window around h i = tt
-lead_suits (Defaulting y) (Refused code) x window around h i = tt
-lead_suits (Defaulting y) a x window around h i = tt
+-- messages that are sent
+notifies_suits : (o : Option Notice) (n : Notices) (y : ℕ) (around : Around) → IsInside (Notifying n y) around → LeadSuits around (notifies_by o n y)
+notifies_suits (Some x) n y around i = plain refl refl i
+notifies_suits None n y around i = tt
 
--- a place around another suits any window, alone and inside of one more
-outer_place : (q : Place) (window : Hwnd) → IsOuter q → IsPlaceOf window q
-outer_place Undoing window h = tt
-outer_place (Defaulting x) window h = tt
-outer_place q window h = absurd h
+calling_suits : (call : Call) (a : Answer) (around : Around) → IsInside (Calling call) around → LeadSuits around (after_calling call a)
+calling_suits call (Refused code) around i = tt
+calling_suits call a around i = notifies_suits (next_notice (notices_after call (number_in a))) (others (notices_after call (number_in a))) (result_after call (number_in a)) around i
 
+-- and a message that goes to a top-level window
+reach_suits : (way : Spread) (b : Broadcast) (w : ℕ) (around : Around) → IsInside (Reaching b w) around → Suits (reach_by way b w) (Reaching b w) around
+reach_suits Posts b w around i = plain refl refl i
+reach_suits Notifies b w around i = plain refl refl i
+
+seeking_suits : (b : Broadcast) (a : Answer) (around : Around) → IsInside (Seeking b) around → LeadSuits around (after_seeking b a)
+seeking_suits b (Refused code) around i = tt
+seeking_suits b a around i = either (number_in a == 0) around (Ends (Value 1)) (Calls (reach b (number_in a)) (Reaching b (number_in a))) tt (reach_suits b.spread b (number_in a) around i)
+
+-- where a place leads suits what is around it
+pub lead_suits : (q : Place) (a : Answer) (x : ℕ) (around : Around) → IsInside q around → LeadSuits around (compound_after q a x)
+lead_suits MakingWindow (Window w) x around i = plain refl refl i
+lead_suits MakingWindow (Refused code) x around i = tt
+lead_suits MakingWindow a x around i = tt
+lead_suits (Greeting w) a x around i = either (x == 0) around _ _ (undoing w around i) (plain refl refl i)
+lead_suits (Telling w) (Refused code) x around i = undoing w around i
+lead_suits (Telling w) a x around i = either (x == 18446744073709551615) around _ _ (undoing w around i) tt
+lead_suits Undoing a x around i = tt
+lead_suits (Dooming w) (Refused code) x around i = tt
+lead_suits (Dooming w) a x around i = plain refl refl i
+lead_suits (Unmaking w) (Tell v) x around i = plain refl refl i
+lead_suits (Unmaking w) (Last v) x around i = plain refl refl i
+lead_suits (Unmaking w) (Refused code) x around i = tt
+lead_suits (Unmaking w) a x around i = tt
+lead_suits (Destroying w) a x around i = plain refl refl i
+lead_suits (Parting w v) a x around i = plain refl refl i
+lead_suits (Dropping w) a x around i = plain refl refl i
+lead_suits Single a x around i = tt
+lead_suits (Calling call) a x around i = calling_suits call a around i
+lead_suits (Notifying n y) a x around i = notifies_suits (next_notice n) (others n) y around i
+lead_suits (Seeking b) a x around i = seeking_suits b a around i
+lead_suits (Reaching b w) a x around i = plain refl refl i
+lead_suits (Defaulting y) (Refused code) x around i = tt
+lead_suits (Defaulting y) a x around i = tt
+
+-- a place around another stands alone and inside of one more
 outer_alone : (q : Place) → IsOuter q → IsInside q Nobody
 outer_alone Undoing h = omega arith
 outer_alone (Defaulting x) h = omega arith
@@ -203,12 +225,12 @@ inside_pieces q (Two a b) ps h = absurd h
 hands_to_one : (turn : Turn) (q : Place) → IsTurn turn → turn.around ≡ One q → IsTurn (record turn { place = q; around = Nobody })
 hands_to_one turn q h e =
     let i : IsInside turn.place (One q) = subst (λ x. IsInside turn.place x) e h.inside in
-    plain h.sent (outer_place q turn.window i.1) h.stays h.goes_on (outer_alone q i.1)
+    plain h.stays h.goes_on (outer_alone q i.1)
 
 hands_to_two : (turn : Turn) (q a : Place) → IsTurn turn → turn.around ≡ Two q a → IsTurn (record turn { place = q; around = One a })
 hands_to_two turn q a h e =
     let i : IsInside turn.place (Two q a) = subst (λ x. IsInside turn.place x) e h.inside in
-    plain h.sent (outer_place q turn.window i.1) h.stays h.goes_on (outer_inside q a i.1 i.2)
+    plain h.stays h.goes_on (outer_inside q a i.1 i.2)
 
 -- and so it does by the turn outside
 pub hands_out : (turn o : Turn) (x : Around) → turn.around ≡ x → outer_in turn x ≡ Some o → IsTurn turn → IsTurn o
@@ -216,20 +238,25 @@ hands_out turn o Nobody e f h = absurd (cc f)
 hands_out turn o (One q) e f h = let same : record turn { place = q; around = Nobody } ≡ o = cc f in subst IsTurn same (hands_to_one turn q h e)
 hands_out turn o (Two q a) e f h = let same : record turn { place = q; around = One a } ≡ o = cc f in subst IsTurn same (hands_to_two turn q a h e)
 
--- the default procedure has a destruction inside of it, the call that makes a window clean or paints it, or nothing
-default_begins : (P : Begin → Type 0) (b c d : Bool) (w : ℕ) (begin : Begin) → Some begin ≡ (if b then Some (destruction w) else if c then Some (cleaning w) else if d then Some (erasing w) else None) → P (destruction w) → P (cleaning w) → P (erasing w) → P begin
-default_begins P true c d w begin e f g h = let same : begin ≡ destruction w = cc in subst P (sym same) f
-default_begins P false true d w begin e f g h = let same : begin ≡ cleaning w = cc in subst P (sym same) g
-default_begins P false false true w begin e f g h = let same : begin ≡ erasing w = cc in subst P (sym same) h
-default_begins P false false false w begin e f g h = absurd cc
+-- a compound that the default procedure begins with
+default_suits : (p : Parameters) (b : Begin) (x : ℕ) (call : Call) → Some b ≡ default_begin p → IsTurn (first_turn b (One (Defaulting x)) call)
+default_suits p b x call h =
+    each_begin (λ y. IsTurn (first_turn y (One (Defaulting x)) call)) p b h
+    (λ e. plain refl refl (omega arith, tt)) (λ e. plain refl refl (omega arith, tt)) (λ e. plain refl refl (omega arith, tt)) (λ e. plain refl refl (omega arith, tt)) (λ e. plain refl refl (omega arith, tt))
 
-first_suits : (c : Compound) (window : Hwnd) (q : Place) (around : Around) → IsPlaceOf window q → IsInside q around → Suits window (first_call c) q around
-first_suits (Create class title parent style extended left top right bottom) window q around h i = plain tt h refl refl i
-first_suits (Destroy w) window q around h i = plain tt h refl refl i
-first_suits (DefaultOf w number p r) window q around h i = plain tt h refl refl i
+-- the first call of a compound
+pub begin_suits : (c : Compound) (call : Call) → IsTurn (first_turn (begin_of c) Nobody call)
+begin_suits (Create class title parent style extended left top right bottom) call = plain refl refl (omega arith)
+begin_suits (Destroy w) call = plain refl refl (omega arith)
+begin_suits (PostAll m p q) call = plain refl refl (omega arith)
+begin_suits (NotifyAll m p q) call = plain refl refl (omega arith)
+begin_suits (DefaultOf w number p q) call = plain refl refl (omega arith)
+begin_suits c call = plain refl refl (omega arith)
 
-pub call_suits : (c : Compound) (call : Call) (window : Hwnd) (q : Place) (around : Around) → call ≡ first_call c → IsPlaceOf window q → IsInside q around → Suits window call q around
-call_suits c call window q around e h i = subst (λ x. Suits window x q around) (sym e) (first_suits c window q around h i)
+-- every compound but `default` has the pieces of what it begins with
+pub begun_other : (c : Compound) → ((w number p q : ℕ) → c ≡ DefaultOf w number p q → ⊥) → begun c ≡ begun_with (begin_of c)
+begun_other (DefaultOf w number p q) h = absurd (h w number p q refl)
+begun_other c h = refl
 
 module _ (s : Tree) (n : ℕ) where
   -- the same for a step that is equal
@@ -251,24 +278,24 @@ module _ (s : Tree) (n : ℕ) where
       subst (λ x. Leads s n (Settle call ∷ []) (Given v a 0) Over x) (settled_same v w call a 0) l
 
   -- the answer of a call leads on to the next
-  pub feed_calls : (turn : Turn) (a : Answer) (x : ℕ) (v : Variables) (call : Call) (q : Place) (window : Hwnd) → IsTurn turn → window ≡ told turn.place a turn.window → Calls call q ≡ compound_after turn.place a x → Leads s n (behind turn) (Given v a x) (Asked (record { call = call; place = q; around = turn.around; window = window; statement = turn.statement })) (Make call)
-  feed_calls turn a x v call q window h w e =
-      let next : Turn = record { call = call; place = q; around = turn.around; window = window; statement = turn.statement } in
-      let suits : IsTurn next = subst (λ y. Suits y call q turn.around) (sym w) (subst (LeadSuits (told turn.place a turn.window) turn.around) (sym e) (lead_suits turn.place a x turn.window turn.around h.leads h.inside)) in
+  pub feed_calls : (turn : Turn) (a : Answer) (x : ℕ) (v : Variables) (call : Call) (q : Place) → IsTurn turn → Calls call q ≡ compound_after turn.place a x → Leads s n (behind turn) (Given v a x) (Asked (record { call = call; place = q; around = turn.around; statement = turn.statement })) (Make call)
+  feed_calls turn a x v call q h e =
+      let next : Turn = record { call = call; place = q; around = turn.around; statement = turn.statement } in
+      let suits : IsTurn next = subst (LeadSuits turn.around) (sym e) (lead_suits turn.place a x turn.around h.inside) in
       before (Feed turn.place) (around_pieces turn.around (Settle turn.statement ∷ [])) (Making call ∷ Feed q ∷ []) (Given v a x) (Going v) (Asked next) (Make call) tt (ap (goes_on v) (sym e)) (asks_leads next v suits)
 
   -- to the first call of a compound inside of it
-  pub feed_runs : (turn : Turn) (a : Answer) (x : ℕ) (v : Variables) (b : Begin) (q : Place) (window : Hwnd) (around : Around) → IsTurn turn → window ≡ told turn.place a turn.window → around ≡ within q turn.around → Runs b q ≡ compound_after turn.place a x → Leads s n (behind turn) (Given v a x) (Asked (record { call = b.call; place = b.place; around = around; window = window; statement = turn.statement })) (Make b.call)
-  feed_runs turn a x v b q window around h w f e =
-      let k : Suits (told turn.place a turn.window) b.call b.place (within q turn.around) × HasRoom turn.around = subst (LeadSuits (told turn.place a turn.window) turn.around) (sym e) (lead_suits turn.place a x turn.window turn.around h.leads h.inside) in
-      let turn_of : Around → Hwnd → Turn = λ y z. record { call = b.call; place = b.place; around = y; window = z; statement = turn.statement } in
-      let next : Turn = turn_of (within q turn.around) (told turn.place a turn.window) in
+  pub feed_runs : (turn : Turn) (a : Answer) (x : ℕ) (v : Variables) (b : Begin) (q : Place) (around : Around) → IsTurn turn → around ≡ within q turn.around → Runs b q ≡ compound_after turn.place a x → Leads s n (behind turn) (Given v a x) (Asked (record { call = b.call; place = b.place; around = around; statement = turn.statement })) (Make b.call)
+  feed_runs turn a x v b q around h f e =
+      let k : Suits b.call b.place (within q turn.around) × HasRoom turn.around = subst (LeadSuits turn.around) (sym e) (lead_suits turn.place a x turn.around h.inside) in
+      let turn_of : Around → Turn = λ y. record { call = b.call; place = b.place; around = y; statement = turn.statement } in
+      let next : Turn = turn_of (within q turn.around) in
       let suits : IsTurn next = k.0 in
       let rest = around_pieces turn.around (Settle turn.statement ∷ []) in
       let l : Leads s n (behind turn) (Given v a x) (Asked next) (Make b.call) =
       before (Feed turn.place) rest (Making b.call ∷ Feed b.place ∷ Feed q ∷ []) (Given v a x) (Going v) (Asked next) (Make b.call) tt (ap (goes_on v) (sym e))
       (subst (λ ps. Leads s n (Making b.call ∷ Feed b.place ∷ ps) (Going v) (Asked next) (Make b.call)) (inside_pieces q turn.around (Settle turn.statement ∷ []) k.1) (asks_leads next v suits)) in
-      subst (λ y. Leads s n (behind turn) (Given v a x) (Asked (turn_of y window)) (Make b.call)) (sym f) (subst (λ z. Leads s n (behind turn) (Given v a x) (Asked (turn_of (within q turn.around) z)) (Make b.call)) (sym w) l)
+      subst (λ y. Leads s n (behind turn) (Given v a x) (Asked (turn_of y)) (Make b.call)) (sym f) l
 
   -- to the place of the compound around it, or to the end
   pub feed_ends : (turn : Turn) (a b : Answer) (x : ℕ) (v : Variables) (stage : Stage) (next : Next) → Ends b ≡ compound_after turn.place a x → Leads s n (around_pieces turn.around (Settle turn.statement ∷ [])) (Given v b 0) stage next → Leads s n (behind turn) (Given v a x) stage next
@@ -360,7 +387,7 @@ module _ (s : Tree) (n : ℕ) where
   pub await_leads : (turn : Turn) (sn : SendId) (v : Variables) → IsTurn turn → true ≡ waits turn.call → Leads s n (follows turn.call (Begun sn) ++ behind turn) (answered turn.call (Begun sn) v) (Asked (record turn { call = Await sn.0 })) (Make (Await sn.0))
   await_leads turn sn v h w =
       let next : Turn = record turn { call = Await sn.0 } in
-      let suits : IsTurn next = record { sent = tt; leads = h.leads; stays = refl; goes_on = refl; inside = h.inside } in
+      let suits : IsTurn next = record { stays = refl; goes_on = refl; inside = h.inside } in
       let e : follows turn.call (Begun sn) ≡ Making (Await sn.0) ∷ [] = follows_on turn.call (Begun sn) h.goes_on (λ x. absurd cc) ∙ ap (λ b. if b then Making (Await sn.0) ∷ [] else []) (sym w) in
       let f : answered turn.call (Begun sn) v ≡ Going v = answered_on turn.call (Begun sn) v h.goes_on (λ x. absurd cc) ∙ ap (λ b. if b then Going v else given v (Begun sn)) (sym w) in
       subst (λ ps. Leads s n (ps ++ behind turn) (answered turn.call (Begun sn) v) (Asked next) (Make next.call)) (sym e)
@@ -391,7 +418,7 @@ module _ (s : Tree) (n : ℕ) where
   leave_runs_so turn next x value a run qs v h b =
       record { left = Running run ∷ Giving a ∷ qs; state = Going v; comes = runs run; stands = is_running turn next (Some x) run v h (is_later x a b) }
 
-  pub leave_runs : (turn : Turn) (next : Then) (x value : ℕ) (a : Answer) (asked : Next) (qs : List Piece) (v : Variables) → IsTurn turn → EntersNot (Leave value) a → Hands x (then_piece turn.call next ∷ behind turn) qs → Some asked ≡ runs_first (following (Leave value) a) → Leads s n (follows (Leave value) a ++ qs) (answered (Leave value) a v) (RunningStage turn next (Some x)) asked
+  pub leave_runs : (turn : Turn) (next : Then) (x value : ℕ) (a : Answer) (asked : Next) (qs : List Piece) (v : Variables) → IsTurn turn → MayFollow (Leave value) a → Hands x (then_piece turn.call next ∷ behind turn) qs → Some asked ≡ runs_first (following (Leave value) a) → Leads s n (follows (Leave value) a ++ qs) (answered (Leave value) a v) (RunningStage turn next (Some x)) asked
   leave_runs turn next x value (Enter sn p w number wparam lparam) asked qs v h k b e = absurd k
   leave_runs turn next x value (Callback sn p w number extra result) asked qs v h k b e =
       subst (λ y. Leads s n (follows (Leave value) (Callback sn p w number extra result) ++ qs) (Going v) (RunningStage turn next (Some x)) y) (sym (some_next e)) (leave_runs_so turn next x value (Callback sn p w number extra result) _ qs v h b)
@@ -410,26 +437,25 @@ module _ (s : Tree) (n : ℕ) where
   leave_hands turn next x value a stage asked qs v k b e l = hands_lead b l (received v a) a (result_of a)
 
   -- a compound of a statement begins
-  pub begins_leads : (c : Compound) (b b' : Begin) (call : Call) (r : Step) (v : Variables) → begun c ≡ begun_over b' (Settle call ∷ []) → b ≡ b' → IsTurn (first_turn b' Nobody call) → r ≡ record { stage = Asked (first_turn b Nobody call); next = Make b.call } → Leads s n (begun c) (Going v) r.stage r.next
-  begins_leads c b b' call r v e f h g =
-      let l : Leads s n (begun_over b' (Settle call ∷ [])) (Going v) (Asked (first_turn b' Nobody call)) (Make b'.call) = asks_leads (first_turn b' Nobody call) v h in
-      carry (begun c) (Going v) (Asked (first_turn b Nobody call)) (Make b.call) r g
-      (subst (λ x. Leads s n (begun c) (Going v) (Asked (first_turn x Nobody call)) (Make x.call)) (sym f)
-      (subst (λ ps. Leads s n ps (Going v) (Asked (first_turn b' Nobody call)) (Make b'.call)) (sym e) l))
+  pub begins_leads : (c : Compound) (b : Begin) (r : Step) (v : Variables) → ((w number p q : ℕ) → c ≡ DefaultOf w number p q → ⊥) → b ≡ begin_of c → r ≡ record { stage = Asked (first_turn b Nobody b.call); next = Make b.call } → Leads s n (begun c) (Going v) r.stage r.next
+  begins_leads c b r v h e g =
+      let suits : IsTurn (first_turn b Nobody b.call) = subst (λ x. IsTurn (first_turn x Nobody b.call)) (sym e) (begin_suits c b.call) in
+      let pieces : begun c ≡ begun_with b = begun_other c h ∙ ap begun_with (sym e) in
+      carry (begun c) (Going v) (Asked (first_turn b Nobody b.call)) (Make b.call) r g
+      (subst (λ ps. Leads s n ps (Going v) (Asked (first_turn b Nobody b.call)) (Make b.call)) (sym pieces) (asks_leads (first_turn b Nobody b.call) v suits))
 
-  -- the statement `default` of a message that closes a window, or is to paint it
-  pub default_leads : (c : Compound) (p : Parameters) (b : Begin) (x : ℕ) (call : Call) (r : Step) (v : Variables) → begun c ≡ default_pieces p (Settle call ∷ []) → Some b ≡ default_begin p → x ≡ default_result p → r ≡ record { stage = Asked (first_turn b (One (Defaulting x)) call); next = Make b.call } → Leads s n (begun c) (Going v) r.stage r.next
-  default_leads c p b x call r v e f g k =
+  -- the statement `default` with a compound inside of it
+  pub default_leads : (p : Parameters) (b : Begin) (x : ℕ) (call : Call) (r : Step) (v : Variables) → Some b ≡ default_begin p → x ≡ default_result p → r ≡ record { stage = Asked (first_turn b (One (Defaulting x)) call); next = Make b.call } → Leads s n (default_pieces p (Settle call ∷ [])) (Going v) r.stage r.next
+  default_leads p b x call r v f g k =
       let turn = first_turn b (One (Defaulting x)) call in
-      let suits : IsTurn turn = default_begins (λ y. IsTurn (first_turn y (One (Defaulting x)) call)) (p.number == WM_CLOSE) (p.number == WM_PAINT) (p.number == WM_ERASEBKGND) p.hwnd b f (plain tt tt refl refl (omega arith, tt)) (plain tt tt refl refl (omega arith, tt)) (plain tt tt refl refl (omega arith, tt)) in
-      let pieces : begun c ≡ Making b.call ∷ behind turn = e ∙ ap (λ y. default_over y (default_result p) (Settle call ∷ [])) (sym f) ∙ ap (λ y. default_over (Some b) y (Settle call ∷ [])) (sym g) in
-      carry (begun c) (Going v) (Asked turn) (Make b.call) r k (subst (λ ps. Leads s n ps (Going v) (Asked turn) (Make b.call)) (sym pieces) (asks_leads turn v suits))
+      let pieces : default_pieces p (Settle call ∷ []) ≡ Making b.call ∷ behind turn = ap (λ y. default_over y (default_result p) (Settle call ∷ [])) (sym f) ∙ ap (λ y. default_over (Some b) y (Settle call ∷ [])) (sym g) in
+      carry (default_pieces p (Settle call ∷ [])) (Going v) (Asked turn) (Make b.call) r k (subst (λ ps. Leads s n ps (Going v) (Asked turn) (Make b.call)) (sym pieces) (asks_leads turn v (default_suits p b x call f)))
 
-  -- and of any other message
-  pub alone_leads : (c : Compound) (p : Parameters) (x : ℕ) (call : Call) (r : Step) (v : Variables) → begun c ≡ default_pieces p (Settle call ∷ []) → None ≡ default_begin p → x ≡ default_result p → r ≡ record { stage = Over; next = Done x 0 } → Leads s n (begun c) (Going v) r.stage r.next
-  alone_leads c p x call r v e f g k =
-      let pieces : begun c ≡ Giving (Value x) ∷ Settle call ∷ [] = e ∙ ap (λ y. default_over y (default_result p) (Settle call ∷ [])) (sym f) ∙ ap (λ y. default_over None y (Settle call ∷ [])) (sym g) in
-      carry (begun c) (Going v) Over (Done x 0) r k
+  -- and without one
+  pub alone_leads : (p : Parameters) (x : ℕ) (call : Call) (r : Step) (v : Variables) → None ≡ default_begin p → x ≡ default_result p → r ≡ record { stage = Over; next = Done x 0 } → Leads s n (default_pieces p (Settle call ∷ [])) (Going v) r.stage r.next
+  alone_leads p x call r v f g k =
+      let pieces : default_pieces p (Settle call ∷ []) ≡ Giving (Value x) ∷ Settle call ∷ [] = ap (λ y. default_over y (default_result p) (Settle call ∷ [])) (sym f) ∙ ap (λ y. default_over None y (Settle call ∷ [])) (sym g) in
+      carry (default_pieces p (Settle call ∷ [])) (Going v) Over (Done x 0) r k
       (subst (λ ps. Leads s n ps (Going v) Over (Done x 0)) (sym pieces) (before (Giving (Value x)) (Settle call ∷ []) [] (Going v) (Given v (Value x) 0) Over (Done x 0) tt refl (settles_leads call (Value x) v v)))
 
   -- the same from an answer that is equal

@@ -3,18 +3,17 @@ use Rattle.std.specs.Prelude.{◌≡◌, ◌<◌, ◌≤◌, ◌^◌, ℕ, false
 use Rattle.script_tree.specs.declared.frame.Begin.{Begin}
 use Rattle.script_tree.specs.declared.frame.Run.{Run}
 use Rattle.script_tree.specs.declared.frame.Place.{Place}
-use Rattle.script_tree.specs.declared.frame.Place.TheVariants.{Making as MakingWindow, Greeting, Telling, Undoing, Dooming, Unmaking, Destroying, Parting, Dropping, Single, Defaulting}
+use Rattle.script_tree.specs.declared.frame.Place.TheVariants.{Making as MakingWindow, Greeting, Telling, Undoing, Dooming, Unmaking, Destroying, Parting, Dropping, Single, Calling, Notifying, Seeking, Reaching, Defaulting}
 use Rattle.script_tree.specs.declared.variables.Parameters.{Parameters}
 use Rattle.script_tree.specs.declared.variables.Variables.{Variables}
 use Rattle.script_tree.specs.Tree.{Tree}
 use Rattle.script_tree.specs.Pieces.{Piece, Making, Again, Giving, Settle, Running, Leaves, Left, Restore, Feed, State, Going}
-use Rattle.script_tree.specs.Steps.{is_last}
+use Rattle.script_tree.specs.Steps.{is_last, parameters_of}
 use Rattle.user_model.specs.Stacks.{leaves}
 use Rattle.user_model.specs.declared.call.Call.{Call}
-use Rattle.user_model.specs.declared.call.Call.TheVariants.{Dispatch, Send, SendTimeout, SendNotify, SendCallback, Leave}
+use Rattle.user_model.specs.declared.call.Call.TheVariants.{Leave}
 use Rattle.user_model.specs.declared.entry.Answer.{Answer}
-use Rattle.user_model.specs.declared.entry.Answer.TheVariants.{Enter, Callback, Window, Tell, Last}
-use Rattle.win_num.specs.declared.message.Hwnd.{Hwnd}
+use Rattle.user_model.specs.declared.entry.Answer.TheVariants.{Enter, Callback, Inside, Called}
 use Rattle.win_calls.specs.declared.compound.Compound.{Compound}
 use Rattle.win_calls.specs.declared.compound.Got.{Got}
 use Rattle.win_calls.specs.declared.compound.Got.TheVariants.{Start, Answered, Returned}
@@ -29,14 +28,25 @@ use Rattle.win_calls.specs.declared.stage.Stage.{Stage}
 use Rattle.win_calls.specs.declared.stage.Stage.TheVariants.{Fresh, Asked, Running as RunningStage, Leaving as LeavingStage, Over}
 use Rattle.win_calls.specs.Table.{begun, Comes}
 
--- the answer doesn't enter a send where the call is a `leave`
-abbrev pub EntersNot : Call → Answer → Type 0
-EntersNot (Leave x) (Enter s proc_no w number wparam lparam) = ⊥
-EntersNot call a = Unit {0}
+-- a window and a message's number of 32 bits
+abbrev pub AreNarrow : Parameters → Type 0
+AreNarrow p = (p.hwnd < 2 ^ 32) × (p.number < 2 ^ 32)
+
+-- the call isn't a `leave`
+abbrev pub LeavesNot : Call → Type 0
+LeavesNot (Leave x) = ⊥
+LeavesNot call = Unit {0}
+
+-- The answer may follow the call: none enters a send where the call is a `leave`, and a procedure runs for the call itself only where its window and its message's number are of 32 bits. A lawful machine gives no other.
+abbrev pub MayFollow : Call → Answer → Type 0
+MayFollow call (Enter s proc_no w number wparam lparam) = LeavesNot call
+MayFollow call (Inside s proc_no) = AreNarrow (parameters_of call)
+MayFollow call (Called proc_no) = AreNarrow (parameters_of call)
+MayFollow call a = Unit {0}
 
 -- what may be handed in where that was asked for: an answer after a call, a result after a procedure
 abbrev pub Awaits : Next → Got → Type 0
-Awaits (Make call) (Answered a) = EntersNot call a
+Awaits (Make call) (Answered a) = MayFollow call a
 Awaits (RunOf proc_no w number wparam lparam callback) (Returned x) = Unit {0}
 Awaits next got = ⊥
 
@@ -48,24 +58,10 @@ IsRun next = ⊥
 -- what may be handed in at that stage
 abbrev pub Accepts : Stage → Got → Type 0
 Accepts (Fresh c) Start = Unit {0}
-Accepts (Asked turn) (Answered a) = EntersNot turn.call a
+Accepts (Asked turn) (Answered a) = MayFollow turn.call a
 Accepts (RunningStage turn next first) (Returned x) = Unit {0}
-Accepts (LeavingStage turn next first value) (Answered a) = EntersNot (Leave value) a
+Accepts (LeavingStage turn next first value) (Answered a) = MayFollow (Leave value) a
 Accepts stage got = ⊥
-
--- a call that sends is SendMessage, to that window, with a number of 32 bits
-abbrev pub IsSentTo : Hwnd → Call → Type 0
-IsSentTo window (Send w number p q) = (w ≡ window.0) × (number < 2 ^ 32)
-IsSentTo window (Dispatch w number p q) = ⊥
-IsSentTo window (SendTimeout w number p q flags ms) = ⊥
-IsSentTo window (SendNotify w number p q) = ⊥
-IsSentTo window (SendCallback w number p q proc_no extra) = ⊥
-IsSentTo window call = Unit {0}
-
--- the window that will be sent to again is that one
-abbrev pub IsPlaceOf : Hwnd → Place → Type 0
-IsPlaceOf window (Greeting w) = w ≡ window.0
-IsPlaceOf window place = Unit {0}
 
 -- how many compounds may begin inside of one another from that place on
 abbrev pub depth : Place → ℕ
@@ -79,6 +75,10 @@ depth (Destroying w) = 0
 depth (Parting w v) = 0
 depth (Dropping w) = 0
 depth Single = 0
+depth (Calling call) = 0
+depth (Notifying n y) = 0
+depth (Seeking b) = 0
+depth (Reaching b w) = 0
 depth (Defaulting x) = 0
 
 -- a place behind a compound inside, from which no other begins
@@ -106,9 +106,7 @@ count (One a) = 1
 count (Two a b) = 2
 
 -- a call that a compound makes itself, neither a `leave` nor the end of a thread, before that place
-pub record Suits (window : Hwnd) (call : Call) (place : Place) (around : Around) : Type 0 where
-  pub sent : IsSentTo window call
-  pub leads : IsPlaceOf window place
+pub record Suits (call : Call) (place : Place) (around : Around) : Type 0 where
   pub stays : leaves call ≡ false
   pub goes_on : is_last call ≡ false
   pub inside : IsInside place around
@@ -125,24 +123,11 @@ outer turn = outer_in turn turn.around
 
 -- a call that a compound makes itself
 abbrev pub IsTurn : Turn → Type 0
-IsTurn turn = Suits turn.window turn.call turn.place turn.around
+IsTurn turn = Suits turn.call turn.place turn.around
 
 -- the first call of a compound
 abbrev pub first_turn : Begin → Around → Call → Turn
-first_turn b around call = record { call = b.call; place = b.place; around = around; window = record { 0 = 0 }; statement = call }
-
--- the window that an answer names, or else this one
-abbrev pub named : Answer → Hwnd → Hwnd
-named (Window w) window = w
-named (Tell w) window = w
-named (Last w) window = w
-named a window = window
-
--- the window that a compound sends to after this answer at that place
-abbrev pub told : Place → Answer → Hwnd → Hwnd
-told MakingWindow a window = named a window
-told (Unmaking w) a window = named a window
-told place a window = window
+first_turn b around call = record { call = b.call; place = b.place; around = around; statement = call }
 
 -- the pieces of the compounds around one, before others
 abbrev pub around_pieces : Around → List Piece → List Piece

@@ -5,24 +5,53 @@ use Rattle.script_tree.specs.declared.frame.Begin.{Begin}
 use Rattle.script_tree.specs.declared.variables.Parameters.{Parameters}
 use Rattle.script_tree.specs.declared.variables.Variables.{Variables}
 use Rattle.script_tree.specs.Tree.{Tree}
-use Rattle.script_tree.specs.Compounds.{creation, destruction}
+use Rattle.script_tree.specs.declared.frame.Spread.TheVariants.{Posts, Notifies}
+use Rattle.script_tree.specs.declared.statement.CompoundStatement.{CompoundStatement}
+use Rattle.script_tree.specs.declared.statement.CompoundStatement.TheVariants as statements
+use Rattle.script_tree.specs.Values.{value_of, edge_of}
+use Rattle.script_tree.specs.Compounds.{creation, destruction, notifying, broadcast, broadcasting}
 use Rattle.script_tree.specs.Pieces.{Piece, Settle, Running, Leaving, Restore, State, Going, Returning, Becomes, Asks}
 use Rattle.script_tree.specs.Steps.{step, follows, answered, variables_of, parameters_from, begun_over, default_pieces, is_callback}
 use Rattle.user_model.specs.declared.call.Call.{Call}
-use Rattle.user_model.specs.declared.call.Call.TheVariants.{NewWindow, Doom}
+use Rattle.user_model.specs.declared.call.Call.TheVariants.{NewWindow, Doom, Show, Enable, Place as PlaceCall, SetFocus as SetFocusCall, SetActive as SetActiveCall, SetCapture as SetCaptureCall, ReleaseCapture as ReleaseCaptureCall, BeginPaint as BeginPaintCall, UpdateRect}
 use Rattle.user_model.specs.declared.entry.Answer.{Answer}
 use Rattle.win_calls.specs.declared.compound.Compound.{Compound}
-use Rattle.win_calls.specs.declared.compound.Compound.TheVariants.{Create, Destroy, Default as DefaultOf}
+use Rattle.win_calls.specs.declared.compound.Compound.TheVariants.{Create, Destroy, ShowWindow, EnableWindow, SetWindowPos, SetFocus, SetActive, SetCapture, ReleaseCapture, BeginPaint, UpdateWindow, PostAll, NotifyAll, Default as DefaultOf}
 use Rattle.win_calls.specs.declared.compound.Got.{Got}
 use Rattle.win_calls.specs.declared.compound.Got.TheVariants.{Start, Answered, Returned}
 use Rattle.win_calls.specs.declared.compound.Next.{Next}
 use Rattle.win_calls.specs.declared.compound.Next.TheVariants.{Make, Run as RunOf, Done}
 
--- the call of a compound's statement: with it the compound begins, but for `default`, which makes it only where a compound is inside of it
-abbrev pub first_call : Compound → Call
-first_call (Create class title parent style extended left top right bottom) = NewWindow class title parent style extended left top right bottom
-first_call (Destroy w) = Doom w
-first_call (DefaultOf w number p q) = Doom w
+-- how a compound begins; `default` only where it destroys its window
+abbrev pub begin_of : Compound → Begin
+begin_of (Create class title parent style extended left top right bottom) = creation (NewWindow class title parent style extended left top right bottom)
+begin_of (Destroy w) = destruction w
+begin_of (ShowWindow w on) = notifying (Show w on)
+begin_of (EnableWindow w on) = notifying (Enable w on)
+begin_of (SetWindowPos w after l t r b flags) = notifying (PlaceCall w after l t r b flags)
+begin_of (SetFocus w) = notifying (SetFocusCall w)
+begin_of (SetActive w) = notifying (SetActiveCall w)
+begin_of (SetCapture w) = notifying (SetCaptureCall w)
+begin_of ReleaseCapture = notifying ReleaseCaptureCall
+begin_of (BeginPaint w) = notifying (BeginPaintCall w)
+begin_of (UpdateWindow w) = notifying (UpdateRect w)
+begin_of (PostAll m p q) = broadcasting (broadcast Posts m p q)
+begin_of (NotifyAll m p q) = broadcasting (broadcast Notifies m p q)
+begin_of (DefaultOf w number p q) = destruction w
+
+-- a compound statement with the values of its operands
+abbrev pub compound_of : CompoundStatement → Variables → Compound
+compound_of (statements.ShowWindow w on) v = ShowWindow (value_of w v) (value_of on v)
+compound_of (statements.EnableWindow w on) v = EnableWindow (value_of w v) (value_of on v)
+compound_of (statements.SetWindowPos w after l t r b flags) v = SetWindowPos (value_of w v) (edge_of after v) (edge_of l v) (edge_of t v) (edge_of r v) (edge_of b v) (value_of flags v)
+compound_of (statements.SetFocus w) v = SetFocus (value_of w v)
+compound_of (statements.SetActive w) v = SetActive (value_of w v)
+compound_of (statements.SetCapture w) v = SetCapture (value_of w v)
+compound_of statements.ReleaseCapture v = ReleaseCapture
+compound_of (statements.BeginPaint w) v = BeginPaint (value_of w v)
+compound_of (statements.UpdateWindow w) v = UpdateWindow (value_of w v)
+compound_of (statements.PostAll m p q) v = PostAll (value_of m v) (value_of p v) (value_of q v)
+compound_of (statements.NotifyAll m p q) v = NotifyAll (value_of m v) (value_of p v) (value_of q v)
 
 -- the pieces of a statement that begins so
 abbrev pub begun_with : Begin → List Piece
@@ -30,9 +59,8 @@ begun_with b = begun_over b (Settle b.call ∷ [])
 
 -- the pieces of a compound statement, as its line in the table has them
 abbrev pub begun : Compound → List Piece
-begun (Create class title parent style extended left top right bottom) = begun_with (creation (NewWindow class title parent style extended left top right bottom))
-begun (Destroy w) = begun_with (destruction w)
 begun (DefaultOf w number p q) = default_pieces (parameters_from w number p q) (Settle (Doom w) ∷ [])
+begun c = begun_with (begin_of c)
 
 -- that procedure is to run with these parameters
 abbrev pub run_asked : ℕ → Parameters → Bool → Next

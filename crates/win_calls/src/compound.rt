@@ -34,7 +34,9 @@ pub enum Next {
         callback: bool,
     },
     /// It has ended; `r` and `err` are what the statement sets them to: for `create` the window or 0, for
-    /// `destroy` 1 or 0, for `default` its result, each with err 0; and 0 with the number of a refusal.
+    /// `destroy` 1 or 0, for `default` its result; for `show_window` 1 where the window was visible, for
+    /// `enable_window` 1 where it was disabled, for those of focus, active window and capture the window that was
+    /// there, and 1 for any other, each with err 0; and 0 with the number of a refusal.
     Done {
         r: u64,
         err: u16,
@@ -50,6 +52,32 @@ pub enum Compound {
     Create(u32, u32, u64, u64, u64, i64, i64, i64, i64),
     /// Destroys a window, with all below it and owned by it (Microsoft, DestroyWindow function).
     Destroy(u64),
+    /// Shows a window (1) or hides it (0), and tells it so where that changed it (Microsoft, ShowWindow function).
+    ShowWindow(u64, u64),
+    /// Enables a window (1) or disables it (0), and tells it so where that changed it (Microsoft, EnableWindow
+    /// function).
+    EnableWindow(u64, u64),
+    /// Puts a window at a place, with the arguments of the call `place`, and tells it what changed (Microsoft,
+    /// SetWindowPos function).
+    SetWindowPos(u64, i64, i64, i64, i64, i64, u64),
+    /// Gives a window the focus, or for 0 nobody, and tells both windows (Microsoft, SetFocus function).
+    SetFocus(u64),
+    /// Makes a window the active one, or for 0 none, and tells both windows (Microsoft, SetActiveWindow function).
+    SetActive(u64),
+    /// Gives a window the capture, and tells the one that loses it (Microsoft, SetCapture function).
+    SetCapture(u64),
+    /// Takes the capture away, and tells the window that loses it (Microsoft, ReleaseCapture function).
+    ReleaseCapture,
+    /// Begins to paint a window, and lets it erase its background where it is to (Microsoft, BeginPaint function).
+    BeginPaint(u64),
+    /// Lets a window paint what it is to (Microsoft, UpdateWindow function).
+    UpdateWindow(u64),
+    /// Posts a message to each top-level window, in order of their numbers: the message's number, wParam and lParam
+    /// (Microsoft, PostMessage function, HWND_BROADCAST).
+    PostAll(u64, u64, u64),
+    /// Sends a message to each top-level window in the same way, and waits for none (Microsoft, SendNotifyMessage
+    /// function, HWND_BROADCAST).
+    NotifyAll(u64, u64, u64),
     /// What a window does with a message that its procedure leaves alone: the window, the message's number,
     /// wParam and lParam (Microsoft, DefWindowProc function).
     Default(u64, u64, u64, u64),

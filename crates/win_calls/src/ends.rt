@@ -2,17 +2,18 @@
 
 ghost use Rattle.std.specs.Prelude.{◌≡◌, ◌∷◌, [], ℕ};
 ghost use Rattle.script_tree.specs.Tree.{Tree};
+ghost use Rattle.script_tree.specs.Compounds.{broadcast, broadcasting};
 ghost use Rattle.script_tree.specs.Pieces.{Settle, Going, Given};
+ghost use Rattle.script_tree.specs.Steps.{default_pieces};
 ghost use Rattle.script_tree.specs.declared.variables.Variables.{Variables};
 ghost use Rattle.win_calls.specs.declared.compound.Got.{Got};
-ghost use Rattle.win_calls.specs.Table.{begun, first_call as call_of};
-ghost use Rattle.win_calls.specs.States.{IsTurn, Accepts, Awaits, Leads, behind, first_turn, within as within_of, told as told_by, named as named_by, outer as outer_of};
+ghost use Rattle.win_calls.specs.Table.{begun, begin_of};
+ghost use Rattle.win_calls.specs.States.{IsTurn, Accepts, Awaits, Leads, behind, first_turn, within as within_of, outer as outer_of};
 
 use crate::compound::{Compound, Next};
 use crate::stage::{Around, Stage, Step, Turn};
-use script_tree::{Begin, Lead, Parameters, Place, Variables};
+use script_tree::{Begin, Broadcast, Lead, Parameters, Place, Spread, Variables};
 use user_model::{Answer, Call};
-use win_num::Hwnd;
 
 /// Makes its call.
 pub fn asks(turn: Turn) -> Step
@@ -44,29 +45,6 @@ fn ended(statement: Call, answer: Answer) -> Step
     let mut variables = Variables::start();
     variables.settle(&statement, &answer, 0);
     over(variables.last_result, variables.last_error)
-}
-
-/// The window that a compound sends to after this answer at that place.
-fn told(place: Place, answer: &Answer, window: Hwnd) -> Hwnd
-    ensures { result ≡ told_by place answer.now window }
-{
-    match place {
-        Place::Making => named(answer, window),
-        Place::Unmaking(_) => named(answer, window),
-        _ => window,
-    }
-}
-
-/// The window that an answer names, or else this one.
-fn named(answer: &Answer, window: Hwnd) -> Hwnd
-    ensures { result ≡ named_by answer.now window }
-{
-    match answer {
-        Answer::Window(named) => *named,
-        Answer::Tell(named) => *named,
-        Answer::Last(named) => *named,
-        _ => window,
-    }
 }
 
 /// One compound more around the one that begins inside of it. No compound of the table is more than three
@@ -103,19 +81,16 @@ pub fn gives(turn: Turn, answer: Answer, value: u64) -> Step
     ensures follows { (s : Tree) (n : ℕ) (v : Variables) → IsTurn turn → Leads s n (behind turn) (Given v answer value) result.stage result.next }
     ensures accepts { (g : Got) → Awaits result.next g → Accepts result.stage g }
 {
-    let window = told(turn.place, &answer, turn.window);
     match turn.place.after(&answer, value) {
         Lead::Calls(call, place) => asks(Turn {
             call,
             place,
-            window,
             ..turn
         }),
         Lead::Runs(begin, place) => asks(Turn {
             call: begin.call,
             place: begin.place,
             around: within(place, turn.around),
-            window,
             ..turn
         }),
         Lead::Ends(last) => match outer(turn) {
@@ -134,52 +109,84 @@ fn starts(begin: Begin, around: Around, statement: Call) -> Step
         call: begin.call,
         place: begin.place,
         around,
-        window: Hwnd(0),
         statement,
     })
 }
 
-/// The call of its statement.
-fn first_call(compound: Compound) -> Call
-    ensures { result ≡ call_of compound }
+/// A compound that brings a message to each top-level window.
+fn broadcasts(spread: Spread, number: u64, wparam: u64, lparam: u64) -> Begin
+    ensures { result ≡ broadcasting (broadcast spread number wparam lparam) }
+{
+    Begin::broadcasting(Broadcast {
+        spread,
+        number,
+        wparam,
+        lparam,
+    })
+}
+
+/// How it begins. `default` begins so only where it destroys its window.
+fn beginning(compound: Compound) -> Begin
+    ensures { result ≡ begin_of compound }
 {
     match compound {
         Compound::Create(class, title, parent, style, extended, left, top, right, bottom) => {
-            Call::NewWindow(
+            Begin::creation(Call::NewWindow(
                 class, title, parent, style, extended, left, top, right, bottom,
-            )
+            ))
         }
-        Compound::Destroy(window) => Call::Doom(window),
-        Compound::Default(window, _, _, _) => Call::Doom(window),
+        Compound::Destroy(window) => Begin::destruction(window),
+        Compound::ShowWindow(window, on) => Begin::notifying(Call::Show(window, on)),
+        Compound::EnableWindow(window, on) => Begin::notifying(Call::Enable(window, on)),
+        Compound::SetWindowPos(window, after, left, top, right, bottom, flags) => {
+            Begin::notifying(Call::Place(window, after, left, top, right, bottom, flags))
+        }
+        Compound::SetFocus(window) => Begin::notifying(Call::SetFocus(window)),
+        Compound::SetActive(window) => Begin::notifying(Call::SetActive(window)),
+        Compound::SetCapture(window) => Begin::notifying(Call::SetCapture(window)),
+        Compound::ReleaseCapture => Begin::notifying(Call::ReleaseCapture),
+        Compound::BeginPaint(window) => Begin::notifying(Call::BeginPaint(window)),
+        Compound::UpdateWindow(window) => Begin::notifying(Call::UpdateRect(window)),
+        Compound::PostAll(number, wparam, lparam) => {
+            broadcasts(Spread::Posts, number, wparam, lparam)
+        }
+        Compound::NotifyAll(number, wparam, lparam) => {
+            broadcasts(Spread::Notifies, number, wparam, lparam)
+        }
+        Compound::Default(window, _, _, _) => Begin::destruction(window),
     }
 }
 
-/// It begins; `default` makes a call only where a compound is inside of it.
+/// `default` begins: it makes a call only where a compound is inside of it.
+fn defaults(parameters: Parameters) -> Step
+    ensures follows { (s : Tree) (n : ℕ) (v : Variables) → Leads s n (default_pieces parameters (Settle (Call.Doom parameters.hwnd) ∷ [])) (Going v) result.stage result.next }
+    ensures accepts { (g : Got) → Awaits result.next g → Accepts result.stage g }
+{
+    let value = parameters.default_result();
+    match parameters.default_begin() {
+        None => over(value, 0),
+        Some(begin) => {
+            let around = Around::One(Place::Defaulting(value));
+            starts(begin, around, Call::Doom(parameters.hwnd))
+        }
+    }
+}
+
+/// It begins.
 pub fn begins(compound: Compound) -> Step
     ensures follows { (s : Tree) (n : ℕ) (v : Variables) → Leads s n (begun compound) (Going v) result.stage result.next }
     ensures accepts { (g : Got) → Awaits result.next g → Accepts result.stage g }
 {
-    let call = first_call(compound);
     match compound {
-        Compound::Create(_, _, _, _, _, _, _, _, _) => {
-            starts(Begin::creation(call), Around::Nobody, call)
-        }
-        Compound::Destroy(window) => { starts(Begin::destruction(window), Around::Nobody, call) }
-        Compound::Default(hwnd, number, wparam, lparam) => {
-            let parameters = Parameters {
-                hwnd,
-                number,
-                wparam,
-                lparam,
-            };
-            let result = parameters.default_result();
-            match parameters.default_begin() {
-                None => over(result, 0),
-                Some(begin) => {
-                    let around = Around::One(Place::Defaulting(result));
-                    starts(begin, around, call)
-                }
-            }
+        Compound::Default(hwnd, number, wparam, lparam) => defaults(Parameters {
+            hwnd,
+            number,
+            wparam,
+            lparam,
+        }),
+        _ => {
+            let begin = beginning(compound);
+            starts(begin, Around::Nobody, begin.call)
         }
     }
 }

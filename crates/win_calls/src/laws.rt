@@ -7,19 +7,21 @@ ghost use Rattle.script_tree.specs.Steps.{statement};
 ghost use Rattle.script_tree.specs.Values.{value_of, edge_of};
 ghost use Rattle.script_tree.specs.declared.operand.Operand.{Operand};
 ghost use Rattle.script_tree.specs.declared.statement.Creation.{Creation};
-ghost use Rattle.script_tree.specs.declared.statement.Statement.TheVariants.{Create, Destroy, Default};
+ghost use Rattle.script_tree.specs.declared.statement.CompoundStatement.{CompoundStatement};
+ghost use Rattle.script_tree.specs.declared.statement.Statement.TheVariants.{Create, Destroy, Compound, Default};
 ghost use Rattle.script_tree.specs.declared.variables.Variables.{Variables};
 ghost use Rattle.win_calls.specs.declared.compound.Got.{Got};
 ghost use Rattle.win_calls.specs.declared.compound.Next.{Next};
 ghost use Rattle.win_calls.specs.declared.compound.Compound.TheVariants.{Create as Creates, Destroy as Destroys, Default as Defaults};
 ghost use Rattle.win_calls.specs.declared.stage.Stage.{Stage};
-ghost use Rattle.win_calls.specs.Table.{begun, Handed, Comes};
+ghost use Rattle.win_calls.specs.Table.{begun, compound_of, Handed, Comes};
 ghost use Rattle.win_calls.specs.States.{StandsFor, Accepts};
 
 /// A compound begins with the pieces that the table has for its statement.
 pub fn begins_as_its_statement()
     ensures create { (c : Creation) (v : Variables) (n : ℕ) → statement (Create c) v n ≡ Becomes (begun (Creates c.class c.title (value_of c.parent v) (value_of c.style v) (value_of c.extended_style v) (edge_of c.left v) (edge_of c.top v) (edge_of c.right v) (edge_of c.bottom v))) (Going v) }
     ensures destroy { (w : Operand) (v : Variables) (n : ℕ) → statement (Destroy w) v n ≡ Becomes (begun (Destroys (value_of w v))) (Going v) }
+    ensures compound { (c : CompoundStatement) (v : Variables) (n : ℕ) → statement (Compound c) v n ≡ Becomes (begun (compound_of c v)) (Going v) }
     ensures default { (v : Variables) (n : ℕ) → statement Default v n ≡ Becomes (begun (Defaults v.parameters.hwnd v.parameters.number v.parameters.wparam v.parameters.lparam)) (Going v) }
 {}
 

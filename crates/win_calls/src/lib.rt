@@ -1,5 +1,5 @@
-//! The compound statements `create`, `destroy` and `default` as resumable states without a machine, for
-//! programs that embed the machine and make its calls themselves.
+//! The compound statements as resumable states without a machine, for programs that embed the machine and make its
+//! calls themselves.
 #![tactic(auto)]
 
 mod compound;
@@ -12,6 +12,7 @@ mod turns;
 pub use compound::{Compound, Got, Next};
 pub use laws::{begins_as_its_statement, can_be_handed, one_next};
 pub use state::CompoundState;
+pub use turns::may_follow;
 
 #[cfg(test)]
 mod tests;

@@ -3,7 +3,6 @@
 use crate::compound::{Compound, Next};
 use script_tree::Place;
 use user_model::{Answer, Call};
-use win_num::Hwnd;
 
 /// The compounds around one that runs inside of them, by the places where its end leads: two at most, the
 /// inner one first.
@@ -23,8 +22,6 @@ pub struct Turn {
     pub place: Place,
     /// The compounds around the one that makes it.
     pub around: Around,
-    /// The window that the compound sends to.
-    pub window: Hwnd,
     /// The call whose statement sets `r` and `err` at the end.
     pub statement: Call,
 }

@@ -32,7 +32,7 @@ impl CompoundState {
     }
 
     /// What it asks for next, where that is handed in: `Start` at first, an answer after `Make`, a result
-    /// after `Run`, and nothing after `Done`. No machine answers `leave` with `enter`.
+    /// after `Run`, and nothing after `Done`. The answer is one that `may_follow` the call.
     pub fn next(&mut self, got: Got) -> Next
         requires { Accepts self.old.stage got }
         ensures follows { (s : Tree) (n : ℕ) (ps qs : List Piece) (st sq : State) → StandsFor self.old.stage ps st → Handed s n ps st got qs sq → Leads s n qs sq self.new.stage result }

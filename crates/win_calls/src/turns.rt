@@ -1,6 +1,6 @@
 //! What follows the answers to a compound's calls, and the procedures that run for them.
 
-ghost use Rattle.std.specs.Prelude.{◌≡◌, ◌<◌, ◌^◌, ◌++◌, ◌∷◌, false, ℕ, List, IfSome};
+ghost use Rattle.std.specs.Prelude.{◌≡◌, ◌<◌, ◌^◌, ◌++◌, ◌∷◌, false, ℕ, List, IfSome, IsTrue};
 ghost use Rattle.user_model.specs.Stacks.{waits as waits_of};
 ghost use Rattle.script_tree.specs.Tree.{Tree};
 ghost use Rattle.script_tree.specs.Pieces.{Piece, Leaving, Restore, Returning};
@@ -10,16 +10,16 @@ ghost use Rattle.script_tree.specs.declared.variables.Parameters.{Parameters};
 ghost use Rattle.script_tree.specs.declared.frame.Run.{Run};
 ghost use Rattle.win_calls.specs.declared.compound.Got.{Got};
 ghost use Rattle.win_calls.specs.Table.{run_asked, runs_first};
-ghost use Rattle.win_calls.specs.States.{IsTurn, IsSentTo, EntersNot, Accepts, Awaits, Leads, Below, Hands, IsRun, behind, then_piece, then_of};
+ghost use Rattle.win_calls.specs.States.{IsTurn, AreNarrow, LeavesNot, MayFollow, Accepts, Awaits, Leads, Below, Hands, IsRun, behind, then_piece, then_of};
 
 use crate::compound::Next;
 use crate::ends::{asks, gives};
 use crate::stage::{Stage, Step, Then, Turn};
-use script_tree::result_of;
+use script_tree::{Parameters, result_of};
 use user_model::{Answer, Call};
 use win_num::Hwnd;
 
-/// A message's number, and 0 for what is none.
+/// A number of 32 bits, and 0 for one beyond.
 fn narrowed(number: u64) -> u32
     ensures { number < 2 ^ 32 → result ≡ number }
 {
@@ -36,28 +36,78 @@ fn waits(call: &Call) -> bool
     }
 }
 
-/// The procedure of the window that a call sends to is to run.
-fn inside(call: &Call, window: Hwnd, proc_no: u32) -> Next
-    ensures run { IsRun result }
-    ensures asked { IsSentTo window call.now → result ≡ run_asked proc_no (parameters_of call.now) false }
+/// Parameters from their numbers.
+fn with(hwnd: u64, number: u64, wparam: u64, lparam: u64) -> Parameters
+    ensures { result ≡ record { hwnd = hwnd; number = number; wparam = wparam; lparam = lparam } }
+{
+    Parameters {
+        hwnd,
+        number,
+        wparam,
+        lparam,
+    }
+}
+
+/// The parameters of the procedure that a call runs.
+fn parameters(call: &Call) -> Parameters
+    ensures { result ≡ parameters_of call.now }
 {
     match call {
-        Call::Send(_, number, wparam, lparam) => Next::Run {
-            proc_no,
-            hwnd: window,
-            number: narrowed(*number),
-            wparam: *wparam,
-            lparam: *lparam,
-            callback: false,
-        },
-        _ => Next::Run {
-            proc_no,
-            hwnd: Hwnd(0),
-            number: 0,
-            wparam: 0,
-            lparam: 0,
-            callback: false,
-        },
+        Call::Dispatch(w, m, p, q) => with(*w, *m, *p, *q),
+        Call::Send(w, m, p, q) => with(*w, *m, *p, *q),
+        Call::SendTimeout(w, m, p, q, _, _) => with(*w, *m, *p, *q),
+        Call::SendNotify(w, m, p, q) => with(*w, *m, *p, *q),
+        Call::SendCallback(w, m, p, q, _, _) => with(*w, *m, *p, *q),
+        _ => Parameters::none(),
+    }
+}
+
+/// Whether the answer may follow the call, as far as `CompoundState::next` asks: none enters a send where the call
+/// is a `leave`, and a procedure runs for the call itself only where its window and its message are numbers of 32
+/// bits. A lawful machine gives no other answer.
+pub fn may_follow(call: &Call, answer: &Answer) -> bool
+    ensures sound { IsTrue result → MayFollow call.now answer.now }
+    ensures complete { MayFollow call.now answer.now → IsTrue result }
+{
+    match answer {
+        Answer::Enter { .. } => leaves_not(call),
+        Answer::Inside(_, _) => is_narrow(&parameters(call)),
+        Answer::Called(_) => is_narrow(&parameters(call)),
+        _ => true,
+    }
+}
+
+fn leaves_not(call: &Call) -> bool
+    ensures sound { IsTrue result → LeavesNot call.now }
+    ensures complete { LeavesNot call.now → IsTrue result }
+{
+    match call {
+        Call::Leave(_) => false,
+        _ => true,
+    }
+}
+
+fn is_narrow(parameters: &Parameters) -> bool
+    ensures sound { IsTrue result → AreNarrow parameters.now }
+    ensures complete { AreNarrow parameters.now → IsTrue result }
+{
+    parameters.hwnd < 4294967296 && parameters.number < 4294967296
+}
+
+/// The procedure that a call runs is to run.
+fn inside(call: &Call, proc_no: u32) -> Next
+    requires { AreNarrow (parameters_of call.now) }
+    ensures run { IsRun result }
+    ensures asked { result ≡ run_asked proc_no (parameters_of call.now) false }
+{
+    let parameters = parameters(call);
+    Next::Run {
+        proc_no,
+        hwnd: Hwnd(narrowed(parameters.hwnd)),
+        number: narrowed(parameters.number),
+        wparam: parameters.wparam,
+        lparam: parameters.lparam,
+        callback: false,
     }
 }
 
@@ -96,9 +146,10 @@ pub fn returned(turn: Turn, then: Then, first: Option<u64>, value: u64) -> Step
 }
 
 /// The procedure that an answer runs, if it runs one.
-fn procedure(call: &Call, window: Hwnd, answer: &Answer) -> Option<Next>
+fn procedure(call: &Call, answer: &Answer) -> Option<Next>
+    requires { MayFollow call.now answer.now }
     ensures run { IfSome result IsRun }
-    ensures first { IsSentTo window call.now → result ≡ runs_first (following call.now answer.now) }
+    ensures first { result ≡ runs_first (following call.now answer.now) }
 {
     match answer {
         Answer::Enter {
@@ -131,8 +182,8 @@ fn procedure(call: &Call, window: Hwnd, answer: &Answer) -> Option<Next>
             lparam: *result,
             callback: true,
         }),
-        Answer::Inside(_, proc_no) => Some(inside(call, window, *proc_no)),
-        Answer::Called(proc_no) => Some(inside(call, window, *proc_no)),
+        Answer::Inside(_, proc_no) => Some(inside(call, *proc_no)),
+        Answer::Called(proc_no) => Some(inside(call, *proc_no)),
         _ => None,
     }
 }
@@ -169,10 +220,11 @@ fn stays(turn: Turn, answer: Answer) -> Step
 
 /// Its call was answered.
 pub fn answered(turn: Turn, answer: Answer) -> Step
+    requires { MayFollow turn.call answer }
     ensures follows { (s : Tree) (n : ℕ) (v : Variables) → IsTurn turn → Leads s n (follows turn.call answer ++ behind turn) (answered_by turn.call answer v) result.stage result.next }
     ensures accepts { (g : Got) → Awaits result.next g → Accepts result.stage g }
 {
-    match procedure(&turn.call, turn.window, &answer) {
+    match procedure(&turn.call, &answer) {
         Some(next) => runs(turn, after_run(answer), None, next),
         None => stays(turn, answer),
     }
@@ -191,13 +243,13 @@ fn resumed(turn: Turn, then: Then, first: u64) -> Step
 
 /// The `leave` of the procedure on top was answered.
 pub fn left(turn: Turn, then: Then, first: u64, value: u64, answer: Answer) -> Step
-    requires { EntersNot (Call.Leave value) answer }
+    requires { MayFollow (Call.Leave value) answer }
     ensures follows { (s : Tree) (n : ℕ) (qs : List Piece) (v : Variables) → IsTurn turn → Hands first (then_piece turn.call then ∷ behind turn) qs → Leads s n (follows (Call.Leave value) answer ++ qs) (answered_by (Call.Leave value) answer v) result.stage result.next }
     ensures accepts { (g : Got) → Awaits result.next g → Accepts result.stage g }
 {
     match answer {
         Answer::Wait => leaves(turn, then, first, value),
-        _ => match procedure(&Call::Leave(value), turn.window, &answer) {
+        _ => match procedure(&Call::Leave(value), &answer) {
             Some(next) => runs(turn, then, Some(first), next),
             None => resumed(turn, then, first),
         },

@@ -1,12 +1,58 @@
 //! Worked examples of windows and their destruction, with ample memory.
 
 use super::*;
+use std::alloc::Global;
+use std::process::Abort;
 use std::test::Fail;
 use win_num::rect;
 
 const NONE: Hwnd = Hwnd(0);
 
 const CHILD: u32 = 1073741824;
+
+/// What is done with the windows.
+#[derive(Clone, Copy, Debug)]
+enum Step {
+    /// Adds a window of this style, parent and owner.
+    Add(u32, u32, u32),
+    Doom(u32),
+    Unmake(u32),
+    /// Asks for the next step alone.
+    Next(u32),
+    Drop(u32),
+}
+
+/// What it is answered by.
+#[derive(Clone, Copy, Debug, PartialEq, Eq)]
+enum Told {
+    Number(Result<Hwnd, Fault>),
+    Done(Result<(), Code>),
+    Step(Unmade),
+}
+
+fn number(w: u32) -> Told {
+    Told::Number(Ok(Hwnd(w)))
+}
+
+fn unmade(code: u16) -> Told {
+    Told::Number(Err(Fault::Refused(Code::Win(code))))
+}
+
+fn done() -> Told {
+    Told::Done(Ok(()))
+}
+
+fn refused(code: u16) -> Told {
+    Told::Done(Err(Code::Win(code)))
+}
+
+fn tell(w: u32) -> Told {
+    Told::Step(Unmade::Tell(Hwnd(w)))
+}
+
+fn last(w: u32) -> Told {
+    Told::Step(Unmade::Last(Hwnd(w)))
+}
 
 fn row(style: u32, parent: u32, owner: u32) -> Result<WindowRow, Fail> {
     let place = rect(0, 0, 4, 4)?;
@@ -22,160 +68,211 @@ fn row(style: u32, parent: u32, owner: u32) -> Result<WindowRow, Fail> {
     })
 }
 
-/// 16 with the child 17, whose child is 18; 16 owns 19; 20 stands alone.
-fn family(tree: &mut Tree) -> Result<(), Fail> {
-    let rows = [
-        row(0, 0, 0)?,
-        row(CHILD, 16, 0)?,
-        row(CHILD, 17, 0)?,
-        row(0, 0, 18)?,
-        row(0, 0, 0)?,
-    ];
-    for row in rows {
-        tree.add(row)?;
+fn act(tree: &mut Tree, step: Step) -> Result<Told, Fail> {
+    Ok(match step {
+        Step::Add(style, parent, owner) => Told::Number(tree.add(row(style, parent, owner)?)),
+        Step::Doom(w) => Told::Done(tree.doom(Hwnd(w))),
+        Step::Unmake(w) => Told::Step(tree.unmake(Hwnd(w))),
+        Step::Next(w) => Told::Step(tree.next_step(Hwnd(w))),
+        Step::Drop(w) => Told::Done(tree.drop_one(Hwnd(w))),
+    })
+}
+
+/// Each step in turn is answered by what stands beside it.
+fn goes(rt: &impl Abort, tree: &mut Tree, steps: &[(Step, Told)]) -> Result<(), Fail> {
+    for (step, wanted) in steps {
+        let told = act(tree, *step)?;
+        assert_eq!(rt; told, *wanted, "at {step:?}");
     }
     Ok(())
 }
 
-fn refused(number: u16) -> Result<Hwnd, Fault> {
-    Err(Fault::Refused(Code::Win(number)))
+/// Each of these is so.
+fn holds(rt: &impl Abort, facts: &[bool]) {
+    for i in 0..facts.len() {
+        assert!(rt; facts[i], "fact {i}");
+    }
+}
+
+/// The live windows are these.
+fn lists(rt: &impl Abort, tree: &Tree, wanted: &[Hwnd]) {
+    assert_eq!(rt; tree.windows(), wanted);
+}
+
+/// 16 with the child 17, whose child is 18; 16 owns 19; 20 stands alone.
+fn family(rt: &impl Abort, alloc: Global) -> Result<Tree, Fail> {
+    let mut tree = Tree::new(alloc);
+    let steps = [
+        (Step::Add(0, 0, 0), number(16)),
+        (Step::Add(CHILD, 16, 0), number(17)),
+        (Step::Add(CHILD, 17, 0), number(18)),
+        (Step::Add(0, 0, 18), number(19)),
+        (Step::Add(0, 0, 0), number(20)),
+    ];
+    goes(rt, &mut tree, &steps)?;
+    Ok(tree)
 }
 
 #[test]
 fn numbers_rise_and_are_refused_in_order(rt: HostRuntime) -> Result<(), Fail> {
     let mut tree = Tree::new(rt.alloc());
-    assert_eq!(rt; tree.add(row(0, 0, 0)?), Ok(Hwnd(16)));
-    assert_eq!(rt; tree.add(row(CHILD, 16, 0)?), Ok(Hwnd(17)));
-    assert_eq!(rt; tree.windows(), [Hwnd(16), Hwnd(17)].as_slice());
-    assert_eq!(rt; tree.add(row(CHILD, 0, 9)?), refused(1400));
-    assert_eq!(rt; tree.add(row(CHILD, 0, 0)?), refused(1406));
-    assert_eq!(rt; tree.doom(Hwnd(17)), Ok(()));
-    assert_eq!(rt; tree.doom(Hwnd(17)), Err(Code::Win(1400)));
-    assert_eq!(rt; tree.add(row(CHILD, 17, 0)?), refused(1400));
-    assert_eq!(rt; tree.drop_one(Hwnd(17)), Err(Code::Win(87)));
-    assert_eq!(rt; tree.unmake(Hwnd(17)), Unmade::Tell(Hwnd(17)));
-    assert_eq!(rt; tree.unmake(Hwnd(17)), Unmade::Last(Hwnd(17)));
-    assert_eq!(rt; tree.drop_one(Hwnd(17)), Ok(()));
-    assert_eq!(rt; tree.drop_one(Hwnd(17)), Err(Code::Win(1400)));
+    let two = [
+        (Step::Add(0, 0, 0), number(16)),
+        (Step::Add(CHILD, 16, 0), number(17)),
+    ];
+    goes(&rt, &mut tree, &two)?;
+    lists(&rt, &tree, &[Hwnd(16), Hwnd(17)]);
+    let steps = [
+        (Step::Add(CHILD, 0, 9), unmade(1400)),
+        (Step::Add(CHILD, 0, 0), unmade(1406)),
+        (Step::Doom(17), done()),
+        (Step::Doom(17), refused(1400)),
+        (Step::Add(CHILD, 17, 0), unmade(1400)),
+        (Step::Drop(17), refused(87)),
+        (Step::Unmake(17), tell(17)),
+        (Step::Unmake(17), last(17)),
+        (Step::Drop(17), done()),
+        (Step::Drop(17), refused(1400)),
+    ];
+    goes(&rt, &mut tree, &steps)?;
     let copy = tree.copy()?;
-    assert_eq!(rt; copy.windows(), tree.windows());
+    lists(&rt, &copy, tree.windows());
     assert_eq!(rt; copy.last(), 17);
-    assert_eq!(rt; tree.add(row(0, 0, 0)?), Ok(Hwnd(18)));
-    Ok(())
+    goes(&rt, &mut tree, &[(Step::Add(0, 0, 0), number(18))])
 }
 
 #[test]
 fn a_family_is_destroyed_in_order(rt: HostRuntime) -> Result<(), Fail> {
-    let mut tree = Tree::new(rt.alloc());
-    family(&mut tree)?;
+    let mut tree = family(&rt, rt.alloc())?;
     let owner = tree.row(Hwnd(19)).map(|r| r.owner);
-    assert_eq!(rt; owner, Some(Hwnd(16)));
-    assert_eq!(rt; tree.unmake(Hwnd(16)), Unmade::NotDoomed);
-    assert_eq!(rt; tree.doom(Hwnd(16)), Ok(()));
-    assert!(rt; tree.marked(Hwnd(18)) && tree.marked(Hwnd(19)));
-    assert!(rt; !tree.marked(Hwnd(20)));
-    let steps = [
-        Unmade::Tell(Hwnd(19)),
-        Unmade::Last(Hwnd(19)),
-        Unmade::Tell(Hwnd(16)),
-        Unmade::Tell(Hwnd(17)),
-        Unmade::Tell(Hwnd(18)),
-        Unmade::Last(Hwnd(18)),
-        Unmade::Last(Hwnd(17)),
-        Unmade::Last(Hwnd(16)),
-        Unmade::Last(Hwnd(16)),
+    let first = [
+        (Step::Unmake(16), Told::Step(Unmade::NotDoomed)),
+        (Step::Doom(16), done()),
     ];
-    for step in steps {
-        assert_eq!(rt; tree.unmake(Hwnd(16)), step);
-    }
-    assert!(rt; tree.last_given(Hwnd(17)));
-    assert_eq!(rt; tree.drop_one(Hwnd(16)), Ok(()));
-    assert_eq!(rt; tree.windows(), [Hwnd(20)].as_slice());
-    assert_eq!(rt; tree.unmake(Hwnd(16)), Unmade::Gone);
-    Ok(())
+    goes(&rt, &mut tree, &first)?;
+    let marked = [
+        owner == Some(Hwnd(16)),
+        tree.marked(Hwnd(18)),
+        tree.marked(Hwnd(19)),
+        !tree.marked(Hwnd(20)),
+    ];
+    holds(&rt, &marked);
+    let steps = [
+        (Step::Unmake(16), tell(19)),
+        (Step::Unmake(16), last(19)),
+        (Step::Unmake(16), tell(16)),
+        (Step::Unmake(16), tell(17)),
+        (Step::Unmake(16), tell(18)),
+        (Step::Unmake(16), last(18)),
+        (Step::Unmake(16), last(17)),
+        (Step::Unmake(16), last(16)),
+        (Step::Unmake(16), last(16)),
+    ];
+    goes(&rt, &mut tree, &steps)?;
+    holds(&rt, &[tree.last_given(Hwnd(17))]);
+    goes(&rt, &mut tree, &[(Step::Drop(16), done())])?;
+    lists(&rt, &tree, &[Hwnd(20)]);
+    goes(
+        &rt,
+        &mut tree,
+        &[(Step::Unmake(16), Told::Step(Unmade::Gone))],
+    )
 }
 
 #[test]
 fn other_windows_come_and_go_meanwhile(rt: HostRuntime) -> Result<(), Fail> {
-    let mut tree = Tree::new(rt.alloc());
-    family(&mut tree)?;
-    assert_eq!(rt; tree.doom(Hwnd(16)), Ok(()));
-    assert_eq!(rt; tree.unmake(Hwnd(16)), Unmade::Tell(Hwnd(19)));
-    assert_eq!(rt; tree.add(row(0, 0, 0)?), Ok(Hwnd(21)));
-    assert_eq!(rt; tree.unmake(Hwnd(16)), Unmade::Last(Hwnd(19)));
-    assert_eq!(rt; tree.unmake(Hwnd(17)), Unmade::Tell(Hwnd(17)));
-    assert_eq!(rt; tree.next_step(Hwnd(16)), Unmade::Tell(Hwnd(16)));
-    assert_eq!(rt; tree.drop_one(Hwnd(19)), Ok(()));
+    let mut tree = family(&rt, rt.alloc())?;
     let steps = [
-        Unmade::Tell(Hwnd(16)),
-        Unmade::Tell(Hwnd(18)),
-        Unmade::Last(Hwnd(18)),
-        Unmade::Last(Hwnd(17)),
-        Unmade::Last(Hwnd(16)),
+        (Step::Doom(16), done()),
+        (Step::Unmake(16), tell(19)),
+        (Step::Add(0, 0, 0), number(21)),
+        (Step::Unmake(16), last(19)),
+        (Step::Unmake(17), tell(17)),
+        (Step::Next(16), tell(16)),
+        (Step::Drop(19), done()),
+        (Step::Unmake(16), tell(16)),
+        (Step::Unmake(16), tell(18)),
+        (Step::Unmake(16), last(18)),
+        (Step::Unmake(16), last(17)),
+        (Step::Unmake(16), last(16)),
+        (Step::Unmake(17), last(17)),
     ];
-    for step in steps {
-        assert_eq!(rt; tree.unmake(Hwnd(16)), step);
+    goes(&rt, &mut tree, &steps)
+}
+
+/// Gives a window the style 5, where it is live.
+fn set_style(tree: &mut Tree, w: Hwnd) -> Result<(), Fail> {
+    let place = row(0, 0, 0)?.place;
+    if tree.row(w).is_some() {
+        tree.set_row(w, 5, 6, place);
     }
-    assert_eq!(rt; tree.unmake(Hwnd(17)), Unmade::Last(Hwnd(17)));
     Ok(())
 }
 
 #[test]
 fn rows_and_walks(rt: HostRuntime) -> Result<(), Fail> {
-    let mut tree = Tree::new(rt.alloc());
-    family(&mut tree)?;
-    assert!(rt; tree.is_child(Hwnd(16), Hwnd(18)));
-    assert!(rt; !tree.is_child(Hwnd(16), Hwnd(19)));
-    assert!(rt; !tree.is_child(Hwnd(16), Hwnd(16)));
-    assert_eq!(rt; tree.next_top(NONE), Hwnd(16));
-    assert_eq!(rt; tree.next_top(Hwnd(16)), Hwnd(19));
-    assert_eq!(rt; tree.next_top(Hwnd(20)), NONE);
-    let place = row(0, 0, 0)?.place;
-    if tree.row(Hwnd(17)).is_some() {
-        tree.set_row(Hwnd(17), 5, 6, place);
-    }
-    let style = tree.row(Hwnd(17)).map(|r| r.style);
-    assert_eq!(rt; style, Some(5));
-    assert_eq!(rt; tree.row(Hwnd(9)).copied(), None);
+    let mut tree = family(&rt, rt.alloc())?;
+    set_style(&mut tree, Hwnd(17))?;
+    let facts = [
+        tree.is_child(Hwnd(16), Hwnd(18)),
+        !tree.is_child(Hwnd(16), Hwnd(19)),
+        !tree.is_child(Hwnd(16), Hwnd(16)),
+        tree.next_top(NONE) == Hwnd(16),
+        tree.next_top(Hwnd(16)) == Hwnd(19),
+        tree.next_top(Hwnd(20)) == NONE,
+        tree.row(Hwnd(17)).map(|r| r.style) == Some(5),
+        tree.row(Hwnd(9)).is_none(),
+    ];
+    holds(&rt, &facts);
     Ok(())
 }
 
 #[test]
 fn the_windows_of_a_thread(rt: HostRuntime) -> Result<(), Fail> {
-    let mut tree = Tree::new(rt.alloc());
-    family(&mut tree)?;
+    let mut tree = family(&rt, rt.alloc())?;
     let other = WindowRow {
         thread: Thread(2),
         class: 7,
         ..row(0, 0, 0)?
     };
     assert_eq!(rt; tree.add(other), Ok(Hwnd(21)));
-    assert!(rt; tree.has_class(7) && tree.has_class(2) && !tree.has_class(3));
-    assert!(rt; tree.is_kin(Hwnd(16), Hwnd(19)) && !tree.is_kin(Hwnd(17), Hwnd(16)));
-    assert_eq!(rt; tree.find(21), Some(Hwnd(21)));
-    assert_eq!(rt; tree.find(4294967317), None);
+    let before = [
+        tree.has_class(7),
+        tree.has_class(2),
+        !tree.has_class(3),
+        tree.is_kin(Hwnd(16), Hwnd(19)),
+        !tree.is_kin(Hwnd(17), Hwnd(16)),
+        tree.find(21) == Some(Hwnd(21)),
+        tree.find(4294967317).is_none(),
+    ];
+    holds(&rt, &before);
     tree.drop_thread(Thread(1));
-    assert_eq!(rt; tree.windows(), [Hwnd(21)].as_slice());
-    assert!(rt; !tree.has_class(2));
-    assert_eq!(rt; tree.last(), 21);
-    assert_eq!(rt; tree.next_step(Hwnd(21)), Unmade::NotDoomed);
-    Ok(())
+    lists(&rt, &tree, &[Hwnd(21)]);
+    holds(&rt, &[!tree.has_class(2), tree.last() == 21]);
+    goes(
+        &rt,
+        &mut tree,
+        &[(Step::Next(21), Told::Step(Unmade::NotDoomed))],
+    )
 }
 
 #[test]
 fn a_thousand_windows(rt: HostRuntime) -> Result<(), Fail> {
     let mut tree = Tree::new(rt.alloc());
-    for number in 16..1040u32 {
-        assert_eq!(rt; tree.add(row(0, 0, 0)?), Ok(Hwnd(number)));
+    let new = Step::Add(0, 0, 0);
+    for w in 16..1040u32 {
+        goes(&rt, &mut tree, &[(new, number(w))])?;
     }
-    assert_eq!(rt; tree.add(row(0, 0, 0)?), Err(Fault::Refused(Code::Full)));
-    for number in 16..1040u32 {
-        let w = Hwnd(number);
-        assert_eq!(rt; tree.doom(w), Ok(()));
-        assert_eq!(rt; tree.unmake(w), Unmade::Tell(w));
-        assert_eq!(rt; tree.unmake(w), Unmade::Last(w));
-        assert_eq!(rt; tree.drop_one(w), Ok(()));
+    let full = Told::Number(Err(Fault::Refused(Code::Full)));
+    goes(&rt, &mut tree, &[(new, full)])?;
+    for w in 16..1040u32 {
+        let steps = [
+            (Step::Doom(w), done()),
+            (Step::Unmake(w), tell(w)),
+            (Step::Unmake(w), last(w)),
+            (Step::Drop(w), done()),
+        ];
+        goes(&rt, &mut tree, &steps)?;
     }
-    assert_eq!(rt; tree.add(row(0, 0, 0)?), Ok(Hwnd(1040)));
-    Ok(())
+    goes(&rt, &mut tree, &[(new, number(1040))])
 }

@@ -1,17 +1,32 @@
 use super::Region;
 use std::alloc::{AllocError, Global};
+use std::test::Fail;
 use win_num::{Point, Rect, rect};
 
-fn edges(r: &Rect) -> (i32, i32, i32, i32) {
+type Edges = (i32, i32, i32, i32);
+
+/// How a region is made of rectangles.
+#[derive(Clone, Copy)]
+enum Made {
+    Or(Edges, Edges),
+    Diff(Edges, Edges),
+    And(Edges, Edges),
+    /// Of a rectangle and a copy of it.
+    Xor(Edges),
+    /// The square 0 0 2 2, moved by 1 -1.
+    Moved,
+}
+
+/// A region's kind, its bounds, whether it has these rectangles, whether it has the pixels 0 0 and 1 1, and
+/// whether it is the same as its bounds and as no pixel.
+type Told = (u8, Edges, bool, (bool, bool), (bool, bool));
+
+fn edges(r: &Rect) -> Edges {
     (r.l(), r.t(), r.r(), r.b())
 }
 
-fn is_box(r: &Rect, l: i32, t: i32, right: i32, b: i32) -> bool {
-    edges(r) == (l, t, right, b)
-}
-
-fn of(alloc: Global, l: i32, t: i32, r: i32, b: i32) -> Result<Region, AllocError> {
-    match rect(l, t, r, b) {
+fn of(alloc: Global, edges: Edges) -> Result<Region, AllocError> {
+    match rect(edges.0, edges.1, edges.2, edges.3) {
         Ok(x) => Region::of_rect(alloc, x),
         Err(_) => Err(AllocError),
     }
@@ -25,51 +40,75 @@ fn moved_square(alloc: Global) -> Result<Region, AllocError> {
     region.shifted(alloc, 1, -1)
 }
 
-#[test]
-fn union_of_neighbours_is_one_rectangle(rt: HostRuntime) {
-    let a = of(rt.alloc(), 0, 0, 2, 2).expect(&rt, "memory");
-    let b = of(rt.alloc(), 2, 0, 4, 2).expect(&rt, "memory");
-    let both = a.or(rt.alloc(), &b).expect(&rt, "memory");
-    let whole = of(rt.alloc(), 0, 0, 4, 2).expect(&rt, "memory");
-    assert!(rt; both.same(&whole));
-    assert!(rt; both.kind() == 2);
-    assert!(rt; is_box(&both.bounds(), 0, 0, 4, 2));
-}
-
-#[test]
-fn hole_leaves_four_rectangles(rt: HostRuntime) {
-    let a = of(rt.alloc(), 0, 0, 4, 3).expect(&rt, "memory");
-    let b = of(rt.alloc(), 1, 1, 3, 2).expect(&rt, "memory");
-    let rest = a.diff(rt.alloc(), &b).expect(&rt, "memory");
-    let wanted = [(0, 0, 4, 1), (0, 1, 1, 2), (3, 1, 4, 2), (0, 2, 4, 3)];
-    assert!(rt; rest.rects().len() == 4);
-    for (r, w) in rest.rects().iter().zip(wanted.iter()) {
-        assert!(rt; edges(r) == *w);
+fn region_of(alloc: Global, made: Made) -> Result<Region, AllocError> {
+    match made {
+        Made::Or(a, b) => of(alloc, a)?.or(alloc, &of(alloc, b)?),
+        Made::Diff(a, b) => of(alloc, a)?.diff(alloc, &of(alloc, b)?),
+        Made::And(a, b) => of(alloc, a)?.and(alloc, &of(alloc, b)?),
+        Made::Xor(a) => {
+            let a = of(alloc, a)?;
+            a.xor(alloc, &a.copy(alloc)?)
+        }
+        Made::Moved => moved_square(alloc),
     }
-    assert!(rt; rest.kind() == 3);
-    assert!(rt; rest.has(Point { x: 0, y: 0 }));
-    assert!(rt; !rest.has(Point { x: 1, y: 1 }));
 }
 
-#[test]
-fn region_xor_its_copy_is_empty(rt: HostRuntime) {
-    let a = of(rt.alloc(), 0, 0, 4, 3).expect(&rt, "memory");
-    let again = a.copy(rt.alloc()).expect(&rt, "memory");
-    let none = a.xor(rt.alloc(), &again).expect(&rt, "memory");
-    assert!(rt; none.rects().is_empty());
-    assert!(rt; none.kind() == 1);
-    assert!(rt; is_box(&none.bounds(), 0, 0, 0, 0));
-    assert!(rt; none.same(&Region::empty(rt.alloc())));
+fn are(rects: &[Rect], wanted: &[Edges]) -> bool {
+    for (r, w) in rects.iter().zip(wanted.iter()) {
+        if edges(r) != *w {
+            return false;
+        }
+    }
+    rects.len() == wanted.len()
 }
 
+fn look(alloc: Global, region: &Region, wanted: &[Edges]) -> Result<Told, AllocError> {
+    let bounds = region.bounds();
+    let has = (
+        region.has(Point { x: 0, y: 0 }),
+        region.has(Point { x: 1, y: 1 }),
+    );
+    let same = (
+        region.same(&Region::of_rect(alloc, bounds)?),
+        region.same(&Region::empty(alloc)),
+    );
+    let rects = are(region.rects(), wanted);
+    Ok((region.kind(), edges(&bounds), rects, has, same))
+}
+
+/// Neighbours, a hole, a rectangle and its copy, rectangles that overlap, and a square that is moved.
 #[test]
-fn common_part_and_move(rt: HostRuntime) {
-    let a = of(rt.alloc(), 0, 0, 4, 2).expect(&rt, "memory");
-    let b = of(rt.alloc(), 1, 1, 9, 9).expect(&rt, "memory");
-    let both = a.and(rt.alloc(), &b).expect(&rt, "memory");
-    assert!(rt; both.rects().len() == 1);
-    assert!(rt; is_box(&both.bounds(), 1, 1, 4, 2));
-    let moved = moved_square(rt.alloc()).expect(&rt, "memory");
-    assert!(rt; moved.rects().len() == 1);
-    assert!(rt; is_box(&moved.bounds(), 1, -1, 3, 1));
+fn made_of_rectangles(rt: HostRuntime) -> Result<(), Fail> {
+    let around_hole = [(0, 0, 4, 1), (0, 1, 1, 2), (3, 1, 4, 2), (0, 2, 4, 3)];
+    for (how, rects, want) in [
+        (
+            Made::Or((0, 0, 2, 2), (2, 0, 4, 2)),
+            [(0, 0, 4, 2)].as_slice(),
+            (2, (0, 0, 4, 2), true, (true, true), (true, false)),
+        ),
+        (
+            Made::Diff((0, 0, 4, 3), (1, 1, 3, 2)),
+            around_hole.as_slice(),
+            (3, (0, 0, 4, 3), true, (true, false), (false, false)),
+        ),
+        (
+            Made::Xor((0, 0, 4, 3)),
+            &[],
+            (1, (0, 0, 0, 0), true, (false, false), (true, true)),
+        ),
+        (
+            Made::And((0, 0, 4, 2), (1, 1, 9, 9)),
+            &[(1, 1, 4, 2)],
+            (2, (1, 1, 4, 2), true, (false, true), (true, false)),
+        ),
+        (
+            Made::Moved,
+            &[(1, -1, 3, 1)],
+            (2, (1, -1, 3, 1), true, (false, false), (true, false)),
+        ),
+    ] {
+        let region = region_of(rt.alloc(), how)?;
+        assert_eq!(rt; look(rt.alloc(), &region, rects)?, want);
+    }
+    Ok(())
 }

@@ -219,7 +219,7 @@ impl CoreState {
     }
 
     /// The thread that takes an input now.
-    fn taker(&self, element: &Element) -> Thread
+    pub(super) fn taker(&self, element: &Element) -> Thread
         ensures { result ≡ taker_in self.now.setup self.now.past element.now }
     {
         let window = self.target(element);
@@ -293,7 +293,7 @@ impl CoreState {
     }
 
     /// The input that no thread has taken, by rising number.
-    fn untaken(&self) -> &Inputs
+    pub(super) fn untaken(&self) -> &Inputs
         ensures all { result.now ≡ untaken_at self.now.setup self.now.past }
         ensures homes { AllByRecursion (IsAtHome self.now.setup) (untaken self.now.setup self.now.past) }
     {

@@ -11,6 +11,7 @@ returns-in_default c = by c.args.call refl
     by : (call : Call) → c.args.call ≡ call → Window ≡ group_of call
     by (calls.Peek w min max flags) is = absurd (c.in_default.not-Peek w min max flags is)
     by (calls.Get w min max) is = absurd (c.in_default.not-Get w min max is)
+    by (calls.Status flags) is = absurd (c.in_default.not-Status flags is)
     by (calls.Post w number wparam lparam) is = absurd (c.in_default.not-Post w number wparam lparam is)
     by (calls.PostThread to number wparam lparam) is = absurd (c.in_default.not-PostThread to number wparam lparam is)
     by (calls.PostQuit code) is = absurd (c.in_default.not-PostQuit code is)

@@ -1,9 +1,8 @@
-use Rattle.std.proofs.Common.{◌≡◌, ℕ, ◌+◌, List, [], ◌∷◌, ◌++◌, length, Option, Some, ap, sym, ◌∙◌, subst, refl}
+use Rattle.std.proofs.Common.{ℕ, ◌+◌, List, [], ◌∷◌, ◌++◌, Option, Some, ap, sym, ◌∙◌, subst}
 use Rattle.std.specs.List.{AllByRecursion}
 use Rattle.log_read.specs.Limits.{IsLogEntry}
 use Rattle.log_read.specs.Logs.{LogEntryTree}
 use Rattle.log_read.specs.Reading.{line_count}
-use Rattle.log_read.specs.Words.{entries_words}
 use Rattle.log_read.proofs.EntryLoops.{Left, all_left, at_end_line, not_over, next_entry}
 use Rattle.log_read.proofs.ListLaws.{all_push}
 use Rattle.log_read.proofs.OneLog.{some_same}

@@ -1,4 +1,4 @@
-use Rattle.std.proofs.Common.{Option, ◌+◌, [], ◌∷◌, length, Some, ap, ◌∙◌, sym, refl}
+use Rattle.std.proofs.Common.{Option, ◌+◌, [], ◌∷◌, length, Some, ap, ◌∙◌, refl}
 use Rattle.std.specs.Prelude.{codes, decimal}
 use Rattle.call_table.specs.Calls.{call_row, call_name}
 use Rattle.user_model.specs.declared.entry.Entry.{Entry}

@@ -1,4 +1,4 @@
-use Rattle.std.proofs.Common.{◌≡◌, ◌++◌, true, false, List, ℕ, Option, Some, None, ap, sym, ◌∙◌, subst, refl}
+use Rattle.std.proofs.Common.{◌≡◌, ◌++◌, List, ℕ, Option, Some, ap, sym, ◌∙◌, subst}
 use Rattle.std.specs.Prelude.{map, IfSome}
 use Rattle.user_model.specs.declared.entry.Entry.{Entry}
 use Rattle.script_lines.specs.LineReading.{split_at}

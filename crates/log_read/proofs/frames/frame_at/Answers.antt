@@ -1,5 +1,4 @@
-use Rattle.std.proofs.Common.{◌≡◌, ◌++◌, ◌*◌, List, ℕ, length, Option, Some, take, ap, sym, ◌∙◌, refl, arith}
-use Rattle.std.specs.Prelude.{map}
+use Rattle.std.proofs.Common.{◌≡◌, ◌*◌, List, ℕ, length, Option, Some, take, ap, ◌∙◌, refl, arith}
 use Rattle.log_read.proofs.FrameRows.{frame_read, enough_lines, read_fits}
 use Rattle.log_read.proofs.LineWords.{from_nothing}
 use Rattle.log_read.proofs.frames.frame_at.Goals as goal

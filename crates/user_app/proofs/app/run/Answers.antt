@@ -1,12 +1,13 @@
 use Rattle.std.proofs.Common.{◌≡◌, sym, subst}
 use Rattle.user_model.specs.Legal.{IsLawful}
+use Rattle.user_pool.specs.Runs.{IsListed}
 use Rattle.user_app.proofs.RunEnds.{log_told, whole_told}
 use Rattle.user_app.proofs.app.run.Goals as goal
 
 pub returns-clause-written : goal.returns-clause-written
 returns-clause-written g c =
     let past = c.in-Ok-run_listed.user.past in
-    log_told c.write_history-outcome.result c.args.form c.args.script.now (g.K.Sink.holds c.args.sink.now) (g.K.Sink.holds c.write_history-outcome.new.sink) (g.K.Sink.faults c.args.sink.now) (g.K.Sink.faults c.write_history-outcome.new.sink) past c.in-Ok-run_listed.end c.written_status.result
+    log_told IsListed c.write_history-outcome.result c.args.form c.args.script.now (g.K.Sink.holds c.args.sink.now) (g.K.Sink.holds c.write_history-outcome.new.sink) (g.K.Sink.faults c.args.sink.now) (g.K.Sink.faults c.write_history-outcome.new.sink) past c.in-Ok-run_listed.end c.written_status.result
     c.in-Ok-run_listed.ensures.run c.in-Ok-run_listed.ensures.end c.in-Ok-run_listed.ensures.over c.write_history-outcome.ensures.ok c.write_history-outcome.ensures.err c.write_history-outcome.ensures.failed c.written_status.ensures
     (λ send. c.runs_answer_their_sends.ensures.story c.args.script.now past send c.in-Ok-run_listed.ensures.run.run) (c.runs_answer_their_sends.ensures.settled c.args.script.now past c.in-Ok-run_listed.ensures.run.run)
 

@@ -1,14 +1,19 @@
-use Rattle.std.proofs.Common.{ℕ, Vec, Global, Err, inr, ap, subst}
-use Rattle.std.specs.Prelude.{Result}
-use Rattle.user_io.specs.declared.reading.ReadEnd.{ReadEnd}
-use Rattle.user_io.specs.Outside.{ConsumesMany}
-use Rattle.user_app.specs.declared.status.Status.TheVariants as statuses
-use Rattle.user_app.specs.Outcomes.{Refuses}
+use Rattle.user_pool.specs.Runs.{IsListed}
+use Rattle.user_app.proofs.CheckEndings.{error_is}
+use Rattle.user_app.proofs.InputEndings.{refused_ends, ran_ends}
 use Rattle.user_app.proofs.app.run_input.Goals as goal
 
-pub returns-in-Err-TooLong-clause-write_part : goal.returns-in-Err-TooLong-clause-write_part
-returns-in-Err-TooLong-clause-write_part g c = λ e.
-    let part : Refuses (g.K.Sink.holds c.args.sink.now) (g.K.Sink.holds c.refuse.new.sink) (g.K.Sink.faults c.args.sink.now) (g.K.Sink.faults c.refuse.new.sink) statuses.WriteFault =
-    subst (Refuses (g.K.Sink.holds c.args.sink.now) (g.K.Sink.holds c.refuse.new.sink) (g.K.Sink.faults c.args.sink.now) (g.K.Sink.faults c.refuse.new.sink)) e c.refuse.ensures.written in
-    let read : ConsumesMany (g.S.Source.left c.args.source.now) (g.S.Source.left c.read_all.new.source) 1048577 = c.in-Err-TooLong.ensures.long (ap (λ (x : ReadEnd). let r : Result (Vec ℕ Global) ReadEnd = Err x in r) c.in-Err-TooLong.field-0-is) in
-    inr (record { text = read.0; input = read.1; refused = inr read.2 }, part.0)
+pub returns-in-Ok-clause-ends : goal.returns-in-Ok-clause-ends
+returns-in-Ok-clause-ends g c =
+    ran_ends IsListed c.args.form (g.S.Source.left c.args.source.now) (g.S.Source.left c.read_script.new.source) (g.K.Sink.holds c.args.sink.now) (g.K.Sink.holds c.run.new.sink) (g.S.Source.faults c.args.source.now) (g.S.Source.faults c.read_script.new.source) (g.K.Sink.faults c.args.sink.now) (g.K.Sink.faults c.run.new.sink)
+    c.in-Ok.script c.in-Ok.ensures.script c.in-Ok.ensures.input c.in-Ok.ensures.end c.run.result c.run.ensures.written
+
+pub returns-in-Err-Refused-clause-ends : goal.returns-in-Err-Refused-clause-ends
+returns-in-Err-Refused-clause-ends g c =
+    let told = rw c.in-Err-Refused.field-0-is at c.refuse.ensures.written in
+    refused_ends IsListed c.args.form (g.S.Source.left c.args.source.now) (g.S.Source.left c.read_script.new.source) (g.K.Sink.holds c.args.sink.now) (g.K.Sink.holds c.refuse.new.sink) (g.S.Source.faults c.args.source.now) (g.S.Source.faults c.read_script.new.source) (g.K.Sink.faults c.args.sink.now) (g.K.Sink.faults c.refuse.new.sink)
+    c.in-Err-Refused.refusal c.refuse.result (c.read_script.ensures.refused c.in-Err-Refused.refusal (error_is c.in-Err-Refused.is c.in-Err-Refused.field-0-is)) told
+
+pub returns-in-Err-Refused-clause-whole : goal.returns-in-Err-Refused-clause-whole
+returns-in-Err-Refused-clause-whole g c = λ whole.
+    (c.read_script.ensures.unfailed_too c.in-Err-Refused.refusal (error_is c.in-Err-Refused.is c.in-Err-Refused.field-0-is), c.refuse.ensures.whole whole)

@@ -9,4 +9,8 @@ returns-in-Ok-clause-checked g c =
 pub returns-in-Err-Refused-clause-checked : goal.returns-in-Err-Refused-clause-checked
 returns-in-Err-Refused-clause-checked g c =
     none_told (g.S.Source.left c.args.source.now) (g.S.Source.left c.read_input.new.source) (g.S.Source.faults c.args.source.now) (g.S.Source.faults c.read_input.new.source) (g.K.Sink.holds c.args.sink.now) (g.K.Sink.holds c.refuse.new.sink) (g.K.Sink.faults c.args.sink.now) (g.K.Sink.faults c.refuse.new.sink)
-    c.refuse.result (c.read_input.ensures.refused (error_is c.in-Err-Refused.is c.in-Err-Refused.field-0-is)) c.refuse.ensures.written
+    c.in-Err-Refused.refusal c.refuse.result (c.read_input.ensures.refused c.in-Err-Refused.refusal (error_is c.in-Err-Refused.is c.in-Err-Refused.field-0-is)) c.refuse.ensures.written
+
+pub returns-in-Err-Refused-clause-whole : goal.returns-in-Err-Refused-clause-whole
+returns-in-Err-Refused-clause-whole g c = λ whole.
+    (c.read_input.ensures.unfailed_too c.in-Err-Refused.refusal (error_is c.in-Err-Refused.is c.in-Err-Refused.field-0-is), c.refuse.ensures.whole whole)

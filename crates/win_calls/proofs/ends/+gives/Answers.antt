@@ -4,11 +4,11 @@ use Rattle.win_calls.proofs.ends.+gives.Goals as goal
 
 pub returns-in-Calls-clause-follows : goal.returns-in-Calls-clause-follows
 returns-in-Calls-clause-follows t c s n v h =
-    carry s n _ _ _ _ c.asks.result c.asks.ensures.step (feed_calls s n c.args.turn c.args.answer c.args.value v c.in-Calls.call c.in-Calls.place c.told-window.result h c.told-window.ensures (sym c.in-Calls.is ∙ c.after.ensures))
+    carry s n _ _ _ _ c.asks.result c.asks.ensures.step (feed_calls s n c.args.turn c.args.answer c.args.value v c.in-Calls.call c.in-Calls.place h (sym c.in-Calls.is ∙ c.after.ensures))
 
 pub returns-in-Runs-clause-follows : goal.returns-in-Runs-clause-follows
 returns-in-Runs-clause-follows t c s n v h =
-    carry s n _ _ _ _ c.asks-in-Runs.result c.asks-in-Runs.ensures.step (feed_runs s n c.args.turn c.args.answer c.args.value v c.in-Runs.begin c.in-Runs.place c.told-window.result c.within.result h c.told-window.ensures c.within.ensures (sym c.in-Runs.is ∙ c.after.ensures))
+    carry s n _ _ _ _ c.asks-in-Runs.result c.asks-in-Runs.ensures.step (feed_runs s n c.args.turn c.args.answer c.args.value v c.in-Runs.begin c.in-Runs.place c.within.result h c.within.ensures (sym c.in-Runs.is ∙ c.after.ensures))
 
 pub returns-in-None-clause-follows : goal.returns-in-None-clause-follows
 returns-in-None-clause-follows t c s n v h =

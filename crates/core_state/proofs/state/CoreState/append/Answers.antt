@@ -11,7 +11,11 @@ use Rattle.send_state.specs.Tallies.{first_cause, first_of}
 use Rattle.display_state.specs.Displays.{IsDisplayAt}
 use Rattle.pending_state.specs.Meanings.{IsMeantBy}
 use Rattle.pending_state.proofs.Needs.{fits_cursor}
-use Rattle.core_state.proofs.Appended.{growth_fits, injecting_fits, leaving_fits, ranking_fits, sends_grow, sends_settle, settling_fits, stands_step, tally_step}
+use Rattle.core_state.proofs.Appended.{growth_fits, injecting_fits, leaving_fits, moment_step, ranking_fits, sends_grow, sends_settle, sends_step, settling_fits, stands_step, tally_step}
+use Rattle.send_state.specs.Standing.{PartsStand}
+use Rattle.look_state.specs.Looks.{AreLooksAt, moment_at, seen_of}
+use Rattle.screen_state.specs.Screens.{Kept as Screen}
+use Rattle.look_state.proofs.LookSteps.{looks_step}
 use Rattle.win_num.specs.Clocks.{clock_limit}
 use Rattle.user_model.proofs.TimeBounds.{clock_small}
 use Rattle.timer_state.specs.Changes.{FitsAddedTimers}
@@ -39,7 +43,7 @@ add_item-requires-clause-parts c =
     let e = c.args.entry in
     let s = c.self.inside in
     let past : Past = reverse s.history.items in
-    let kept : Parts = parts s.tree s.order s.display s.classes s.threads.items s.timers s.groups s.inputs s.progress s.sends s.tally s.stories.items in
+    let kept : Parts = parts s.tree s.order s.display s.classes s.threads.items s.timers s.groups s.inputs s.progress s.sends s.tally s.stories.items s.looks in
     let right : e.answer ≡ reply s.setup past e.who.0 e.call = subst (λ (v : Seen). e.answer ≡ reply v.setup v.past e.who.0 e.call) (sym c.self.view_is) c.requires.answer in
     let down : is_running s.setup past e.who.0 ≡ true → c.is_shift_down.result ≡ is_shift_down past e.who.0 = subst (λ (v : Seen). is_running v.setup v.past e.who.0 ≡ true → c.is_shift_down.result ≡ is_shift_down v.past e.who.0) (sym c.self.view_is) c.is_shift_down.ensures in
     growth_fits s.setup past kept c.is_shift_down.result e c.self.invariant down right
@@ -49,7 +53,7 @@ add_item-requires-clause-inputs c =
     let e = c.args.entry in
     let s = c.self.inside in
     let past : Past = reverse s.history.items in
-    let kept : Parts = parts s.tree s.order s.display s.classes s.threads.items s.timers s.groups s.inputs s.progress s.sends s.tally s.stories.items in
+    let kept : Parts = parts s.tree s.order s.display s.classes s.threads.items s.timers s.groups s.inputs s.progress s.sends s.tally s.stories.items s.looks in
     let right : e.answer ≡ reply s.setup past e.who.0 e.call = subst (λ (v : Seen). e.answer ≡ reply v.setup v.past e.who.0 e.call) (sym c.self.view_is) c.requires.answer in
     let meant : IsMeantBy s.setup past e.call c.meant_by-meant.result = subst (λ (v : Seen). IsMeantBy v.setup v.past e.call c.meant_by-meant.result) (sym c.self.view_is) c.meant_by-meant.ensures in
     injecting_fits s.setup past kept c.meant_by-meant.result e c.self.invariant meant right
@@ -118,7 +122,7 @@ add_item-requires-clause-order c =
     let e = c.args.entry in
     let s = c.self.inside in
     let past : Past = reverse s.history.items in
-    let kept : Parts = parts s.tree s.order s.display s.classes s.threads.items s.timers s.groups s.inputs s.progress s.sends s.tally s.stories.items in
+    let kept : Parts = parts s.tree s.order s.display s.classes s.threads.items s.timers s.groups s.inputs s.progress s.sends s.tally s.stories.items s.looks in
     let right : e.answer ≡ reply s.setup past e.who.0 e.call = subst (λ (v : Seen). e.answer ≡ reply v.setup v.past e.who.0 e.call) (sym c.self.view_is) c.requires.answer in
     ranking_fits s.setup past kept e c.self.invariant right
 
@@ -127,7 +131,7 @@ take_effect-requires-clause-order c =
     let e = c.args.entry in
     let s = c.self.inside in
     let past : Past = reverse s.history.items in
-    let kept : Parts = parts s.tree s.order s.display s.classes s.threads.items s.timers s.groups s.inputs s.progress s.sends s.tally s.stories.items in
+    let kept : Parts = parts s.tree s.order s.display s.classes s.threads.items s.timers s.groups s.inputs s.progress s.sends s.tally s.stories.items s.looks in
     let right : e.answer ≡ reply s.setup past e.who.0 e.call = subst (λ (v : Seen). e.answer ≡ reply v.setup v.past e.who.0 e.call) (sym c.self.view_is) c.requires.answer in
     leaving_fits s.setup past kept e c.add_item.new.tree c.add_item.new.order c.self.invariant right c.in_ok-add_item.ensures.tree c.in_ok-add_item.ensures.order
 
@@ -136,7 +140,7 @@ add_item-requires-clause-sends c =
     let e = c.args.entry in
     let s = c.self.inside in
     let past : Past = reverse s.history.items in
-    let kept : Parts = parts s.tree s.order s.display s.classes s.threads.items s.timers s.groups s.inputs s.progress s.sends s.tally s.stories.items in
+    let kept : Parts = parts s.tree s.order s.display s.classes s.threads.items s.timers s.groups s.inputs s.progress s.sends s.tally s.stories.items s.looks in
     let room : is_full past ≡ false = subst (λ (v : Seen). is_full v.past ≡ false) (sym c.self.view_is) c.requires.room in
     let right : e.answer ≡ reply s.setup past e.who.0 e.call = subst (λ (v : Seen). e.answer ≡ reply v.setup v.past e.who.0 e.call) (sym c.self.view_is) c.requires.answer in
     let long : c.len.result ≡ length s.history.items = search rules in
@@ -147,7 +151,7 @@ settle_sends-lost-requires-clause-sends c =
     let e = c.args.entry in
     let s = c.self.inside in
     let past : Past = reverse s.history.items in
-    let kept : Parts = parts s.tree s.order s.display s.classes s.threads.items s.timers s.groups s.inputs s.progress s.sends s.tally s.stories.items in
+    let kept : Parts = parts s.tree s.order s.display s.classes s.threads.items s.timers s.groups s.inputs s.progress s.sends s.tally s.stories.items s.looks in
     let room : is_full past ≡ false = subst (λ (v : Seen). is_full v.past ≡ false) (sym c.self.view_is) c.requires.room in
     let right : e.answer ≡ reply s.setup past e.who.0 e.call = subst (λ (v : Seen). e.answer ≡ reply v.setup v.past e.who.0 e.call) (sym c.self.view_is) c.requires.answer in
     let long : c.len.result ≡ length s.history.items = search rules in
@@ -158,7 +162,7 @@ take_effect-requires-clause-parts c =
     let e = c.args.entry in
     let s = c.self.inside in
     let past : Past = reverse s.history.items in
-    let kept : Parts = parts s.tree s.order s.display s.classes s.threads.items s.timers s.groups s.inputs s.progress s.sends s.tally s.stories.items in
+    let kept : Parts = parts s.tree s.order s.display s.classes s.threads.items s.timers s.groups s.inputs s.progress s.sends s.tally s.stories.items s.looks in
     let right : e.answer ≡ reply s.setup past e.who.0 e.call = subst (λ (v : Seen). e.answer ≡ reply v.setup v.past e.who.0 e.call) (sym c.self.view_is) c.requires.answer in
     settling_fits s.setup past kept e c.add_item.new.classes c.add_item.new.tree c.add_item.new.threads.items c.self.invariant right c.in_ok-add_item.ensures.classes c.in_ok-add_item.ensures.tree c.in_ok-add_item.ensures.threads.same_length
 
@@ -167,7 +171,7 @@ invariant_of-self-2 c =
     let e = c.args.entry in
     let s = c.self.inside in
     let past : Past = reverse s.history.items in
-    let kept : Parts = parts s.tree s.order s.display s.classes s.threads.items s.timers s.groups s.inputs s.progress s.sends s.tally s.stories.items in
+    let kept : Parts = parts s.tree s.order s.display s.classes s.threads.items s.timers s.groups s.inputs s.progress s.sends s.tally s.stories.items s.looks in
     let room : is_full past ≡ false = subst (λ (v : Seen). is_full v.past ≡ false) (sym c.self.view_is) c.requires.room in
     let right : e.answer ≡ reply s.setup past e.who.0 e.call = subst (λ (v : Seen). e.answer ≡ reply v.setup v.past e.who.0 e.call) (sym c.self.view_is) c.requires.answer in
     let pushed : c.push.new.self.items ≡ s.history.items ++ e ∷ [] = search rules in
@@ -185,15 +189,18 @@ invariant_of-self-2 c =
     let seen : IsDisplayAt s.setup (e ∷ past) c.take_over.new.self = display_step s.setup past s.tree s.order s.classes e s.display c.add_item.new.display c.take_over.new.self c.in_ok-change.change c.self.invariant.lawful c.self.invariant.tree c.self.invariant.order c.self.invariant.classes right c.self.invariant.display c.in_ok-change.ensures.windows c.in_ok-change.ensures.drawing grown.drawn grown.display c.take_over.ensures in
     let timed = timers_step s.setup past kept e c.add_item.new.tree c.add_item.new.timers c.follow_timers.new.timers c.self.invariant right grown.tree grown.timers c.follow_timers.ensures in
     let grouped = c.follow.ensures s.setup past (record { lawful = c.self.invariant.lawful; groups = c.self.invariant.groups; at = here; right = right }) in
-    let now = stands_step s.setup past kept c.is_shift_down.result c.meant_by-meant.result e c.add_item.new.classes c.take_effect.new.classes c.add_item.new.tree c.take_effect.new.tree c.add_item.new.order c.take_effect.new.order c.take_over.new.self c.add_item.new.threads.items c.take_effect.new.threads.items c.note_entry.new.threads.items c.follow_timers.new.timers c.follow.new.self c.add_item.new.inputs c.follow_inputs.new.inputs c.followed_by-self-inside.result c.add_item.new.sends c.settle_sends-lost.new.sends c.first_cause-first.result c.settle_sends-lost.result c.with-self-inside.result (with_begun e.answer c.make_room.new.stories.items) told.between c.settle_sends-lost.new.stories.items c.len.result room right c.self.invariant down meant grown.classes settled.classes grown.tree settled.tree grown.order settled.order seen grown.threads settled.threads c.note_entry.ensures timed grouped grown.inputs c.follow_inputs.ensures c.followed_by-self-inside.ensures grown.sends c.settle_sends-lost.ensures.sends here first c.settle_sends-lost.ensures.lost c.with-self-inside.ensures begun told.before noted in
-    subst (λ (h : Past). Stands s.setup h (parts c.take_effect.new.tree c.take_effect.new.order c.take_over.new.self c.take_effect.new.classes c.note_entry.new.threads.items c.follow_timers.new.timers c.follow.new.self c.follow_inputs.new.inputs c.followed_by-self-inside.result c.settle_sends-lost.new.sends c.with-self-inside.result c.settle_sends-lost.new.stories.items)) newest (search (rules, now))
+    let stay : PartsStand s.setup (e ∷ past) c.settle_sends-lost.new.sends = sends_step s.setup past kept e c.add_item.new.tree c.add_item.new.sends c.settle_sends-lost.new.sends c.len.result c.self.invariant right grown.tree grown.sends c.settle_sends-lost.ensures.sends here in
+    let after : c.moment-after.result ≡ moment_at (e ∷ past) = moment_step s.setup past kept e c.followed_by-self-inside.result c.settle_sends-lost.new.sends c.len.result c.begun.result c.moment-after.result c.self.invariant right c.followed_by-self-inside.ensures stay here c.begun.ensures c.moment-after.ensures in
+    let looked : AreLooksAt s.setup (e ∷ past) c.follow-2.new.self = looks_step s.setup past e s.tree s.order s.display.screen c.moment-after.result c.in_ok-seen.seen.items s.looks c.follow-2.new.self (c.self.invariant.lawful, right) c.self.invariant.tree c.self.invariant.order c.self.invariant.display.screen c.self.invariant.looks after (λ is. c.in_ok-seen.ensures is ∙ ap (seen_of s.tree.live e.who.0) (c.dirty.ensures.value ∙ ap (λ (k : Screen). k.dirty) c.screen.ensures)) c.follow-2.ensures in
+    let now = stands_step s.setup past kept c.is_shift_down.result c.meant_by-meant.result e c.add_item.new.classes c.take_effect.new.classes c.add_item.new.tree c.take_effect.new.tree c.add_item.new.order c.take_effect.new.order c.take_over.new.self c.add_item.new.threads.items c.take_effect.new.threads.items c.note_entry.new.threads.items c.follow_timers.new.timers c.follow.new.self c.add_item.new.inputs c.follow_inputs.new.inputs c.followed_by-self-inside.result c.add_item.new.sends c.settle_sends-lost.new.sends c.first_cause-first.result c.settle_sends-lost.result c.with-self-inside.result (with_begun e.answer c.make_room.new.stories.items) told.between c.settle_sends-lost.new.stories.items c.follow-2.new.self c.len.result room right c.self.invariant down meant grown.classes settled.classes grown.tree settled.tree grown.order settled.order seen grown.threads settled.threads c.note_entry.ensures timed grouped grown.inputs c.follow_inputs.ensures c.followed_by-self-inside.ensures grown.sends c.settle_sends-lost.ensures.sends here first c.settle_sends-lost.ensures.lost c.with-self-inside.ensures begun told.before noted looked in
+    subst (λ (h : Past). Stands s.setup h (parts c.take_effect.new.tree c.take_effect.new.order c.take_over.new.self c.take_effect.new.classes c.note_entry.new.threads.items c.follow_timers.new.timers c.follow.new.self c.follow_inputs.new.inputs c.followed_by-self-inside.result c.settle_sends-lost.new.sends c.with-self-inside.result c.settle_sends-lost.new.stories.items c.follow-2.new.self)) newest (search (rules, now))
 
 pub with-self-inside-requires : goal.with-self-inside-requires
 with-self-inside-requires c =
     let e = c.args.entry in
     let s = c.self.inside in
     let past : Past = reverse s.history.items in
-    let kept : Parts = parts s.tree s.order s.display s.classes s.threads.items s.timers s.groups s.inputs s.progress s.sends s.tally s.stories.items in
+    let kept : Parts = parts s.tree s.order s.display s.classes s.threads.items s.timers s.groups s.inputs s.progress s.sends s.tally s.stories.items s.looks in
     let right : e.answer ≡ reply s.setup past e.who.0 e.call = subst (λ (v : Seen). e.answer ≡ reply v.setup v.past e.who.0 e.call) (sym c.self.view_is) c.requires.answer in
     let long : c.len.result ≡ length s.history.items = search rules in
     let here : c.len.result ≡ place_after past = long ∙ sym (length-reverse s.history.items) in

@@ -1,0 +1,5 @@
+pub mod Following
+pub mod KeptPixels
+pub mod LookSteps
+pub mod NewPixels
+pub mod WindowPasts

@@ -1,0 +1,7 @@
+use Rattle.std.proofs.Common.{◌≡◌, ◌+◌, drop}
+use Rattle.std.specs.Prelude.{map}
+use Rattle.script_lines.specs.Forms.{has_form, all_pass}
+use Rattle.script_lines.proofs.forms.all_have_form.Given as goal
+
+abbrev pub invariant-loop-index : goal.invariant-loop-index
+invariant-loop-index l = all_pass has_form (drop l.index l.places) (map (λ w. w.now) l.words) (l.index + 1) ≡ all_pass has_form l.places (map (λ w. w.now) l.words) 1

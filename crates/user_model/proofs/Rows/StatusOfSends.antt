@@ -1,0 +1,51 @@
+-- A worked row: what was answered is the reply at each place.
+use Rattle.std.specs.Prelude.{◌≡◌, ℕ, pos, List, [], ◌∷◌, reverse, refl}
+use Rattle.std.proofs.Common.{lit≤}
+use Rattle.region_box.specs.Screens.{screen_points, row_points}
+use Rattle.user_model.specs.declared.call.Call.{Call}
+use Rattle.user_model.specs.declared.entry.Answer.{Answer}
+use Rattle.user_model.specs.declared.entry.Entry.{Entry}
+use Rattle.user_model.specs.declared.entry.Setup.{Setup}
+use Rattle.user_model.specs.Past.{Past}
+use Rattle.user_model.specs.Idle.{reply}
+use Rattle.user_model.specs.Legal.{IsLegal, told, replies}
+use Rattle.user_model.proofs.LegalLaws.{lawful_from_replies}
+
+abbrev pub entry : ℕ → Call → Answer → Entry
+entry t call answer = record { who = record { 0 = t }; call = call; answer = answer }
+
+abbrev pub setup : Setup
+setup = record { threads = 2; width = 8; height = 4 }
+
+abbrev pub history : List Entry
+history = entry 1 (Call.Register 0 0 0) (Answer.Value 1)
+    ∷ entry 1 (Call.NewWindow 0 1 0 0 0 (pos 0) (pos 0) (pos 0) (pos 0)) (Answer.Window (record { 0 = 16 }))
+    ∷ entry 1 (Call.Status 127) (Answer.Value 0)
+    ∷ entry 2 (Call.SendNotify 16 1024 0 0) (Answer.Begun (record { 0 = 1 }))
+    ∷ entry 2 (Call.SendCallback 16 1025 0 0 0 5) (Answer.Begun (record { 0 = 2 }))
+    ∷ entry 1 (Call.Status 127) (Answer.Value 4194368)
+    ∷ entry 1 (Call.Status 127) (Answer.Value 4194304)
+    ∷ entry 1 (Call.Peek 0 9 9 0) (Answer.Enter (record { 0 = 1 }) 0 (record { 0 = 16 }) 1024 0 0)
+    ∷ entry 1 (Call.Status 127) (Answer.Value 4194304)
+    ∷ entry 1 (Call.Leave 1) (Answer.Left (record { 0 = 1 }))
+    ∷ entry 1 (Call.Status 64) (Answer.Value 4194304)
+    ∷ entry 1 (Call.Get 0 0 0) (Answer.Enter (record { 0 = 2 }) 0 (record { 0 = 16 }) 1025 0 0)
+    ∷ entry 1 (Call.Leave 2) (Answer.Left (record { 0 = 2 }))
+    ∷ entry 1 (Call.Status 127) (Answer.Value 0)
+    ∷ entry 2 (Call.Status 127) (Answer.Value 4194368)
+    ∷ entry 2 (Call.Status 127) (Answer.Value 4194304)
+    ∷ entry 2 (Call.Get 0 0 0) (Answer.Callback (record { 0 = 2 }) 0 (record { 0 = 16 }) 1025 5 2)
+    ∷ entry 2 (Call.Leave 0) (Answer.Left (record { 0 = 0 }))
+    ∷ entry 2 (Call.Status 127) (Answer.Value 0)
+    ∷ []
+
+abbrev pub past : Past
+past = reverse history
+
+pub answers : told past ≡ replies setup past
+unfolding reply screen_points row_points
+answers = refl
+
+-- so it is legal
+pub legal : IsLegal setup history
+legal = (lit≤ tt, lawful_from_replies setup past answers)

@@ -1,0 +1,43 @@
+-- A worked row: what was answered is the reply at each place.
+use Rattle.std.specs.Prelude.{◌≡◌, ℕ, pos, List, [], ◌∷◌, reverse, refl}
+use Rattle.std.proofs.Common.{lit≤}
+use Rattle.region_box.specs.Screens.{screen_points, row_points}
+use Rattle.user_model.specs.declared.call.Call.{Call}
+use Rattle.user_model.specs.declared.entry.Answer.{Answer}
+use Rattle.user_model.specs.declared.entry.Entry.{Entry}
+use Rattle.user_model.specs.declared.entry.Origin.{Origin}
+use Rattle.user_model.specs.declared.entry.Setup.{Setup}
+use Rattle.user_model.specs.Past.{Past}
+use Rattle.user_model.specs.Posts.{message}
+use Rattle.user_model.specs.Idle.{reply}
+use Rattle.user_model.specs.Legal.{IsLegal, told, replies}
+use Rattle.user_model.proofs.LegalLaws.{lawful_from_replies}
+
+abbrev pub entry : ℕ → Call → Answer → Entry
+entry t call answer = record { who = record { 0 = t }; call = call; answer = answer }
+
+abbrev pub setup : Setup
+setup = record { threads = 1; width = 8; height = 4 }
+
+abbrev pub history : List Entry
+history = entry 1 (Call.Register 0 0 0) (Answer.Value 1)
+    ∷ entry 1 (Call.NewWindow 0 1 0 0 0 (pos 0) (pos 0) (pos 0) (pos 0)) (Answer.Window (record { 0 = 16 }))
+    ∷ entry 1 (Call.PostQuit 3) (Answer.Okay)
+    ∷ entry 1 (Call.Post 0 1025 0 0) (Answer.Posted 1)
+    ∷ entry 1 (Call.Status 127) (Answer.Value 524296)
+    ∷ entry 1 (Call.Status 127) (Answer.Value 524288)
+    ∷ entry 1 (Call.Get 0 0 0) (Answer.Got Origin.Posted 1 (message 0 1025 0 0 0 (record { x = (pos 0); y = (pos 0) })))
+    ∷ entry 1 (Call.Get 0 0 0) (Answer.Got Origin.Quit 0 (message 0 18 3 0 0 (record { x = (pos 0); y = (pos 0) })))
+    ∷ entry 1 (Call.Status 127) (Answer.Value 0)
+    ∷ []
+
+abbrev pub past : Past
+past = reverse history
+
+pub answers : told past ≡ replies setup past
+unfolding reply screen_points row_points
+answers = refl
+
+-- so it is legal
+pub legal : IsLegal setup history
+legal = (lit≤ tt, lawful_from_replies setup past answers)
