@@ -4,16 +4,15 @@ use Rattle.std.specs.Prelude.{slice_index_or}
 use Rattle.std.specs.Io.KnownBytes.{Consumes, IsAtEnd}
 use Rattle.std.proofs.lemmas.Option.{same_Some}
 use Rattle.script_lines.specs.declared.line.Line.{Line}
-use Rattle.script_lines.specs.Known.{Known, nothing_known}
-use Rattle.script_lines.specs.LineReading.{texts_of, lines_at}
+use Rattle.script_lines.specs.Known.{Known}
+use Rattle.script_lines.specs.LineReading.{texts_of}
 use Rattle.script_text.specs.declared.fault.Reason.{Reason}
-use Rattle.script_text.specs.declared.fault.Reason.TheVariants as reasons
 use Rattle.script_text.specs.declared.fault.Refusal.{Refusal}
 use Rattle.script_text.specs.declared.fault.ReadFault.TheVariants as faults
-use Rattle.script_text.specs.Grammar.{IsText, Begins, Front, Stood, rest_of}
+use Rattle.script_text.specs.Grammar.{IsText, Begins, Front, Stood}
 use Rattle.script_text.specs.Nesting.{Nest, nested_all, start}
 use Rattle.script_text.specs.Reasons.{line_reason}
-use Rattle.script_text.specs.Refusals.{HasCause, IsFirstBad, IsBadText, IsCutOff, IsTooShort, IsTooLong}
+use Rattle.script_text.specs.Refusals.{HasCause, IsFirstBad, IsBadText, IsCutOff, IsTooShort}
 use Rattle.script_text.proofs.Steps.{stood_read}
 use Rattle.user_app.specs.Outcomes.{ReadNoScript}
 use Rattle.user_app.specs.Refusals.{Refused, refusal_text, too_long}

@@ -1,5 +1,5 @@
 -- The input of a check.
-use Rattle.std.specs.Prelude.{◌≡◌, ℕ, ◌+◌, ◌⊎◌, if◌then◌else◌, List, [], ◌∷◌, ◌++◌, length, Option, ⊤}
+use Rattle.std.specs.Prelude.{◌≡◌, ℕ, ◌+◌, ◌<◌, ◌≤◌, ◌⊎◌, if◌then◌else◌, List, [], ◌∷◌, ◌++◌, length, Option, ⊤}
 use Rattle.std.specs.Io.KnownBytes.{Consumes, IsAtEnd}
 use Rattle.script_tree.specs.Tree.{Tree}
 use Rattle.script_lines.specs.Forms.{is_printable}
@@ -41,8 +41,14 @@ cut_reason reason log = reason
 abbrev pub cut_by : List ℕ → Refusal → Refusal
 cut_by log refusal = record { line = refusal.line; reason = cut_reason refusal.reason log }
 
--- there is no script before the first line that begins with the word `log`, which `alone` tells with its cause
+-- what stands before the first line that begins with the word `log` is longer than a script may be
+pub record IsLongFront (text : List ℕ) (refusal : Refusal) : Type 0 where
+  pub many : 1048576 < length (script_part text)
+  pub told : refusal ≡ too_long
+
+-- it isn't, and is no script, which `alone` tells with its cause
 pub record IsNoFront (text : List ℕ) (refusal : Refusal) : Type 0 where
+  pub short : length (script_part text) ≤ 1048576
   pub alone : Refusal
   pub cause : HasCause (script_part text) (faults.Refused alone)
   pub told : refusal ≡ cut_by (log_part text) alone
@@ -64,9 +70,9 @@ pub record IsScriptAlone (text : List ℕ) (refusal : Refusal) : Type 0 where
 
 -- ---- neither
 
--- the text is no script before that line, or no log of that script from there on
+-- the text has too long a script before that line or none at all, or from there on no log of that script
 abbrev pub IsNoPair : List ℕ → Refusal → Type 0
-IsNoPair text refusal = IsNoFront text refusal ⊎ IsScriptAlone text refusal
+IsNoPair text refusal = IsLongFront text refusal ⊎ (IsNoFront text refusal ⊎ IsScriptAlone text refusal)
 
 -- a refusal has its cause, and want of memory says nothing
 abbrev pub HasNoPair : List ℕ → ReadFault → Type 0

@@ -2,6 +2,7 @@ pub mod Checks
 pub mod Histories
 pub mod Inputs
 pub mod Made
+pub mod Mistakes
 pub mod Outcomes
 pub mod Parts
 pub mod Refusals

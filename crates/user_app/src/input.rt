@@ -116,6 +116,7 @@ fn behind(alloc: Global, script: &[u8], refusal: Refusal) -> Result<Refusal, All
 
 /// The script and the log that a text is. `Refused` comes exactly where it is no script before the first line that
 /// begins with the word `log`, or no log of that script from there on; the lines of the log are counted on from those of the script.
+/// A script that is too long is told so before its lines are looked at.
 pub fn read_pair(alloc: Global, text: &[u8]) -> Result<(Script, Log), ReadFault>
     requires short { length text.now ≤ 268435456 }
     ensures script { IfOk result (λ r. IsScript r.0) }
@@ -124,6 +125,9 @@ pub fn read_pair(alloc: Global, text: &[u8]) -> Result<(Script, Log), ReadFault>
     ensures cause { IfErr result (HasNoPair text.now) }
 {
     let (front, back) = split_input(text);
+    if front.len() > SCRIPT_LIMIT {
+        return Err(ReadFault::Refused(TOO_LONG));
+    }
     let script = match read(alloc, front) {
         Ok(script) => script,
         Err(ReadFault::Refused(refusal)) => {

@@ -1,6 +1,5 @@
-use Rattle.std.proofs.Common.{◌≡◌, ℕ, ◌≤◌, List, length, map, ap, ◌∙◌, sym, arith}
+use Rattle.std.proofs.Common.{ℕ, List, length, ap, arith}
 use Rattle.std.proofs.lemmas.List.{length-map}
-use Rattle.script_lines.specs.LineReading.{texts_of}
 use Rattle.user_app.proofs.InputRefusals.{few_texts}
 use Rattle.user_app.proofs.input.behind.Goals as goal
 
