@@ -62,6 +62,8 @@ fn answers_again(rt: HostRuntime) -> Result<(), Fail> {
         ),
         (Answer::Snap(5), b"snap"),
         (Answer::Was(Hwnd(0)), b"was"),
+        (Answer::Running, b"running"),
+        (Answer::Finished(7), b"result"),
         (Answer::Input(3), b"input"),
         (Answer::Inside(SendId(3), 4), b"inside"),
         (Answer::Refused(Code::Full), b"refused"),

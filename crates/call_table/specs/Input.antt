@@ -1,4 +1,4 @@
--- Calls on focus, active window, capture, attached threads, the mouse and keys, one row each.
+-- Calls on focus, active window, capture, attached threads, the mouse, keys and dialogs, one row each.
 use Rattle.std.specs.Prelude.{List, [], ◌∷◌, codes, Option, None}
 use Rattle.user_model.specs.declared.call.Call.{Call}
 use Rattle.user_model.specs.declared.call.Call.TheVariants as calls
@@ -27,10 +27,13 @@ input_row names.Detach = row (codes "detach") (fields.Number ∷ fields.Number �
 input_row names.Mouse = row (codes "mouse") (fields.Message ∷ fields.Signed ∷ fields.Signed ∷ [])
 input_row names.Key = row (codes "key") (fields.Number ∷ fields.Number ∷ [])
 input_row names.KeyState = row (codes "key_state") (fields.Number ∷ [])
+input_row names.BeginDialog = row (codes "begin_dialog") (fields.Number ∷ [])
+input_row names.DialogState = row (codes "dialog_state") (fields.Number ∷ [])
+input_row names.EndDialog = row (codes "end_dialog") (fields.Number ∷ fields.Number ∷ [])
 
 -- all of them
 abbrev pub input_calls : List CallName
-input_calls = groups.Input names.SetFocus ∷ groups.Input names.SetActive ∷ groups.Input names.SetCapture ∷ groups.Input names.ReleaseCapture ∷ groups.Input names.GetFocus ∷ groups.Input names.GetActive ∷ groups.Input names.GetCapture ∷ groups.Input names.Attach ∷ groups.Input names.Detach ∷ groups.Input names.Mouse ∷ groups.Input names.Key ∷ groups.Input names.KeyState ∷ []
+input_calls = groups.Input names.SetFocus ∷ groups.Input names.SetActive ∷ groups.Input names.SetCapture ∷ groups.Input names.ReleaseCapture ∷ groups.Input names.GetFocus ∷ groups.Input names.GetActive ∷ groups.Input names.GetCapture ∷ groups.Input names.Attach ∷ groups.Input names.Detach ∷ groups.Input names.Mouse ∷ groups.Input names.Key ∷ groups.Input names.KeyState ∷ groups.Input names.BeginDialog ∷ groups.Input names.DialogState ∷ groups.Input names.EndDialog ∷ []
 
 -- such a call taken apart; a call of another group is not
 abbrev pub split_input : Call → Option Split
@@ -46,6 +49,9 @@ split_input (calls.Detach thread other) = split (groups.Input names.Detach) (val
 split_input (calls.Mouse number x y) = split (groups.Input names.Mouse) (values.Message number ∷ values.Signed x ∷ values.Signed y ∷ [])
 split_input (calls.Key down key) = split (groups.Input names.Key) (values.Number down ∷ values.Number key ∷ [])
 split_input (calls.KeyState key) = split (groups.Input names.KeyState) (values.Number key ∷ [])
+split_input (calls.BeginDialog window) = split (groups.Input names.BeginDialog) (values.Number window ∷ [])
+split_input (calls.DialogState window) = split (groups.Input names.DialogState) (values.Number window ∷ [])
+split_input (calls.EndDialog window result) = split (groups.Input names.EndDialog) (values.Number window ∷ values.Number result ∷ [])
 split_input c = None
 
 -- the call of this name, of the values at its places
@@ -62,3 +68,6 @@ made_input names.Detach vs = calls.Detach (number_at vs 0) (number_at vs 1)
 made_input names.Mouse vs = calls.Mouse (message_at vs 0) (signed_at vs 1) (signed_at vs 2)
 made_input names.Key vs = calls.Key (number_at vs 0) (number_at vs 1)
 made_input names.KeyState vs = calls.KeyState (number_at vs 0)
+made_input names.BeginDialog vs = calls.BeginDialog (number_at vs 0)
+made_input names.DialogState vs = calls.DialogState (number_at vs 0)
+made_input names.EndDialog vs = calls.EndDialog (number_at vs 0) (number_at vs 1)

@@ -40,7 +40,7 @@ pub enum CallName {
     Window(WindowCall),
     /// It looks for a window.
     Lookup(LookupCall),
-    /// It is about focus, active window, capture or attached threads.
+    /// It is about focus, active window, capture, attached threads, the mouse, keys or dialogs.
     Input(InputCall),
     /// It is about pixels that are to be painted, or their colours.
     Drawing(DrawingCall),

@@ -1,4 +1,4 @@
-//! Calls on focus, active window, capture, attached threads, the mouse and keys, one row each.
+//! Calls on focus, active window, capture, attached threads, the mouse, keys and dialogs, one row each.
 
 ghost use Rattle.std.specs.Prelude.{◌≡◌, option_map};
 ghost use Rattle.call_fields.specs.Forms.{read_form};
@@ -27,10 +27,13 @@ pub enum InputCall {
     Mouse,
     Key,
     KeyState,
+    BeginDialog,
+    DialogState,
+    EndDialog,
 }
 
 /// These calls.
-pub static INPUT_CALLS: [CallName; 12] = [
+pub static INPUT_CALLS: [CallName; 15] = [
     Input(InputCall::SetFocus),
     Input(InputCall::SetActive),
     Input(InputCall::SetCapture),
@@ -43,6 +46,9 @@ pub static INPUT_CALLS: [CallName; 12] = [
     Input(InputCall::Mouse),
     Input(InputCall::Key),
     Input(InputCall::KeyState),
+    Input(InputCall::BeginDialog),
+    Input(InputCall::DialogState),
+    Input(InputCall::EndDialog),
 ];
 
 /// The word of a call of this group, and the kinds of its fields.
@@ -62,6 +68,9 @@ pub fn input_form(name: InputCall) -> Form
         InputCall::Mouse => row_of(b"mouse", &[Message, Signed, Signed]),
         InputCall::Key => row_of(b"key", &[Number, Number]),
         InputCall::KeyState => row_of(b"key_state", &[Number]),
+        InputCall::BeginDialog => row_of(b"begin_dialog", &[Number]),
+        InputCall::DialogState => row_of(b"dialog_state", &[Number]),
+        InputCall::EndDialog => row_of(b"end_dialog", &[Number, Number]),
     }
 }
 
@@ -85,6 +94,11 @@ pub fn split_input(call: Call) -> Option<SplitCall>
         ),
         Call::Key(down, key) => split_numbers(Input(InputCall::Key), &[down, key]),
         Call::KeyState(key) => split_numbers(Input(InputCall::KeyState), &[key]),
+        Call::BeginDialog(window) => split_numbers(Input(InputCall::BeginDialog), &[window]),
+        Call::DialogState(window) => split_numbers(Input(InputCall::DialogState), &[window]),
+        Call::EndDialog(window, result) => {
+            split_numbers(Input(InputCall::EndDialog), &[window, result])
+        }
         _ => None,
     }
 }
@@ -111,5 +125,8 @@ pub fn made_input(name: InputCall, values: &[Value]) -> Call
         ),
         InputCall::Key => Call::Key(numbers[0], numbers[1]),
         InputCall::KeyState => Call::KeyState(numbers[0]),
+        InputCall::BeginDialog => Call::BeginDialog(numbers[0]),
+        InputCall::DialogState => Call::DialogState(numbers[0]),
+        InputCall::EndDialog => Call::EndDialog(numbers[0], numbers[1]),
     }
 }

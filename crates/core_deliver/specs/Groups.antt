@@ -1,12 +1,12 @@
 -- Which layer answers a call.
 use Rattle.std.specs.Prelude.{Bool, true, false}
 use Rattle.user_model.specs.declared.call.Call.{Call}
-use Rattle.user_model.specs.declared.call.Call.TheVariants.{Peek, Get, Status as StatusCall, Post, PostThread, PostQuit, Dispatch, Send, SendTimeout, SendNotify, SendCallback, Await, Leave, Reply, InSend, Message, Translate, Register, Unregister, NewWindow, Doom, Unmake, Drop, Place, Show, Enable, Find, AwaitTitle, NextTop, WindowAt, IsWindow, Parent, SetFocus, SetActive, SetCapture, ReleaseCapture, GetFocus, GetActive, GetCapture, Attach, Detach, Mouse, Key, KeyState, Invalidate, Validate, UpdateRect, BeginPaint, EndPaint, Fill, Erase, Snap, SetTimer, KillTimer, EndThread, Clock, SleepUntil, Yield, Tick, Advance}
+use Rattle.user_model.specs.declared.call.Call.TheVariants.{Peek, Get, Status as StatusCall, Post, PostThread, PostQuit, Dispatch, Send, SendTimeout, SendNotify, SendCallback, Await, Leave, Reply, InSend, Message, Translate, Register, Unregister, NewWindow, Doom, Unmake, Drop, Place, Show, Enable, Find, AwaitTitle, NextTop, WindowAt, IsWindow, Parent, SetFocus, SetActive, SetCapture, ReleaseCapture, GetFocus, GetActive, GetCapture, Attach, Detach, Mouse, Key, KeyState, BeginDialog, DialogState, EndDialog, Invalidate, Validate, UpdateRect, BeginPaint, EndPaint, Fill, Erase, Snap, SetTimer, KillTimer, EndThread, Clock, SleepUntil, Yield, Tick, Advance}
 use Rattle.core_deliver.specs.declared.groups.Group.{Group}
 use Rattle.core_deliver.specs.declared.groups.Group.TheVariants.{Retrieval, Status, Delivery, Window, Drawing, Other}
 
 -- the group of each call: it asks for a message; it asks which kinds of messages are there; it posts, also the character of a key, sends, hands a message to a procedure, is made inside or
--- after a send, or registers a message; it is about classes or windows, focus, active window, capture, attached threads, the mouse or keys; it is about dirty pixels, painting, colours or frames; or it is about time or timers, or ends a thread
+-- after a send, or registers a message; it is about classes or windows, focus, active window, capture, attached threads, the mouse, keys or dialogs; it is about dirty pixels, painting, colours or frames; or it is about time or timers, or ends a thread
 abbrev pub group_of : Call → Group
 group_of (Peek w min max flags) = Retrieval
 group_of (Get w min max) = Retrieval
@@ -52,6 +52,9 @@ group_of (Detach t u) = Window
 group_of (Mouse number x y) = Window
 group_of (Key down key) = Window
 group_of (KeyState key) = Window
+group_of (BeginDialog w) = Window
+group_of (DialogState w) = Window
+group_of (EndDialog w v) = Window
 group_of (Invalidate w l t r b erase) = Drawing
 group_of (Validate w l t r b) = Drawing
 group_of (UpdateRect w) = Drawing

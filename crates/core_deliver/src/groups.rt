@@ -14,7 +14,7 @@ pub enum Group {
     Status,
     /// It posts, also the character of a key, dispatches, sends, is made inside or after a send, or registers a message.
     Delivery,
-    /// It is about classes or windows, focus, active window, capture, attached threads, the mouse or keys, and `core_window` answers it.
+    /// It is about classes or windows, focus, active window, capture, attached threads, the mouse, keys or dialogs, and `core_window` answers it.
     Window,
     /// It is about dirty pixels, painting, colours and frames, and `core_draw` answers it.
     Drawing,
@@ -93,7 +93,7 @@ pub fn is_delivery(call: Call) -> bool
     }
 }
 
-/// Whether the call is about classes, windows, groups of attached threads, the mouse or keys.
+/// Whether the call is about classes, windows, groups of attached threads, the mouse, keys or dialogs.
 pub fn is_window_call(call: Call) -> bool
     ensures { result ≡ is_window_call call }
 {

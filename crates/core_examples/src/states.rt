@@ -48,6 +48,7 @@ fn tell_windows(rt: &impl Print, state: &CoreState) -> anyhow::Result<()> {
         state.has_last(16)
     )?;
     println!(rt; "thread_of {} up {:?}", state.thread_of(16), state.up(16))?;
+    println!(rt; "owner {:?} dialog {:?}", state.owner(16), state.dialog(16))?;
     println!(rt; "next_top {:?}", state.next_top(4294967296))?;
     println!(rt;
         "titled {:?} owner_at {:?}",

@@ -72,6 +72,9 @@ use Rattle.pending_state.proofs.Cursors.{counted_with-next, cursor_with-next}
 use Rattle.pending_state.proofs.Needs.{fits_injecting}
 use Rattle.pending_state.proofs.Steps.{inputs_after}
 use Rattle.core_state.specs.declared.progress.Progress.{Progress}
+use Rattle.user_model.specs.declared.dialog.Dialog.{Dialog}
+use Rattle.dialog_state.specs.Dialogs.{Follows}
+use Rattle.dialog_state.proofs.Steps.{followed_stands}
 
 -- ---- what a change needs
 
@@ -227,7 +230,7 @@ moment_step setup past p e progress sends2 place begun m st right went sends her
     made entries posts inputs sends time = record { entries = entries; posts = posts; inputs = inputs; sends = sends; time = time }
 
 -- the parts that were brought up to date stand for the past with the entry
-pub stands_step : (setup : Setup) (past : Past) (p : Parts) (shift : Bool) (meant : Meant) (e : Entry) (classes1 classes2 : ClassTable) (tree1 tree2 : Windows) (order1 order2 : Layers) (display2 : Shown) (threads1 threads2 threads3 : List ThreadView) (timers2 : List Setting) (groups2 : Kept) (inputs1 inputs2 : List KeptElement) (progress : Progress) (sends1 sends2 : SendParts) (first : Option Cause) (lost : ℕ) (tally : Tally) (stories1 stories2 stories3 : List SendStory) (looks2 : List LookView) (place : ℕ)
+pub stands_step : (setup : Setup) (past : Past) (p : Parts) (shift : Bool) (meant : Meant) (e : Entry) (classes1 classes2 : ClassTable) (tree1 tree2 : Windows) (order1 order2 : Layers) (display2 : Shown) (threads1 threads2 threads3 : List ThreadView) (timers2 : List Setting) (groups2 : Kept) (inputs1 inputs2 : List KeptElement) (progress : Progress) (sends1 sends2 : SendParts) (first : Option Cause) (lost : ℕ) (tally : Tally) (stories1 stories2 stories3 : List SendStory) (looks2 : List LookView) (dialogs2 : List (ℕ × Dialog)) (place : ℕ)
     → is_full past ≡ false → e.answer ≡ reply setup past e.who.0 e.call → Stands setup past p → (is_running setup past e.who.0 ≡ true → shift ≡ is_shift_down past e.who.0) → IsMeantBy setup past e.call meant
     → classes1 ≡ added_classes e.answer e.call p.classes → classes2 ≡ affected_classes e.answer e.call classes1
     → IsAddedBy e.who.0 e.answer e.call p.tree tree1 → IsAffected e.who.0 e.answer e.call tree1 tree2
@@ -243,8 +246,9 @@ pub stands_step : (setup : Setup) (past : Past) (p : Parts) (shift : Bool) (mean
     → first ≡ first_cause p.sends e.who.0 e.answer e.call → lost ≡ losses_by tree1.live place e.who.0 e.answer e.call sends1 → tally ≡ tallied e.answer first lost p.tally
     → stories1 ≡ with_begun e.answer p.stories → EachStory (noted_losses tree1.live place e.who.0 e.answer e.call sends1) stories1 stories2 → EachStory (noted_answer e.answer (named_send p.sends e.who.0 e.answer e.call) place) stories2 stories3
     → AreLooksAt setup (e ∷ past) looks2
-    → Stands setup (e ∷ past) (parts tree2 order2 display2 classes2 threads3 timers2 groups2 inputs2 progress sends2 tally stories3 looks2)
-stands_step setup past p shift meant e classes1 classes2 tree1 tree2 order1 order2 display2 threads1 threads2 threads3 timers2 groups2 inputs1 inputs2 progress sends1 sends2 cause lost tally stories1 stories2 stories3 looks2 place room right st down m grown settled made given ranked left_order seen first second note timed grouped put taken went begun left here named counted noted_tally story_more story_losses story_answers looked = record {
+    → Follows e.answer e.call p.dialogs dialogs2
+    → Stands setup (e ∷ past) (parts tree2 order2 display2 classes2 threads3 timers2 groups2 inputs2 progress sends2 tally stories3 looks2 dialogs2)
+stands_step setup past p shift meant e classes1 classes2 tree1 tree2 order1 order2 display2 threads1 threads2 threads3 timers2 groups2 inputs1 inputs2 progress sends1 sends2 cause lost tally stories1 stories2 stories3 looks2 dialogs2 place room right st down m grown settled made given ranked left_order seen first second note timed grouped put taken went begun left here named counted noted_tally story_more story_losses story_answers looked turned = record {
   ready = st.ready;
   lawful = (st.lawful, right);
   short = grind (arith, nat_tests, room);
@@ -279,4 +283,5 @@ stands_step setup past p shift meant e classes1 classes2 tree1 tree2 order1 orde
       (subst (λ (f : ℕ → SendStory → SendStory). EachStory f (with_begun e.answer p.stories) stories2) (losses_noted e p.time place p.tree tree1 p.sends sends1 made begun)
       (subst (λ (l : List SendStory). EachStory (noted_losses tree1.live place e.who.0 e.answer e.call sends1) l stories2) story_more story_losses)));
   looks = looked;
+  dialogs = followed_stands past e p.dialogs dialogs2 st.dialogs turned;
 }

@@ -1,5 +1,5 @@
 -- The parts of a machine without entries stand for the past without entries.
-use Rattle.std.proofs.Common.{◌≡◌, List, [], All, length, reverse, refl, ap, sym, subst, arith}
+use Rattle.std.proofs.Common.{◌≡◌, ℕ, List, [], All, length, reverse, refl, ap, sym, subst, arith}
 use Rattle.user_model.specs.declared.entry.Entry.{Entry}
 use Rattle.user_model.specs.declared.entry.Setup.{Setup}
 use Rattle.user_model.specs.declared.story.SendStory.{SendStory}
@@ -20,13 +20,16 @@ use Rattle.win_order.specs.Layers.{Layers, empty}
 use Rattle.display_state.specs.Displays.{Shown, IsDisplayAt}
 use Rattle.group_state.specs.GroupTables.{Kept, IsGroupsAt}
 use Rattle.look_state.specs.Looks.{AreLooksAt, LookView}
+use Rattle.user_model.specs.declared.dialog.Dialog.{Dialog}
+use Rattle.dialog_state.specs.Dialogs.{AreDialogsAt}
+use Rattle.dialog_state.proofs.Steps.{none_at_first}
 use Rattle.core_state.proofs.FreshSends.{no_order, no_parts_stand, no_stories, no_tree}
 
-pub fresh_stands : (setup : Setup) (history : List Entry) (tree : Windows) (order : Layers) (display : Shown) (classes : ClassTable) (threads : List ThreadView) (timers : List Setting) (groups : Kept) (inputs : List KeptElement) (progress : Progress) (sends : SendParts) (tally : Tally) (stories : List SendStory) (looks : List LookView)
-    → IsSetup setup → history ≡ [] → tree ≡ no_windows → order ≡ empty → IsDisplayAt setup [] display → classes ≡ no_classes → length threads ≡ setup.threads → All (λ s. s ≡ fresh_thread) threads → timers ≡ [] → IsGroupsAt setup [] groups → inputs ≡ [] → progress ≡ no_progress → sends ≡ no_parts setup.threads → tally ≡ tally_at [] → stories ≡ [] → AreLooksAt setup [] looks
-    → Stands setup (reverse history) (parts tree order display classes threads timers groups inputs progress sends tally stories looks)
-fresh_stands setup history tree order display classes threads timers groups inputs progress sends tally stories looks ready none is_tree is_order shown is_classes count fresh is_timers grouped is_inputs is_progress is_sends is_tally is_stories looked =
-    subst (λ (l : List Entry). Stands setup (reverse l) (parts tree order display classes threads timers groups inputs progress sends tally stories looks)) (sym none) (record {
+pub fresh_stands : (setup : Setup) (history : List Entry) (tree : Windows) (order : Layers) (display : Shown) (classes : ClassTable) (threads : List ThreadView) (timers : List Setting) (groups : Kept) (inputs : List KeptElement) (progress : Progress) (sends : SendParts) (tally : Tally) (stories : List SendStory) (looks : List LookView) (dialogs : List (ℕ × Dialog))
+    → IsSetup setup → history ≡ [] → tree ≡ no_windows → order ≡ empty → IsDisplayAt setup [] display → classes ≡ no_classes → length threads ≡ setup.threads → All (λ s. s ≡ fresh_thread) threads → timers ≡ [] → IsGroupsAt setup [] groups → inputs ≡ [] → progress ≡ no_progress → sends ≡ no_parts setup.threads → tally ≡ tally_at [] → stories ≡ [] → AreLooksAt setup [] looks → dialogs ≡ []
+    → Stands setup (reverse history) (parts tree order display classes threads timers groups inputs progress sends tally stories looks dialogs)
+fresh_stands setup history tree order display classes threads timers groups inputs progress sends tally stories looks dialogs ready none is_tree is_order shown is_classes count fresh is_timers grouped is_inputs is_progress is_sends is_tally is_stories looked is_dialogs =
+    subst (λ (l : List Entry). Stands setup (reverse l) (parts tree order display classes threads timers groups inputs progress sends tally stories looks dialogs)) (sym none) (record {
       ready = ready;
       lawful = tt;
       short = omega arith;
@@ -47,4 +50,5 @@ fresh_stands setup history tree order display classes threads timers groups inpu
       tally = is_tally;
       stories = no_stories stories is_stories;
       looks = looked;
+      dialogs = subst (AreDialogsAt []) (sym is_dialogs) none_at_first;
     })

@@ -16,7 +16,9 @@ pub mod SendStacks
 pub mod SendSteps
 pub mod StatusReads
 pub mod Timing
+pub mod TurnedDialogs
 pub mod Tops
+pub mod Owners
 pub mod Running
 pub mod SendNumbers
 pub mod Threads

@@ -29,6 +29,8 @@ use Rattle.window_state.specs.Trees.{IsTreeAt}
 use Rattle.display_state.specs.Displays.{Shown, IsDisplayAt}
 use Rattle.group_state.specs.GroupTables.{Kept, IsGroupsAt}
 use Rattle.look_state.specs.Looks.{AreLooksAt, LookView}
+use Rattle.user_model.specs.declared.dialog.Dialog.{Dialog}
+use Rattle.dialog_state.specs.Dialogs.{AreDialogsAt}
 
 -- its setup and its past
 pub record Seen : Type 0 where
@@ -53,10 +55,11 @@ pub record Parts : Type 0 where
   pub tally : Tally
   pub stories : List SendStory
   pub looks : List LookView
+  pub dialogs : List (ℕ × Dialog)
 
 -- the parts from their values
-abbrev pub parts : Windows → Layers → Shown → ClassTable → List ThreadView → List Setting → Kept → List KeptElement → Progress → SendParts → Tally → List SendStory → List LookView → Parts
-parts tree order display classes threads timers groups inputs progress sends tally stories looks = record { tree = tree; order = order; display = display; classes = classes; threads = threads; timers = timers; groups = groups; inputs = inputs; post_count = progress.posts; input_count = progress.inputs; time = progress.time; cursor = progress.cursor; sends = sends; tally = tally; stories = stories; looks = looks }
+abbrev pub parts : Windows → Layers → Shown → ClassTable → List ThreadView → List Setting → Kept → List KeptElement → Progress → SendParts → Tally → List SendStory → List LookView → List (ℕ × Dialog) → Parts
+parts tree order display classes threads timers groups inputs progress sends tally stories looks dialogs = record { tree = tree; order = order; display = display; classes = classes; threads = threads; timers = timers; groups = groups; inputs = inputs; post_count = progress.posts; input_count = progress.inputs; time = progress.time; cursor = progress.cursor; sends = sends; tally = tally; stories = stories; looks = looks; dialogs = dialogs }
 
 -- each thread's part is what the past says of the thread
 pub record EachThread (past : Past) (threads : List ThreadView) : Type 0 where
@@ -84,3 +87,4 @@ pub record Stands (setup : Setup) (past : Past) (p : Parts) : Type 0 where
   pub tally : p.tally ≡ tally_at past
   pub stories : StoriesStand past p.stories
   pub looks : AreLooksAt setup past p.looks
+  pub dialogs : AreDialogsAt past p.dialogs

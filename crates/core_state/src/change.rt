@@ -5,6 +5,7 @@ ghost use Rattle.std.specs.Prelude.{◌≡◌, ◌<◌, true, false, OnOk, OnErr
 ghost use Rattle.thread_queues.specs.Changes.{changed};
 ghost use Rattle.thread_queues.specs.Deliveries.{carried_in, adding_in, effect_in};
 ghost use Rattle.window_state.specs.Effects.{IsAddedBy, named_by, carried_classes, carried_tree, added_classes, affected_classes, IsAffected};
+ghost use Rattle.dialog_state.specs.Dialogs.{Follows};
 ghost use Rattle.core_state.specs.Needs.{FitsCarrying, FitsAdding, FitsEffect};
 ghost use Rattle.window_state.specs.Needs.{FitsNaming};
 ghost use Rattle.core_state.specs.Sendings.{FitsAddedSends, added_sends};
@@ -17,6 +18,7 @@ ghost use Rattle.win_num.specs.Clocks.{clock_limit};
 ghost use Rattle.window_state.specs.Orders.{FitsLeaving, FitsOrder, FitsOrderEffect, FitsReordering, IsOrderAdded, affected_order, carried_order, reordered_by};
 
 use crate::sendings::begin;
+use dialog_state::{Dialogs, turns};
 use display_state::Display;
 use input_queue::Inputs;
 use pending_state::{Meant, add_input};
@@ -37,7 +39,7 @@ use window_state::{
 
 /// Adds a post, a class, a message's name, a window, a send, a timer or an input, puts a window elsewhere among its siblings, changes
 /// dirty pixels, begun painting and colours, or keeps a frame, as the answer says. After want of memory nothing has changed.
-pub fn add_item(
+fn add_item(
     classes: &mut Classes,
     tree: &mut Tree,
     order: &mut Order,
@@ -92,6 +94,56 @@ pub fn add_item(
         Answer::Painting { .. } | Answer::Snap(_) => display.draw(alloc, tree, classes, entry),
         _ => Ok(()),
     }
+}
+
+/// Begins, ends or closes a dialog, or else adds an item, as the answer says. After want of memory nothing has changed.
+pub fn add_change(
+    classes: &mut Classes,
+    tree: &mut Tree,
+    order: &mut Order,
+    threads: &mut Vec<ThreadState>,
+    timers: &mut Timers,
+    inputs: &mut Inputs,
+    sends: &mut SendState,
+    display: &mut Display,
+    dialogs: &mut Dialogs,
+    stamp: Stamp,
+    meant: Meant,
+    entry: Entry,
+) -> Result<(), AllocError>
+    requires parts { FitsAdding classes.old tree.old threads.old.items stamp.time stamp.cursor stamp.shift entry.who.0 entry.answer entry.call }
+    requires order { FitsOrder entry.who.0 entry.answer entry.call tree.old order.old }
+    requires sends { FitsAddedSends tree.old.live stamp.time stamp.place entry.who entry.answer entry.call sends.old }
+    requires drawing { IsPainting tree.old classes.old entry }
+    requires timers { FitsAddedTimers tree.old.live entry.who timers.old entry.answer entry.call }
+    requires inputs { FitsInjecting meant inputs.old entry.answer entry.call }
+    requires early { stamp.time < clock_limit }
+    ensures classes { OnOk result (classes.new ≡ added_classes entry.answer entry.call classes.old) }
+    ensures tree { OnOk result (IsAddedBy entry.who.0 entry.answer entry.call tree.old tree.new) }
+    ensures order { OnOk result (IsOrderAdded entry.answer entry.call tree.old tree.new order.old order.new) }
+    ensures threads { OnOk result (EachBy (λ t. changed t (adding_in tree.old.live stamp.time stamp.cursor stamp.shift entry.who.0 entry.answer entry.call)) threads.old.items threads.new.items) }
+    ensures sends { OnOk result (sends.new ≡ added_sends tree.old.live stamp.time stamp.place entry.who entry.answer entry.call sends.old) }
+    ensures timers { OnOk result (timers.new ≡ added_timers entry.who stamp.time entry.answer entry.call timers.old) }
+    ensures inputs { OnOk result (inputs.new ≡ added_by meant entry.answer entry.call inputs.old) }
+    ensures drawn { OnOk result (draws entry.call entry.answer ≡ true → DrawsDisplay tree.old classes.old entry display.old display.new) }
+    ensures display { OnOk result (draws entry.call entry.answer ≡ false → display.new ≡ display.old) }
+    ensures dialogs { OnOk result (Follows entry.answer entry.call dialogs.old dialogs.new) }
+    ensures classes_stay { OnErr result (classes.new ≡ classes.old) }
+    ensures tree_stays { OnErr result (tree.new ≡ tree.old) }
+    ensures order_stays { OnErr result (order.new ≡ order.old) }
+    ensures threads_stay { OnErr result (threads.new.items ≡ threads.old.items) }
+    ensures sends_stay { OnErr result (sends.new ≡ sends.old) }
+    ensures timers_stay { OnErr result (timers.new ≡ timers.old) }
+    ensures inputs_stay { OnErr result (inputs.new ≡ inputs.old) }
+    ensures display_stays { OnErr result (display.new ≡ display.old) }
+    ensures dialogs_stay { OnErr result (dialogs.new ≡ dialogs.old) }
+{
+    if turns(entry) {
+        return dialogs.follow(entry);
+    }
+    add_item(
+        classes, tree, order, threads, timers, inputs, sends, display, stamp, meant, entry,
+    )
 }
 
 /// Registers a class or the name of a message, or puts a window elsewhere among its siblings, as the call

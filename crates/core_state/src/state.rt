@@ -35,6 +35,8 @@ ghost use Rattle.screen_state.specs.Owned.{told_has};
 ghost use Rattle.user_model.specs.Refusals.{is_no_rect};
 ghost use Rattle.window_state.specs.Placings.{box_of};
 ghost use Rattle.user_model.specs.Destruction.{is_marked, was_given, ended};
+ghost use Rattle.user_model.specs.Dialogs.{dialog};
+ghost use Rattle.user_model.specs.ReplyDialogs.{owner_of};
 ghost use Rattle.user_model.specs.Classes.{class, classes, registered_count, is_used, message_names, message_number, proc_of};
 ghost use Rattle.user_model.specs.Idle.{reply, is_idle, ends_stuck, last_entry, least_of, times_of};
 ghost use Rattle.user_model.specs.Timers.{due, due_time, passing_timers, timer, timers_of};
@@ -42,10 +44,11 @@ ghost use Rattle.timer_state.specs.TimerLists.{as_due};
 ghost use Rattle.thread_state.specs.Threads.{code_of, fresh_thread, told_post, waiting_call};
 ghost use Rattle.window_state.specs.Steps.{destruction_answer};
 
-use crate::change::{add_item, take_effect};
+use crate::change::{add_change, take_effect};
 use crate::progress::Progress;
 use crate::sendings::settle_sends;
 use band_region::Region;
+use dialog_state::Dialogs;
 use display_state::Display;
 use group_state::{GroupState, Slot};
 use input_queue::Inputs;
@@ -59,7 +62,7 @@ use thread_queues::{Stamp, note_entry};
 use thread_state::ThreadState;
 use timer_source::{Timer, Timers};
 use timer_state::{due_timer, follow_timers, has_timer, next_due, timers_are_full};
-use user_model::{Answer, Call, Entry, HISTORY_LIMIT, SendCount, SendStory, Setup};
+use user_model::{Answer, Call, Dialog, Entry, HISTORY_LIMIT, SendCount, SendStory, Setup};
 use win_class::Classes;
 use win_num::{Cause, Filter, Frame, Hwnd, Msg, Point, SendId, Thread};
 use win_order::Order;
@@ -98,6 +101,8 @@ pub struct CoreState {
     stories: Vec<SendStory>,
     /// What was there for each thread when it looked last.
     looks: Looks,
+    /// The dialogs that stand on windows.
+    dialogs: Dialogs,
 }
 
 impl Model for CoreState {
@@ -108,7 +113,7 @@ impl Model for CoreState {
 
     ghost view = { λ s. record { setup = s.setup; past = reverse s.history.items } };
 
-    ghost invariant = { λ s. Stands s.setup (reverse s.history.items) (parts s.tree s.order s.display s.classes s.threads.items s.timers s.groups s.inputs s.progress s.sends s.tally s.stories.items s.looks) };
+    ghost invariant = { λ s. Stands s.setup (reverse s.history.items) (parts s.tree s.order s.display s.classes s.threads.items s.timers s.groups s.inputs s.progress s.sends s.tally s.stories.items s.looks s.dialogs) };
 }
 
 impl CoreState {
@@ -138,6 +143,7 @@ impl CoreState {
             tally: Tally::new(),
             stories: Vec::new(alloc),
             looks,
+            dialogs: Dialogs::new(alloc),
         })
     }
 
@@ -513,6 +519,26 @@ impl CoreState {
         }
     }
 
+    /// The owner of a live window, or 0.
+    pub fn owner(&self, w: u64) -> Hwnd
+        ensures { result.0 ≡ owner_of self.now.past w }
+    {
+        let Some(window) = self.tree.find(w) else {
+            return Hwnd(0);
+        };
+        match self.tree.row(window) {
+            Some(row) => row.owner,
+            None => Hwnd(0),
+        }
+    }
+
+    /// How the dialog on a window stands (Microsoft, DialogBox and EndDialog functions). None comes exactly where there is none.
+    pub fn dialog(&self, w: u64) -> Option<Dialog>
+        ensures { result ≡ dialog self.now.past w }
+    {
+        self.dialogs.on(w)
+    }
+
     /// Whether it is a live window with WS_VISIBLE.
     pub fn is_shown(&self, w: u64) -> bool
         ensures { result ≡ (is_live self.now.past w && is_shown self.now.past w) }
@@ -766,7 +792,7 @@ impl CoreState {
             .after(alloc, self.setup, &self.tree, &self.order, entry)?;
         let seen = seen_by(alloc, &self.tree, self.display.screen().dirty(), entry)?;
         make_room(&mut self.history, &mut self.stories)?;
-        add_item(
+        add_change(
             &mut self.classes,
             &mut self.tree,
             &mut self.order,
@@ -775,6 +801,7 @@ impl CoreState {
             &mut self.inputs,
             &mut self.sends,
             &mut self.display,
+            &mut self.dialogs,
             stamp,
             meant,
             entry,

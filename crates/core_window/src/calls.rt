@@ -1,4 +1,4 @@
-//! The calls on classes, windows, groups of attached threads, the mouse and keys: what each answers, and its entry.
+//! The calls on classes, windows, groups of attached threads, the mouse, keys and dialogs: what each answers, and its entry.
 
 ghost use Rattle.std.specs.Prelude.{◌≡◌, ◌<◌, ◌≤◌, true, false, IfOk, OnOk, OnErr};
 ghost use Rattle.core_deliver.specs.Groups.{is_window_call};
@@ -8,6 +8,7 @@ ghost use Rattle.user_model.specs.Machines.{after};
 ghost use Rattle.user_model.specs.Past.{is_full};
 ghost use Rattle.user_model.specs.Replies.{row};
 
+use crate::dialogs::{begin_dialog_answer, dialog_state_answer, end_dialog_answer};
 use crate::groups::{
     attach_answer, detach_answer, set_active_answer, set_capture_answer, set_focus_answer,
     value_answer, was_answer,
@@ -25,7 +26,7 @@ use std::alloc::AllocError;
 use user_model::{Answer, Call};
 use win_num::Thread;
 
-/// The answer of a call on classes, windows, groups or input to a running thread, where its stack allows it.
+/// The answer of a call on classes, windows, groups, input or dialogs to a running thread, where its stack allows it.
 fn window_row(state: &CoreState, thread: u8, call: Call) -> Answer
     requires group { is_window_call call ≡ true }
     requires room { is_full state.now.past ≡ false }
@@ -66,7 +67,7 @@ fn window_row(state: &CoreState, thread: u8, call: Call) -> Answer
     }
 }
 
-/// The answer of a call that looks for windows, or of one on focus, active window, capture, attached threads, the mouse or keys.
+/// The answer of a call that looks for windows, or of one on focus, active window, capture, attached threads, the mouse, keys or dialogs.
 fn lookup_row(state: &CoreState, thread: u8, call: Call) -> Answer
     requires group { is_window_call call ≡ true }
     requires looks { IsLookup call }
@@ -94,6 +95,9 @@ fn lookup_row(state: &CoreState, thread: u8, call: Call) -> Answer
         Call::Mouse(number, x, y) => mouse_answer(state, number, x, y),
         Call::Key(down, key) => key_answer(state, down, key),
         Call::KeyState(key) => key_state_answer(state, thread, key),
+        Call::BeginDialog(w) => begin_dialog_answer(state, thread, w),
+        Call::DialogState(w) => dialog_state_answer(state, thread, w),
+        Call::EndDialog(w, _) => end_dialog_answer(state, thread, w),
         _ => unreachable!(),
     }
 }

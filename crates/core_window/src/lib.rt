@@ -1,11 +1,12 @@
-//! The calls on classes, windows, groups of attached threads, the mouse and keys, answered from the state.
+//! The calls on classes, windows, groups of attached threads, the mouse, keys and dialogs, answered from the state.
 //!
-//! `windows`, `groups` and `inputs` decide what each call answers, `calls` joins them and adds the entry. What keeps a thread from
+//! `windows`, `groups`, `inputs` and `dialogs` decide what each call answers, `calls` joins them and adds the entry. What keeps a thread from
 //! any call, and how an entry is added, `core_deliver` says.
 #![tactic(auto)]
 
 mod calls;
 mod codes;
+mod dialogs;
 mod groups;
 mod inputs;
 mod windows;

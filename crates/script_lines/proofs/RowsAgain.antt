@@ -151,6 +151,8 @@ module _ (ps : List Part) (h : AllByRecursion IsPart ps) where
   compound_made_fits compounds.SetCapture = (o 0, tt)
   compound_made_fits compounds.BeginPaint = (o 0, tt)
   compound_made_fits compounds.UpdateWindow = (o 0, tt)
+  compound_made_fits compounds.Pump = tt
+  compound_made_fits compounds.Dialog = (o 0, tt)
 
   pub line_made_fits : (command : Command) → IfSome (made_line command ps) IsLine
   line_made_fits commands.Procedure = (tt, tt)

@@ -59,7 +59,8 @@ own_commands =
     commands.Sleep ∷ commands.Create ∷ commands.Destroy ∷ commands.Compound compounds.ShowWindow ∷ commands.Compound compounds.EnableWindow ∷
     commands.Compound compounds.SetWindowPos ∷ commands.Compound compounds.SetFocus ∷ commands.Compound compounds.SetActive ∷
     commands.Compound compounds.SetCapture ∷ commands.Compound compounds.ReleaseCapture ∷ commands.Compound compounds.BeginPaint ∷
-    commands.Compound compounds.UpdateWindow ∷ commands.Compound compounds.PostAll ∷ commands.Compound compounds.NotifyAll ∷ commands.Default ∷ []
+    commands.Compound compounds.UpdateWindow ∷ commands.Compound compounds.PostAll ∷ commands.Compound compounds.NotifyAll ∷ commands.Compound compounds.Pump ∷
+    commands.Compound compounds.Dialog ∷ commands.Default ∷ []
 
 unfoldable pub own_command : List ℕ → Option Command
 own_command word = find (λ c. bytes_eq (command_word c) word) own_commands

@@ -13,7 +13,7 @@ use statement_table::{
 };
 
 /// The lines that make no one call.
-static OWN_COMMANDS: [Command; 23] = [
+static OWN_COMMANDS: [Command; 25] = [
     Command::Procedure,
     Command::Thread,
     Command::Let,
@@ -36,6 +36,8 @@ static OWN_COMMANDS: [Command; 23] = [
     Command::Compound(CompoundName::UpdateWindow),
     Command::Compound(CompoundName::PostAll),
     Command::Compound(CompoundName::NotifyAll),
+    Command::Compound(CompoundName::Pump),
+    Command::Compound(CompoundName::Dialog),
     Command::Default,
 ];
 

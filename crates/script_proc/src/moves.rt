@@ -60,13 +60,20 @@ fn makes(call: Call) -> Few
     Few::Two(Item::Settle(call), Item::Making(call))
 }
 
-/// A compound of a statement begins.
+/// A compound of a statement begins, whose end sets `r` and `err` by that call.
+fn settled_by(settling: Call, begin: Begin) -> Few
+    ensures { result ≡ Few.Three (Item.Settle settling) (Item.Feed begin.place) (Item.Making begin.call) }
+{
+    let settle = Item::Settle(settling);
+    let feed = Item::Feed(begin.place);
+    Few::Three(settle, feed, Item::Making(begin.call))
+}
+
+/// The same, where that call is its first one.
 fn begins_with(begin: Begin) -> Few
     ensures { result ≡ Few.Three (Item.Settle begin.call) (Item.Feed begin.place) (Item.Making begin.call) }
 {
-    let settle = Item::Settle(begin.call);
-    let feed = Item::Feed(begin.place);
-    Few::Three(settle, feed, Item::Making(begin.call))
+    settled_by(begin.call, begin)
 }
 
 /// A statement that makes no call and begins no compound.
@@ -108,7 +115,9 @@ pub fn statement(line: &Line, variables: &Variables) -> Few
         }
         Line::Create(creation) => begins_with(Begin::creation(creation.call(variables))),
         Line::Destroy(window) => begins_with(Begin::destruction(window.value(variables))),
-        Line::Compound(compound) => begins_with(compound.begin(variables)),
+        Line::Compound(compound) => {
+            settled_by(compound.settling_call(variables), compound.begin(variables))
+        }
         Line::Default => default_statement(&variables.parameters),
         _ => Few::Nothing,
     }

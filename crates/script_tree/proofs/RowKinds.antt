@@ -5,13 +5,15 @@ use Rattle.user_model.specs.declared.call.Call.TheVariants.{Doom, SleepUntil}
 use Rattle.user_model.specs.declared.entry.Answer.{Answer}
 use Rattle.user_model.specs.declared.entry.Answer.TheVariants.{Refused}
 use Rattle.script_tree.specs.declared.statement.CompoundStatement.{CompoundStatement}
-use Rattle.script_tree.specs.declared.statement.CompoundStatement.TheVariants.{PostAll, NotifyAll}
+use Rattle.script_tree.specs.declared.statement.CompoundStatement.TheVariants.{PostAll, NotifyAll, Pump, Dialog as DialogOf}
+use Rattle.script_tree.specs.declared.frame.Modal.{Modal}
+use Rattle.script_tree.specs.declared.frame.Modal.TheVariants.{Pump as PumpLoop, Dialog as DialogLoop}
 use Rattle.script_tree.specs.declared.variables.Parameters.{Parameters}
 use Rattle.script_tree.specs.declared.variables.Variables.{Variables}
 use Rattle.script_tree.specs.Tree.{Tree}
-use Rattle.script_tree.specs.Values.{value_of, call_of, first_call, creation_call, time_after}
+use Rattle.script_tree.specs.Values.{value_of, call_of, settling_call, creation_call, time_after}
 use Rattle.script_tree.specs.Pieces.{State, Going, Returning, Given, Trace}
-use Rattle.script_tree.specs.Rows.{Point, At, CutBefore, on, settling, giving, returning, restoring, defaulting, undone, Part, Body, Line, Asleep, Frame, Exit, Rows, call_cut, after_cut, body_over, body, body_left, lets, computes, if_holds, if_fails, if_first, if_second, while_ends, while_left, while_cut, while_again, while_yields, returns, makes, sleeps, asleep_refused, asleep, defaults, destroys, creates, compounds, call_waits, call_enters, call_back, leave_back, call_inside, call_calls, call_begins, call_ends, frame, exit_returned, exit_callback, exit_default, default_close, default_paint, default_erase, default_activate, default_cancel, default_greeting, default_other, destruction, doom_refused, doomed, unmaking, unmade_tell, unmade_last, unmade_refused, unmade_gone, create_refused, create_none, created, greeted_no, greeted, told_refused, told_no, told, compound_part, notifying, notified_refused, notified, sends_over, sends_next, broadcasts, found_refused, found_none, found, thread}
+use Rattle.script_tree.specs.Rows.{Point, At, CutBefore, on, settling, giving, returning, restoring, defaulting, undone, concluding, Part, Body, Line, Asleep, Frame, Exit, Rows, call_cut, after_cut, body_over, body, body_left, lets, computes, if_holds, if_fails, if_first, if_second, while_ends, while_left, while_cut, while_again, while_yields, returns, makes, sleeps, asleep_refused, asleep, defaults, destroys, creates, compounds, call_waits, call_enters, call_back, leave_back, call_inside, call_calls, call_begins, call_ends, frame, exit_returned, exit_callback, exit_default, default_close, default_paint, default_erase, default_activate, default_cancel, default_greeting, default_other, destruction, doom_refused, doomed, unmaking, unmade_tell, unmade_last, unmade_refused, unmade_gone, create_refused, create_none, created, greeted_no, greeted, told_refused, told_no, told, compound_part, notifying, notified_refused, notified, sends_over, sends_next, broadcasts, found_refused, found_none, found, loop_part, quit_part, fetches, fetched_refused, fetched_none, fetched_quit, fetched_key, fetched, hands, closes_pump, opens, opened_refused, opened_alone, opened, disabled, disabled_before, asks, asked_running, asked_finished, asked_refused, asked_gone, quits, finishes, closes_alone, closes_dialog, thread}
 
 -- an answer, or a cut
 abbrev pub IsGiven : Point → Type 0
@@ -51,7 +53,17 @@ cut_kind part call = tt
 part_given : (c : CompoundStatement) (v : Variables) (out : Point) → HasKind (compound_part c v) out → IsGiven out
 part_given (PostAll m p q) v out k = k
 part_given (NotifyAll m p q) v out k = k
+part_given Pump v out k = k
+part_given (DialogOf w) v out k = k
 part_given c v out k = k
+
+loop_given : (l : Modal) (out : Point) → HasKind (loop_part l) out → IsGiven out
+loop_given PumpLoop out k = k
+loop_given (DialogLoop d) out k = k
+
+quit_given : (l : Modal) (code : ℕ) (out : Point) → HasKind (quit_part l code) out → IsGiven out
+quit_given PumpLoop code out k = k
+quit_given (DialogLoop d) code out k = k
 
 settling_run : (call : Call) (got : Point) → IsGiven got → IsRun (on (settling call) got)
 settling_run call (At (Given v a x)) k = tt
@@ -105,6 +117,11 @@ undone_given (At (Given v a x)) k = tt
 undone_given (At st) k = absurd k
 undone_given (CutBefore c) k = tt
 
+concluding_given : (b : Answer) (got : Point) → IsGiven got → IsGiven (on (concluding b) got)
+concluding_given b (At (Given v a x)) k = tt
+concluding_given b (At st) k = absurd k
+concluding_given b (CutBefore c) k = tt
+
 module _ (s : Tree) where
   pub kind : {part : Part} {before : Point} {tr : Trace} {out : Point} → Rows s part before tr out → HasKind part out
   kind call_cut = tt
@@ -131,7 +148,7 @@ module _ (s : Tree) where
   kind (defaults {v = v} {got = got} d f) = subst IsRun (sym f) (settling_run (Doom v.parameters.hwnd) got (kind d))
   kind (destroys {e = e} {v = v} {got = got} d f) = subst IsRun (sym f) (settling_run (Doom (value_of e v)) got (kind d))
   kind (creates {c = c} {v = v} {got = got} d e f g) = subst IsRun (sym g) (settling_run (creation_call c v) got (kind e))
-  kind (compounds {c = c} {v = v} {got = got} d f) = subst IsRun (sym f) (settling_run (first_call c v) got (part_given c v got (kind d)))
+  kind (compounds {c = c} {v = v} {got = got} d f) = subst IsRun (sym f) (settling_run (settling_call c v) got (part_given c v got (kind d)))
   kind (call_waits d) = kind d
   kind (call_enters h d e f) = kind e
   kind (call_back h g d e f) = kind e
@@ -176,4 +193,27 @@ module _ (s : Tree) where
   kind (found_refused h) = tt
   kind (found_none h g) = tt
   kind (found h g d e f) = kind e
+  kind (fetches d e f) = kind e
+  kind (fetched_refused h d) = kind d
+  kind (fetched_none h d) = kind d
+  kind (fetched_quit {l = l} {msg = msg} {out = out} h d) = quit_given l msg.wparam out (kind d)
+  kind (fetched_key h d e f) = kind e
+  kind (fetched h g d) = kind d
+  kind (hands {l = l} {out = out} d e f) = loop_given l out (kind e)
+  kind closes_pump = tt
+  kind (opens d e f) = kind e
+  kind (opened_refused h) = tt
+  kind (opened_alone h g d) = kind d
+  kind (opened h g d e f) = kind e
+  kind (disabled h d) = kind d
+  kind (disabled_before h d) = kind d
+  kind (asks d e f) = kind e
+  kind (asked_running d) = kind d
+  kind (asked_finished d) = kind d
+  kind (asked_refused h d) = kind d
+  kind (asked_gone h d) = kind d
+  kind (quits d e f) = kind e
+  kind (finishes d e f) = kind e
+  kind (closes_alone h) = tt
+  kind (closes_dialog {a = a} {got = got} h d f) = subst IsGiven (sym f) (concluding_given a got (kind d))
   kind (thread d e f) = kind e

@@ -1,27 +1,35 @@
 -- Where the places of compounds and the answers to calls lead, as the rows say it.
 use Rattle.std.proofs.Common.{◌≡◌, ◌≢◌, ℕ, ◌+◌, Bool, true, false, List, [], ◌∷◌, length, refl, ap, ◌∙◌, arith}
 use Rattle.std.specs.Prelude.{if◌then◌else◌, ◌==◌, not, Some, None}
+use Rattle.win_num.specs.declared.code.Code.{Code}
+use Rattle.win_num.specs.declared.message.Msg.{Msg}
+use Rattle.win_num.specs.declared.names.TheConstants.{WM_QUIT, WM_KEYDOWN}
 use Rattle.user_model.specs.declared.call.Call.{Call}
 use Rattle.user_model.specs.declared.entry.Answer.{Answer}
-use Rattle.user_model.specs.declared.entry.Answer.TheVariants.{Wait, Value, Window as WindowMade, Called, Inside, Begun, Enter, Callback, Tell, Last, Refused}
+use Rattle.user_model.specs.declared.entry.Answer.TheVariants.{Wait, Value, Window as WindowMade, Called, Inside, Begun, Enter, Callback, Tell, Last, Running, Finished, Got, Refused}
+use Rattle.user_model.specs.declared.entry.Origin.{Origin}
 use Rattle.user_model.specs.Stacks.{waits}
 use Rattle.script_tree.specs.declared.messages.TheConstants.{WM_PAINT, WM_ERASEBKGND, WM_CLOSE, WM_ACTIVATE, WM_CANCELMODE, WM_NCCREATE, WM_CREATE}
 use Rattle.script_tree.specs.declared.variables.Parameters.{Parameters}
 use Rattle.script_tree.specs.declared.variables.Variables.{Variables}
-use Rattle.script_tree.specs.declared.frame.Place.TheVariants.{Telling, Notifying, Reaching}
+use Rattle.script_tree.specs.declared.frame.Place.TheVariants.{Telling, Notifying, Reaching, Translating, Disabling, Enabling}
+use Rattle.script_tree.specs.declared.frame.Dialog.{Dialog}
+use Rattle.script_tree.specs.declared.frame.Modal.{Modal}
+use Rattle.script_tree.specs.declared.frame.Modal.TheVariants.{Dialog as DialogLoop}
 use Rattle.script_tree.specs.declared.frame.Notice.{Notice}
 use Rattle.script_tree.specs.declared.frame.Notices.{Notices}
 use Rattle.script_tree.specs.declared.frame.Broadcast.{Broadcast}
 use Rattle.script_tree.specs.declared.operand.Operand.{Operand}
 use Rattle.script_tree.specs.declared.statement.CompoundStatement.{CompoundStatement}
-use Rattle.script_tree.specs.declared.statement.CompoundStatement.TheVariants.{PostAll, NotifyAll}
+use Rattle.script_tree.specs.declared.statement.CompoundStatement.TheVariants.{PostAll, NotifyAll, Pump, Dialog as DialogOf}
 use Rattle.script_tree.specs.Notices.{number_in, next_notice, others, notices_after, result_after}
-use Rattle.script_tree.specs.Values.{first_call}
-use Rattle.script_tree.specs.declared.frame.Lead.TheVariants.{Calls as CallsLead, Ends}
+use Rattle.script_tree.specs.Modals.{turns, enabling, loop_ends, quits, dispatches, handles, after_getting, dialog_on, opens, after_opening, was_enabled, after_disabling, after_asking}
+use Rattle.script_tree.specs.Values.{first_call, translate_of}
+use Rattle.script_tree.specs.declared.frame.Lead.TheVariants.{Calls as CallsLead, Runs as RunsLead, Ends}
 use Rattle.script_tree.specs.Compounds.{sent, undoes, unmakes, default_result, after_making, after_greeting, kept_or_undone, after_telling, after_dooming, after_unmaking, notifying, compound_begin, notice_call, notifies_by, notifies, after_calling, reach, reaches_or_ends, after_seeking}
 use Rattle.script_tree.specs.Pieces.{Piece, State, Trace}
 use Rattle.script_tree.specs.Steps.{following, follows, given, after_answer, answered, is_last}
-use Rattle.script_tree.specs.Rows.{ends_call, is_final, is_refusal, is_made, is_undone}
+use Rattle.script_tree.specs.Rows.{ends_call, is_final, is_refusal, is_made, is_undone, is_fetched, is_standing}
 use Rattle.script_tree.proofs.Numbers.{same_number, other_number}
 
 -- a pass with an entry, and one with none
@@ -111,17 +119,79 @@ seeking_none b a h g = seeking_goes b a h ∙ ap (λ z. if z then Ends (Value 1)
 pub seeking_next : (b : Broadcast) (a : Answer) → is_refusal a ≡ false → number_in a ≢ 0 → after_seeking b a ≡ CallsLead (reach b (number_in a)) (Reaching b (number_in a))
 seeking_next b a h g = seeking_goes b a h ∙ ap (λ z. if z then Ends (Value 1) else CallsLead (reach b (number_in a)) (Reaching b (number_in a))) (other_number (number_in a) 0 g)
 
--- a compound statement begins with its first call
-pub begins_with_first : (c : CompoundStatement) (v : Variables) → (compound_begin c v).call ≡ first_call c v
-begins_with_first (PostAll m p q) v = refl
-begins_with_first (NotifyAll m p q) v = refl
-begins_with_first c v = refl
+-- and of a loop of messages
+pub getting_ends : (l : Modal) (a : Answer) → is_refusal a ≡ true → after_getting l a ≡ loop_ends l a
+getting_ends l (Refused code) h = refl
+getting_ends l _ h = absurd cc
 
--- one that doesn't go through the top-level windows sends messages
-pub begins_otherwise : (c : CompoundStatement) (v : Variables) → ((m p q : Operand) → c ≡ PostAll m p q → ⊥) → ((m p q : Operand) → c ≡ NotifyAll m p q → ⊥) → compound_begin c v ≡ notifying (first_call c v)
-begins_otherwise (PostAll m p q) v f g = absurd (f m p q refl)
-begins_otherwise (NotifyAll m p q) v f g = absurd (g m p q refl)
-begins_otherwise c v f g = refl
+pub getting_none : (l : Modal) (a : Answer) → is_fetched a ≡ false → after_getting l a ≡ loop_ends l (Value 0)
+getting_none l (Got o number msg) h = absurd cc
+getting_none l (Refused code) h = absurd cc
+getting_none l _ h = refl
+
+pub getting_otherwise : (l : Modal) (a : Answer) → ((o : Origin) (number : ℕ) (msg : Msg) → a ≡ Got o number msg → ⊥) → ((code : Code) → a ≡ Refused code → ⊥) → after_getting l a ≡ loop_ends l (Value 0)
+getting_otherwise l (Got o number msg) f g = absurd (f o number msg refl)
+getting_otherwise l (Refused code) f g = absurd (g code refl)
+getting_otherwise l _ f g = refl
+
+pub getting_quit : (l : Modal) (o : Origin) (number : ℕ) (msg : Msg) → msg.number ≡ WM_QUIT → after_getting l (Got o number msg) ≡ quits l msg.wparam
+getting_quit l o number msg h = ap (λ z. if z then quits l msg.wparam else handles l msg) (same_number msg.number WM_QUIT h)
+
+getting_more : (l : Modal) (o : Origin) (number : ℕ) (msg : Msg) → msg.number ≢ WM_QUIT → after_getting l (Got o number msg) ≡ handles l msg
+getting_more l o number msg h = ap (λ z. if z then quits l msg.wparam else handles l msg) (other_number msg.number WM_QUIT h)
+
+pub getting_key : (l : Modal) (o : Origin) (number : ℕ) (msg : Msg) → msg.number ≡ WM_KEYDOWN → after_getting l (Got o number msg) ≡ CallsLead (translate_of msg) (Translating l msg)
+getting_key l o number msg h =
+    getting_more l o number msg (λ e. absurd (omega arith)) ∙ ap (λ z. if z then CallsLead (translate_of msg) (Translating l msg) else dispatches l msg) (same_number msg.number WM_KEYDOWN h)
+
+pub getting_other : (l : Modal) (o : Origin) (number : ℕ) (msg : Msg) → msg.number ≢ WM_QUIT → msg.number ≢ WM_KEYDOWN → after_getting l (Got o number msg) ≡ dispatches l msg
+getting_other l o number msg h g =
+    getting_more l o number msg h ∙ ap (λ z. if z then CallsLead (translate_of msg) (Translating l msg) else dispatches l msg) (other_number msg.number WM_KEYDOWN g)
+
+-- and of a dialog
+pub opening_ends : (w : ℕ) (a : Answer) → is_refusal a ≡ true → after_opening w a ≡ Ends a
+opening_ends w (Refused code) h = refl
+opening_ends w _ h = absurd cc
+
+opening_goes : (w : ℕ) (a : Answer) → is_refusal a ≡ false → after_opening w a ≡ opens w (number_in a)
+opening_goes w (Refused code) h = absurd cc
+opening_goes w _ h = refl
+
+pub opening_alone : (w : ℕ) (a : Answer) → is_refusal a ≡ false → number_in a ≡ 0 → after_opening w a ≡ turns (DialogLoop (dialog_on w 0))
+opening_alone w a h g = opening_goes w a h ∙ ap (λ z. if z then turns (DialogLoop (dialog_on w 0)) else RunsLead (enabling (number_in a) 0) (Disabling (dialog_on w (number_in a)))) (same_number (number_in a) 0 g)
+
+pub opening_runs : (w : ℕ) (a : Answer) → is_refusal a ≡ false → number_in a ≢ 0 → after_opening w a ≡ RunsLead (enabling (number_in a) 0) (Disabling (dialog_on w (number_in a)))
+opening_runs w a h g = opening_goes w a h ∙ ap (λ z. if z then turns (DialogLoop (dialog_on w 0)) else RunsLead (enabling (number_in a) 0) (Disabling (dialog_on w (number_in a)))) (other_number (number_in a) 0 g)
+
+pub disabling_enabled : (d : Dialog) (a : Answer) → was_enabled a ≡ true → after_disabling d a ≡ turns (DialogLoop d)
+disabling_enabled d a h = ap (λ z. if z then turns (DialogLoop d) else turns (DialogLoop (dialog_on d.window 0))) h
+
+pub disabling_other : (d : Dialog) (a : Answer) → was_enabled a ≡ false → after_disabling d a ≡ turns (DialogLoop (dialog_on d.window 0))
+disabling_other d a h = ap (λ z. if z then turns (DialogLoop d) else turns (DialogLoop (dialog_on d.window 0))) h
+
+pub asking_ends : (d : Dialog) (a : Answer) → is_refusal a ≡ true → after_asking d a ≡ loop_ends (DialogLoop d) a
+asking_ends d (Refused code) h = refl
+asking_ends d _ h = absurd cc
+
+pub asking_gone : (d : Dialog) (a : Answer) → is_standing a ≡ false → after_asking d a ≡ loop_ends (DialogLoop d) (Value 0)
+asking_gone d Running h = absurd cc
+asking_gone d (Finished v) h = absurd cc
+asking_gone d (Refused code) h = absurd cc
+asking_gone d _ h = refl
+
+pub closing_alone : (d : Dialog) (a : Answer) → d.owner ≡ 0 → loop_ends (DialogLoop d) a ≡ Ends a
+closing_alone d a h = ap (λ z. if z then Ends a else RunsLead (enabling d.owner 1) (Enabling a)) (same_number d.owner 0 h)
+
+pub closing_runs : (d : Dialog) (a : Answer) → d.owner ≢ 0 → loop_ends (DialogLoop d) a ≡ RunsLead (enabling d.owner 1) (Enabling a)
+closing_runs d a h = ap (λ z. if z then Ends a else RunsLead (enabling d.owner 1) (Enabling a)) (other_number d.owner 0 h)
+
+-- a compound statement that neither goes through the top-level windows nor has a loop of messages sends messages
+pub begins_otherwise : (c : CompoundStatement) (v : Variables) → ((m p q : Operand) → c ≡ PostAll m p q → ⊥) → ((m p q : Operand) → c ≡ NotifyAll m p q → ⊥) → (c ≡ Pump → ⊥) → ((w : Operand) → c ≡ DialogOf w → ⊥) → compound_begin c v ≡ notifying (first_call c v)
+begins_otherwise (PostAll m p q) v f g h k = absurd (f m p q refl)
+begins_otherwise (NotifyAll m p q) v f g h k = absurd (g m p q refl)
+begins_otherwise Pump v f g h k = absurd (h refl)
+begins_otherwise (DialogOf w) v f g h k = absurd (k w refl)
+begins_otherwise c v f g h k = refl
 
 -- the default procedure
 

@@ -3,11 +3,14 @@ use Rattle.std.proofs.Common.{◌≡◌, ◌≢◌, ℕ, ◌+◌, suc, Bool, tru
 use Rattle.std.proofs.Math.ListN.{length-append}
 use Rattle.std.specs.Prelude.{if◌then◌else◌, ◌==◌, not, Option, Some, None}
 use Rattle.win_num.specs.declared.message.Hwnd.{Hwnd}
+use Rattle.win_num.specs.declared.message.Msg.{Msg}
+use Rattle.win_num.specs.declared.names.TheConstants.{WM_QUIT, WM_KEYDOWN}
 use Rattle.win_num.specs.declared.send.SendId.{SendId}
 use Rattle.user_model.specs.declared.call.Call.{Call}
-use Rattle.user_model.specs.declared.call.Call.TheVariants.{Await, Leave, Doom, Unmake, Drop, NextTop, SetFocus, ReleaseCapture, Erase, Clock, SleepUntil, Yield, EndThread}
+use Rattle.user_model.specs.declared.call.Call.TheVariants.{Get, PostQuit, Enable, BeginDialog, DialogState, EndDialog, Await, Leave, Doom, Unmake, Drop, NextTop, SetFocus, ReleaseCapture, Erase, Clock, SleepUntil, Yield, EndThread}
 use Rattle.user_model.specs.declared.entry.Answer.{Answer}
-use Rattle.user_model.specs.declared.entry.Answer.TheVariants.{Wait, Value, Window as WindowMade, Called, Inside, Begun, Enter, Callback, Tell, Last, Refused}
+use Rattle.user_model.specs.declared.entry.Answer.TheVariants.{Wait, Value, Window as WindowMade, Called, Inside, Begun, Enter, Callback, Tell, Last, Running as RunningDialog, Finished, Got, Refused}
+use Rattle.user_model.specs.declared.entry.Origin.{Origin}
 use Rattle.user_model.specs.Stacks.{leaves, waits}
 use Rattle.script_tree.specs.declared.messages.TheConstants.{WM_PAINT, WM_ERASEBKGND, WM_CLOSE, WM_ACTIVATE, WM_CANCELMODE, WM_NCCREATE, WM_CREATE, WM_DESTROY, WM_NCDESTROY}
 use Rattle.win_num.specs.declared.send.Frame.TheVariants.{Inside as InsideFrame, Called as CalledFrame}
@@ -19,27 +22,31 @@ use Rattle.script_tree.specs.declared.statement.Statement.TheVariants.{Let, Comp
 use Rattle.script_tree.specs.declared.variables.Parameters.{Parameters}
 use Rattle.script_tree.specs.declared.variables.Variables.{Variables}
 use Rattle.script_tree.specs.declared.statement.CompoundStatement.{CompoundStatement}
-use Rattle.script_tree.specs.declared.statement.CompoundStatement.TheVariants.{PostAll, NotifyAll}
+use Rattle.script_tree.specs.declared.statement.CompoundStatement.TheVariants.{PostAll, NotifyAll, Pump, Dialog as DialogOf}
 use Rattle.script_tree.specs.declared.frame.Begin.{Begin}
+use Rattle.script_tree.specs.declared.frame.Dialog.{Dialog}
+use Rattle.script_tree.specs.declared.frame.Modal.{Modal}
+use Rattle.script_tree.specs.declared.frame.Modal.TheVariants.{Pump as PumpLoop, Dialog as DialogLoop}
 use Rattle.script_tree.specs.declared.frame.Notice.{Notice}
 use Rattle.script_tree.specs.declared.frame.Notices.{Notices}
 use Rattle.script_tree.specs.declared.frame.Broadcast.{Broadcast}
 use Rattle.script_tree.specs.declared.frame.Run.{Run}
 use Rattle.script_tree.specs.declared.frame.Place.{Place}
-use Rattle.script_tree.specs.declared.frame.Place.TheVariants.{Making as MakingWindow, Greeting, Telling, Undoing, Defaulting, Dooming, Unmaking as UnmakingPlace, Destroying, Parting, Dropping, Single, Calling, Notifying as NotifyingPlace, Seeking, Reaching}
+use Rattle.script_tree.specs.declared.frame.Place.TheVariants.{Making as MakingWindow, Greeting, Telling, Undoing, Defaulting, Dooming, Unmaking as UnmakingPlace, Destroying, Parting, Dropping, Single, Calling, Notifying as NotifyingPlace, Seeking, Reaching, Getting, Translating, Dispatching, Opening, Disabling, Asking, Requitting, Finishing, Enabling}
 use Rattle.script_tree.specs.declared.frame.Lead.{Lead}
-use Rattle.script_tree.specs.declared.frame.Lead.TheVariants.{Calls as CallsLead, Ends}
+use Rattle.script_tree.specs.declared.frame.Lead.TheVariants.{Calls as CallsLead, Runs as RunsLead, Ends}
 use Rattle.script_tree.specs.Tree.{Tree, body_of, procedure_of}
-use Rattle.script_tree.specs.Values.{value_of, holds, call_of, creation_call, time_after, start, inside_of, settled}
+use Rattle.script_tree.specs.Values.{value_of, holds, call_of, settling_call, dispatch_of, translate_of, creation_call, time_after, start, inside_of, settled}
+use Rattle.script_tree.specs.Modals.{turns, enabling, loop_ends, quits as quits_so, dispatches, handles, after_getting, dialog_on, opens as opens_so, after_opening, was_enabled, after_disabling, after_asking}
 use Rattle.script_tree.specs.Notices.{number_in, next_notice, others, notices_after, result_after}
 use Rattle.script_tree.specs.Compounds.{sent, undoes, validation, compound_begin, notice_call, notifies_by, notifies, after_calling, reach, reaches_or_ends, after_seeking, default_begin, default_result, after_making, after_greeting, kept_or_undone, after_telling, after_dooming, after_unmaking, after_default, compound_after}
 use Rattle.script_tree.specs.Pieces.{Piece, Lines, One, PassEnd, Making, Again, Giving, Settle, Quiet, Sleeping, Running, Leaving, Leaves, Left, Restore, Feed, State, Going, Returning, Given, Step, Becomes, Asks, Trace, End}
 use Rattle.script_tree.specs.Steps.{step, statement, begins, begun_over, returns_to, takes, leaving, default_pieces, is_callback, goes_on, sleeps as slept, passes, follows, following, given, answered, after_answer, is_last, parameters_of, run_of, variables_of}
 use Rattle.script_tree.specs.Traces.{Makes, over, silent, entry, cut, program, IsTrace}
-use Rattle.script_tree.specs.Rows.{Point, At, CutBefore, on, going, settling, giving, returning, restoring, defaulting, undone, ends_call, is_final, is_refusal, entered, called_back, end_of, ByRows, Part, Body, Line, Asleep, Calls, Frame, Exit, DefaultFor, Destruction, Doomed, Unmaking, Unmade, Created, Greeted, Told, Notifying, Notified, Sends, Broadcasts, Found, Thread, Rows, call_cut, after_cut, body_over, body, body_left, lets, computes, if_holds, if_fails, if_first, if_second, while_ends, while_left, while_cut, while_again, while_yields, returns, makes, sleeps, asleep_refused, asleep, defaults, destroys, creates, compounds, call_waits, call_enters, call_back, leave_back, call_inside, call_calls, call_begins, call_ends, frame, exit_returned, exit_callback, exit_default, default_close, default_paint, default_erase, default_activate, default_cancel, default_greeting, default_other, destruction, doom_refused, doomed, unmaking, unmade_tell, unmade_last, unmade_refused, unmade_gone, create_refused, create_none, created, greeted_no, greeted, told_refused, told_no, told, compound_part, notifying, notified_refused, notified, sends_over, sends_next, broadcasts, found_refused, found_none, found, thread}
+use Rattle.script_tree.specs.Rows.{Point, At, CutBefore, on, going, settling, giving, returning, restoring, defaulting, undone, concluding, ends_call, is_final, is_refusal, entered, called_back, end_of, ByRows, Part, Body, Line, Asleep, Calls, Frame, Exit, DefaultFor, Destruction, Doomed, Unmaking, Unmade, Created, Greeted, Told, Notifying, Notified, Sends, Broadcasts, Found, Fetches, Fetched, Hands, Closes, Opens, Opened, Disabled, Asks, Asked, Quits, Finishes, Thread, Rows, call_cut, after_cut, body_over, body, body_left, lets, computes, if_holds, if_fails, if_first, if_second, while_ends, while_left, while_cut, while_again, while_yields, returns, makes, sleeps, asleep_refused, asleep, defaults, destroys, creates, compounds, call_waits, call_enters, call_back, leave_back, call_inside, call_calls, call_begins, call_ends, frame, exit_returned, exit_callback, exit_default, default_close, default_paint, default_erase, default_activate, default_cancel, default_greeting, default_other, destruction, doom_refused, doomed, unmaking, unmade_tell, unmade_last, unmade_refused, unmade_gone, create_refused, create_none, created, greeted_no, greeted, told_refused, told_no, told, compound_part, notifying, notified_refused, notified, sends_over, sends_next, broadcasts, found_refused, found_none, found, loop_part, quit_part, fetches, fetched_refused, fetched_none, fetched_quit, fetched_key, fetched, hands, closes_pump, opens, opened_refused, opened_alone, opened, disabled, disabled_before, asks, asked_running, asked_finished, asked_refused, asked_gone, quits, finishes, closes_alone, closes_dialog, thread}
 use Rattle.script_tree.proofs.RowKinds.{IsGiven, IsReturned, IsRun, HasKind, kind, answering, answering_given, default_answered}
 use Rattle.script_tree.proofs.Numbers.{number_is, number_isnt}
-use Rattle.script_tree.proofs.RowSteps.{counted, uncounted, begins_with_first, close_result, paint_result, erase_result, activate_result, cancel_result, alone_result}
+use Rattle.script_tree.proofs.RowSteps.{counted, uncounted, close_result, paint_result, erase_result, activate_result, cancel_result, alone_result}
 use Rattle.script_tree.proofs.Defaults.{default_either, default_append, each_begin, PassesNone, no_begin, activates_number, activates_some, activates_not}
 
 -- the `yield` of a `while` sets nothing
@@ -90,6 +97,15 @@ CompoundRow s (Calling call) v a x tr out = Rows s (Notified call) (At (Given v 
 CompoundRow s (NotifyingPlace ns y) v a x tr out = Rows s (Sends ns y) (At (Going v)) tr out
 CompoundRow s (Seeking b) v a x tr out = Rows s (Found b) (At (Given v a x)) tr out
 CompoundRow s (Reaching b w) v a x tr out = Rows s (Broadcasts b w) (At (Going v)) tr out
+CompoundRow s (Getting l) v a x tr out = Rows s (Fetched l) (At (Given v a x)) tr out
+CompoundRow s (Translating l msg) v a x tr out = Rows s (Hands l msg) (At (Going v)) tr out
+CompoundRow s (Dispatching l) v a x tr out = Rows s (loop_part l) (At (Going v)) tr out
+CompoundRow s (Opening w) v a x tr out = Rows s (Opened w) (At (Given v a x)) tr out
+CompoundRow s (Disabling d) v a x tr out = Rows s (Disabled d) (At (Given v a x)) tr out
+CompoundRow s (Asking d) v a x tr out = Rows s (Asked d) (At (Given v a x)) tr out
+CompoundRow s (Requitting d) v a x tr out = Rows s (Finishes d) (At (Going v)) tr out
+CompoundRow s (Finishing d) v a x tr out = Rows s (Asks d) (At (Going v)) tr out
+CompoundRow s (Enabling b) v a x tr out = Maps (concluding b) (Given v a x) tr out
 CompoundRow s (Defaulting y) v a x tr out = Maps (defaulting y) (Given v a x) tr out
 
 -- one of two
@@ -349,16 +365,144 @@ module _ (s : Tree) where
   reached_at b w (Returning v x) m tr out k r = absurd k
   reached_at b w (Given v a x) m tr out k r = r
 
-  -- compounds that send messages, and those that go through the top-level windows
+  fetched_at : (l : Modal) (mid : State) (m : ℕ) (tr : Trace) (out : Point) → IsGiven (At mid) → RowOf s (Feed (Getting l)) mid m tr out → Rows s (Fetched l) (At mid) tr out
+  fetched_at l (Going v) m tr out k r = absurd k
+  fetched_at l (Returning v x) m tr out k r = absurd k
+  fetched_at l (Given v a x) m tr out k r = r
+
+  translated_at : (l : Modal) (msg : Msg) (mid : State) (m : ℕ) (tr : Trace) (out : Point) → IsGiven (At mid) → RowOf s (Feed (Translating l msg)) mid m tr out → Rows s (Hands l msg) (At (going mid)) tr out
+  translated_at l msg (Going v) m tr out k r = absurd k
+  translated_at l msg (Returning v x) m tr out k r = absurd k
+  translated_at l msg (Given v a x) m tr out k r = r
+
+  dispatched_at : (l : Modal) (mid : State) (m : ℕ) (tr : Trace) (out : Point) → IsGiven (At mid) → RowOf s (Feed (Dispatching l)) mid m tr out → Rows s (loop_part l) (At (going mid)) tr out
+  dispatched_at l (Going v) m tr out k r = absurd k
+  dispatched_at l (Returning v x) m tr out k r = absurd k
+  dispatched_at l (Given v a x) m tr out k r = r
+
+  opened_at : (w : ℕ) (mid : State) (m : ℕ) (tr : Trace) (out : Point) → IsGiven (At mid) → RowOf s (Feed (Opening w)) mid m tr out → Rows s (Opened w) (At mid) tr out
+  opened_at w (Going v) m tr out k r = absurd k
+  opened_at w (Returning v x) m tr out k r = absurd k
+  opened_at w (Given v a x) m tr out k r = r
+
+  disabled_at : (d : Dialog) (mid : State) (m : ℕ) (tr : Trace) (out : Point) → IsGiven (At mid) → RowOf s (Feed (Disabling d)) mid m tr out → Rows s (Disabled d) (At mid) tr out
+  disabled_at d (Going v) m tr out k r = absurd k
+  disabled_at d (Returning v x) m tr out k r = absurd k
+  disabled_at d (Given v a x) m tr out k r = r
+
+  asked_at : (d : Dialog) (mid : State) (m : ℕ) (tr : Trace) (out : Point) → IsGiven (At mid) → RowOf s (Feed (Asking d)) mid m tr out → Rows s (Asked d) (At mid) tr out
+  asked_at d (Going v) m tr out k r = absurd k
+  asked_at d (Returning v x) m tr out k r = absurd k
+  asked_at d (Given v a x) m tr out k r = r
+
+  requit_at : (d : Dialog) (mid : State) (m : ℕ) (tr : Trace) (out : Point) → IsGiven (At mid) → RowOf s (Feed (Requitting d)) mid m tr out → Rows s (Finishes d) (At (going mid)) tr out
+  requit_at d (Going v) m tr out k r = absurd k
+  requit_at d (Returning v x) m tr out k r = absurd k
+  requit_at d (Given v a x) m tr out k r = r
+
+  finished_at : (d : Dialog) (mid : State) (m : ℕ) (tr : Trace) (out : Point) → IsGiven (At mid) → RowOf s (Feed (Finishing d)) mid m tr out → Rows s (Asks d) (At (going mid)) tr out
+  finished_at d (Going v) m tr out k r = absurd k
+  finished_at d (Returning v x) m tr out k r = absurd k
+  finished_at d (Given v a x) m tr out k r = r
+
+  enabled_at : (b : Answer) (mid : State) (m : ℕ) (tr : Trace) (out : Point) → IsGiven (At mid) → RowOf s (Feed (Enabling b)) mid m tr out → Maps (concluding b) mid tr out
+  enabled_at b (Going v) m tr out k r = absurd k
+  enabled_at b (Returning v x) m tr out k r = absurd k
+  enabled_at b (Given v a x) m tr out k r = r
+
+  -- a compound that sends messages
   notifying_rows : (call : Call) (v : Variables) (n : ℕ) (tr : Trace) (out : Point) → Parts s (Making call ∷ Feed (Calling call) ∷ []) (Going v) n tr out → Rows s (Notifying call) (At (Going v)) tr out
   notifying_rows call v n tr out d = let r = call_first call (Feed (Calling call)) (Notified call) same v n tr out (notified_at call) d in notifying r.one (same_other r) r.all
 
+  -- dialogs
+  asks_rows : (d : Dialog) (v : Variables) (n : ℕ) (tr : Trace) (out : Point) → Parts s (Making (DialogState d.window) ∷ Feed (Asking d) ∷ []) (Going v) n tr out → Rows s (Asks d) (At (Going v)) tr out
+  asks_rows d v n tr out p = let r = call_first (DialogState d.window) (Feed (Asking d)) (Asked d) same v n tr out (asked_at d) p in asks r.one (same_other r) r.all
+
+  finishes_rows : (d : Dialog) (v : Variables) (n : ℕ) (tr : Trace) (out : Point) → Parts s (Making (EndDialog d.window 0) ∷ Feed (Finishing d) ∷ []) (Going v) n tr out → Rows s (Finishes d) (At (Going v)) tr out
+  finishes_rows d v n tr out p = let r = call_first (EndDialog d.window 0) (Feed (Finishing d)) (Asks d) going v n tr out (finished_at d) p in finishes r.one r.other r.all
+
+  quit_rows : (d : Dialog) (code : ℕ) (v : Variables) (n : ℕ) (tr : Trace) (out : Point) → Parts s (Making (PostQuit code) ∷ Feed (Requitting d) ∷ []) (Going v) n tr out → Rows s (Quits d code) (At (Going v)) tr out
+  quit_rows d code v n tr out p = let r = call_first (PostQuit code) (Feed (Requitting d)) (Finishes d) going v n tr out (requit_at d) p in quits r.one r.other r.all
+
+  opens_rows : (w : ℕ) (v : Variables) (n : ℕ) (tr : Trace) (out : Point) → Parts s (Making (BeginDialog w) ∷ Feed (Opening w) ∷ []) (Going v) n tr out → Rows s (Opens w) (At (Going v)) tr out
+  opens_rows w v n tr out p = let r = call_first (BeginDialog w) (Feed (Opening w)) (Opened w) same v n tr out (opened_at w) p in opens r.one (same_other r) r.all
+
+  -- with the compound that enables its owner, and with the one that disables it
+  enabling_rows : (w : ℕ) (b : Answer) (v : Variables) (n : ℕ) (tr : Trace) (out : Point) → Parts s (Making (Enable w 1) ∷ Feed (Calling (Enable w 1)) ∷ Feed (Enabling b) ∷ []) (Going v) n tr out → Mapped (λ tr out. Rows s (Notifying (Enable w 1)) (At (Going v)) tr out) (concluding b) tr out
+  enabling_rows w b v n tr out p =
+      mapped_of (Making (Enable w 1) ∷ Feed (Calling (Enable w 1)) ∷ []) (Feed (Enabling b)) (λ tr out. Rows s (Notifying (Enable w 1)) (At (Going v)) tr out) (concluding b) (Going v) n tr out (notifying_rows (Enable w 1) v n) (λ first mid m tr out r k. enabled_at b mid m tr out (kind s r) k) (divide (Making (Enable w 1) ∷ Feed (Calling (Enable w 1)) ∷ []) (Feed (Enabling b) ∷ []) p)
+
+  disabling_two : (w o : ℕ) (v : Variables) (n : ℕ) (tr : Trace) (out : Point) → Parts s (Making (Enable o 0) ∷ Feed (Calling (Enable o 0)) ∷ Feed (Disabling (dialog_on w o)) ∷ []) (Going v) n tr out → Two s (Notifying (Enable o 0)) (At (Going v)) (Disabled (dialog_on w o)) same tr out
+  disabling_two w o v n tr out p =
+      two_of (Making (Enable o 0) ∷ Feed (Calling (Enable o 0)) ∷ []) (Feed (Disabling (dialog_on w o)) ∷ []) (Notifying (Enable o 0)) (At (Going v)) (Disabled (dialog_on w o)) same (Going v) n tr out (notifying_rows (Enable o 0) v n) (λ mid m tr out k x. disabled_at (dialog_on w o) mid m tr out k (single x)) (divide (Making (Enable o 0) ∷ Feed (Calling (Enable o 0)) ∷ []) (Feed (Disabling (dialog_on w o)) ∷ []) p)
+
+  opens_lead : (w : ℕ) (v : Variables) (a : Answer) (x n : ℕ) → is_refusal a ≡ false → StepTo (Given v a x) n (λ tr out. Rows s (Opened w) (At (Given v a x)) tr out) (goes_on v (opens_so w (number_in a)))
+  opens_lead w v a x n g =
+      either_lead (Given v a x) n (λ tr out. Rows s (Opened w) (At (Given v a x)) tr out) v (number_in a == 0) (turns (DialogLoop (dialog_on w 0))) (RunsLead (enabling (number_in a) 0) (Disabling (dialog_on w (number_in a))))
+      (λ h tr out p. opened_alone g (number_is (number_in a) 0 h) (asks_rows (dialog_on w 0) v n tr out p))
+      (λ h tr out p. let r = disabling_two w (number_in a) v n tr out p in opened g (number_isnt (number_in a) 0 h) r.one (same_other r) r.all)
+
+  opening_rows : (w : ℕ) (v : Variables) (a : Answer) (x n : ℕ) → StepTo (Given v a x) n (λ tr out. Rows s (Opened w) (At (Given v a x)) tr out) (goes_on v (after_opening w a))
+  opening_rows w v (Refused code) x n = λ tr out p. empty (λ tr out. Rows s (Opened w) (At (Given v (Refused code) x)) tr out) (opened_refused refl) p
+  opening_rows w v a x n = opens_lead w v a x n refl
+
+  disabling_rows : (d : Dialog) (v : Variables) (a : Answer) (x n : ℕ) → StepTo (Given v a x) n (λ tr out. Rows s (Disabled d) (At (Given v a x)) tr out) (goes_on v (after_disabling d a))
+  disabling_rows d v a x n =
+      either_lead (Given v a x) n (λ tr out. Rows s (Disabled d) (At (Given v a x)) tr out) v (was_enabled a) (turns (DialogLoop d)) (turns (DialogLoop (dialog_on d.window 0)))
+      (λ h tr out p. disabled h (asks_rows d v n tr out p))
+      (λ h tr out p. disabled_before h (asks_rows (dialog_on d.window 0) v n tr out p))
+
+  -- loops of messages
+  fetches_rows : (l : Modal) (v : Variables) (n : ℕ) (tr : Trace) (out : Point) → Parts s (Making (Get 0 0 0) ∷ Feed (Getting l) ∷ []) (Going v) n tr out → Rows s (Fetches l) (At (Going v)) tr out
+  fetches_rows l v n tr out d = let r = call_first (Get 0 0 0) (Feed (Getting l)) (Fetched l) same v n tr out (fetched_at l) d in fetches r.one (same_other r) r.all
+
+  hands_rows : (l : Modal) (msg : Msg) (v : Variables) (n : ℕ) (tr : Trace) (out : Point) → Parts s (Making (dispatch_of msg) ∷ Feed (Dispatching l) ∷ []) (Going v) n tr out → Rows s (Hands l msg) (At (Going v)) tr out
+  hands_rows l msg v n tr out d = let r = call_first (dispatch_of msg) (Feed (Dispatching l)) (loop_part l) going v n tr out (dispatched_at l) d in hands r.one r.other r.all
+
+  turns_rows : (l : Modal) (v : Variables) (a : Answer) (x n : ℕ) → StepTo (Given v a x) n (λ tr out. Rows s (loop_part l) (At (Going v)) tr out) (goes_on v (turns l))
+  turns_rows PumpLoop v a x n = λ tr out d. fetches_rows PumpLoop v n tr out d
+  turns_rows (DialogLoop d) v a x n = λ tr out p. asks_rows d v n tr out p
+
+  closes_rows : (l : Modal) (b : Answer) (v : Variables) (a : Answer) (x n : ℕ) → StepTo (Given v a x) n (λ tr out. Rows s (Closes l b) (At (Going v)) tr out) (goes_on v (loop_ends l b))
+  closes_rows PumpLoop b v a x n = λ tr out d. empty (λ tr out. Rows s (Closes PumpLoop b) (At (Going v)) tr out) closes_pump d
+  closes_rows (DialogLoop d) b v a x n =
+      either_lead (Given v a x) n (λ tr out. Rows s (Closes (DialogLoop d) b) (At (Going v)) tr out) v (d.owner == 0) (Ends b) (RunsLead (enabling d.owner 1) (Enabling b))
+      (λ h tr out p. empty (λ tr out. Rows s (Closes (DialogLoop d) b) (At (Going v)) tr out) (closes_alone (number_is d.owner 0 h)) p)
+      (λ h tr out p. let r = enabling_rows d.owner b v n tr out p in closes_dialog (number_isnt d.owner 0 h) r.row r.result)
+
+  quits_rows : (l : Modal) (code : ℕ) (v : Variables) (a : Answer) (x n : ℕ) → StepTo (Given v a x) n (λ tr out. Rows s (quit_part l code) (At (Going v)) tr out) (goes_on v (quits_so l code))
+  quits_rows PumpLoop code v a x n = closes_rows PumpLoop (Value code) v a x n
+  quits_rows (DialogLoop d) code v a x n = λ tr out p. quit_rows d code v n tr out p
+
+  handles_rows : (l : Modal) (o : Origin) (number : ℕ) (msg : Msg) (v : Variables) (x n : ℕ) → msg.number ≢ WM_QUIT → StepTo (Given v (Got o number msg) x) n (λ tr out. Rows s (Fetched l) (At (Given v (Got o number msg) x)) tr out) (goes_on v (handles l msg))
+  handles_rows l o number msg v x n g =
+      either_lead (Given v (Got o number msg) x) n (λ tr out. Rows s (Fetched l) (At (Given v (Got o number msg) x)) tr out) v (msg.number == WM_KEYDOWN) (CallsLead (translate_of msg) (Translating l msg)) (dispatches l msg)
+      (λ h tr out d. let r = call_first (translate_of msg) (Feed (Translating l msg)) (Hands l msg) going v n tr out (translated_at l msg) d in fetched_key (number_is msg.number WM_KEYDOWN h) r.one r.other r.all)
+      (λ h tr out d. fetched g (number_isnt msg.number WM_KEYDOWN h) (hands_rows l msg v n tr out d))
+
+  getting_rows : (l : Modal) (v : Variables) (a : Answer) (x n : ℕ) → StepTo (Given v a x) n (λ tr out. Rows s (Fetched l) (At (Given v a x)) tr out) (goes_on v (after_getting l a))
+  getting_rows l v (Got o number msg) x n =
+      either_lead (Given v (Got o number msg) x) n (λ tr out. Rows s (Fetched l) (At (Given v (Got o number msg) x)) tr out) v (msg.number == WM_QUIT) (quits_so l msg.wparam) (handles l msg)
+      (λ h. step_maps (Given v (Got o number msg) x) n (λ tr out. Rows s (quit_part l msg.wparam) (At (Going v)) tr out) (λ tr out. Rows s (Fetched l) (At (Given v (Got o number msg) x)) tr out) (goes_on v (quits_so l msg.wparam)) (λ tr out r. fetched_quit (number_is msg.number WM_QUIT h) r) (quits_rows l msg.wparam v (Got o number msg) x n))
+      (λ h. handles_rows l o number msg v x n (number_isnt msg.number WM_QUIT h))
+  getting_rows l v (Refused code) x n = step_maps (Given v (Refused code) x) n (λ tr out. Rows s (Closes l (Refused code)) (At (Going v)) tr out) (λ tr out. Rows s (Fetched l) (At (Given v (Refused code) x)) tr out) (goes_on v (loop_ends l (Refused code))) (λ tr out r. fetched_refused refl r) (closes_rows l (Refused code) v (Refused code) x n)
+  getting_rows l v a x n = step_maps (Given v a x) n (λ tr out. Rows s (Closes l (Value 0)) (At (Going v)) tr out) (λ tr out. Rows s (Fetched l) (At (Given v a x)) tr out) (goes_on v (loop_ends l (Value 0))) (λ tr out r. fetched_none refl r) (closes_rows l (Value 0) v a x n)
+
+  asking_rows : (d : Dialog) (v : Variables) (a : Answer) (x n : ℕ) → StepTo (Given v a x) n (λ tr out. Rows s (Asked d) (At (Given v a x)) tr out) (goes_on v (after_asking d a))
+  asking_rows d v RunningDialog x n = λ tr out p. asked_running (fetches_rows (DialogLoop d) v n tr out p)
+  asking_rows d v (Finished y) x n = step_maps (Given v (Finished y) x) n (λ tr out. Rows s (Closes (DialogLoop d) (Value y)) (At (Going v)) tr out) (λ tr out. Rows s (Asked d) (At (Given v (Finished y) x)) tr out) (goes_on v (loop_ends (DialogLoop d) (Value y))) (λ tr out r. asked_finished r) (closes_rows (DialogLoop d) (Value y) v (Finished y) x n)
+  asking_rows d v (Refused code) x n = step_maps (Given v (Refused code) x) n (λ tr out. Rows s (Closes (DialogLoop d) (Refused code)) (At (Going v)) tr out) (λ tr out. Rows s (Asked d) (At (Given v (Refused code) x)) tr out) (goes_on v (loop_ends (DialogLoop d) (Refused code))) (λ tr out r. asked_refused refl r) (closes_rows (DialogLoop d) (Refused code) v (Refused code) x n)
+  asking_rows d v a x n = step_maps (Given v a x) n (λ tr out. Rows s (Closes (DialogLoop d) (Value 0)) (At (Going v)) tr out) (λ tr out. Rows s (Asked d) (At (Given v a x)) tr out) (goes_on v (loop_ends (DialogLoop d) (Value 0))) (λ tr out r. asked_gone refl r) (closes_rows (DialogLoop d) (Value 0) v a x n)
+
+  -- compounds that go through the top-level windows
   broadcasts_rows : (b : Broadcast) (w : ℕ) (v : Variables) (n : ℕ) (tr : Trace) (out : Point) → Parts s (Making (NextTop w) ∷ Feed (Seeking b) ∷ []) (Going v) n tr out → Rows s (Broadcasts b w) (At (Going v)) tr out
   broadcasts_rows b w v n tr out d = let r = call_first (NextTop w) (Feed (Seeking b)) (Found b) same v n tr out (found_at b) d in broadcasts r.one (same_other r) r.all
 
   part_rows : (c : CompoundStatement) (v : Variables) (n : ℕ) (tr : Trace) (out : Point) → Parts s (Making (compound_begin c v).call ∷ Feed (compound_begin c v).place ∷ []) (Going v) n tr out → Rows s (compound_part c v) (At (Going v)) tr out
   part_rows (PostAll m p q) v n tr out d = broadcasts_rows _ 0 v n tr out d
   part_rows (NotifyAll m p q) v n tr out d = broadcasts_rows _ 0 v n tr out d
+  part_rows Pump v n tr out d = fetches_rows PumpLoop v n tr out d
+  part_rows (DialogOf w) v n tr out d = opens_rows (value_of w v) v n tr out d
   part_rows c v n tr out d = notifying_rows _ v n tr out d
 
   notifies_rows : (o : Option Notice) (ns : Notices) (y : ℕ) (v : Variables) (a : Answer) (x n : ℕ) → next_notice ns ≡ o → StepTo (Given v a x) n (λ tr out. Rows s (Sends ns y) (At (Going v)) tr out) (goes_on v (notifies_by o (others ns) y))
@@ -523,6 +667,15 @@ module _ (s : Tree) where
   compound_rows (NotifyingPlace ns y) v a x n = notifies_rows (next_notice ns) ns y v a x n refl
   compound_rows (Seeking b) v a x n = seeking_rows b v a x n
   compound_rows (Reaching b w) v a x n = λ tr out d. broadcasts_rows b w v n tr out d
+  compound_rows (Getting l) v a x n = getting_rows l v a x n
+  compound_rows (Translating l msg) v a x n = λ tr out d. hands_rows l msg v n tr out d
+  compound_rows (Dispatching l) v a x n = turns_rows l v a x n
+  compound_rows (Opening w) v a x n = opening_rows w v a x n
+  compound_rows (Disabling d) v a x n = disabling_rows d v a x n
+  compound_rows (Asking d) v a x n = asking_rows d v a x n
+  compound_rows (Requitting d) v a x n = λ tr out p. finishes_rows d v n tr out p
+  compound_rows (Finishing d) v a x n = λ tr out p. asks_rows d v n tr out p
+  compound_rows (Enabling b) v a x n = λ tr out p. nothing p
   compound_rows (Defaulting y) v a x n = defaulted_rows y v a x n
 
   -- procedures
@@ -601,11 +754,11 @@ module _ (s : Tree) where
       let r = mapped_of (Making (Doom (value_of e v)) ∷ Feed (Dooming (value_of e v)) ∷ []) (Settle (Doom (value_of e v))) (λ tr out. Rows s (Destruction (value_of e v)) (At (Going v)) tr out) (settling (Doom (value_of e v))) (Going v) n tr out (destruction_rows (value_of e v) v n) (λ first mid m tr out q k. k) (divide (Making (Doom (value_of e v)) ∷ Feed (Dooming (value_of e v)) ∷ []) (Settle (Doom (value_of e v)) ∷ []) d) in
       destroys r.row r.result
 
-  compound_statement : (c : CompoundStatement) (v : Variables) (n : ℕ) (tr : Trace) (out : Point) → Parts s (Making (compound_begin c v).call ∷ Feed (compound_begin c v).place ∷ Settle (compound_begin c v).call ∷ []) (Going v) n tr out → Rows s (Line (CompoundOf c)) (At (Going v)) tr out
+  compound_statement : (c : CompoundStatement) (v : Variables) (n : ℕ) (tr : Trace) (out : Point) → Parts s (Making (compound_begin c v).call ∷ Feed (compound_begin c v).place ∷ Settle (settling_call c v) ∷ []) (Going v) n tr out → Rows s (Line (CompoundOf c)) (At (Going v)) tr out
   compound_statement c v n tr out d =
       let b = compound_begin c v in
-      let r = mapped_of (Making b.call ∷ Feed b.place ∷ []) (Settle b.call) (λ tr out. Rows s (compound_part c v) (At (Going v)) tr out) (settling b.call) (Going v) n tr out (part_rows c v n) (λ first mid m tr out q k. k) (divide (Making b.call ∷ Feed b.place ∷ []) (Settle b.call ∷ []) d) in
-      compounds r.row (r.result ∙ ap (λ x. on (settling x) r.got) (begins_with_first c v))
+      let r = mapped_of (Making b.call ∷ Feed b.place ∷ []) (Settle (settling_call c v)) (λ tr out. Rows s (compound_part c v) (At (Going v)) tr out) (settling (settling_call c v)) (Going v) n tr out (part_rows c v n) (λ first mid m tr out q k. k) (divide (Making b.call ∷ Feed b.place ∷ []) (Settle (settling_call c v) ∷ []) d) in
+      compounds r.row r.result
 
   default_statement : (v : Variables) (n : ℕ) (tr : Trace) (out : Point) → Parts s (default_pieces v.parameters (Settle (Doom v.parameters.hwnd) ∷ [])) (Going v) n tr out → Rows s (Line DefaultOf) (At (Going v)) tr out
   default_statement v n tr out d =

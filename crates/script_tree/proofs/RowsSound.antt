@@ -1,12 +1,13 @@
 -- Each trace by the rows is one of the table of steps.
 use Rattle.std.proofs.Common.{◌≡◌, ℕ, ◌+◌, suc, Bool, true, false, List, [], ◌∷◌, ◌++◌, length, refl, sym, ap, ◌∙◌, subst, append_assoc, append-nil, arith}
-use Rattle.std.specs.Prelude.{if◌then◌else◌, ◌==◌, Option, Some, None}
+use Rattle.std.specs.Prelude.{if◌then◌else◌, ◌==◌, None}
+use Rattle.win_num.specs.declared.message.Msg.{Msg}
 use Rattle.user_model.specs.declared.call.Call.{Call}
-use Rattle.user_model.specs.declared.call.Call.TheVariants.{Await, Leave, Doom, Unmake, Drop, NextTop, SetFocus, ReleaseCapture, Erase, Clock, SleepUntil, Yield, EndThread}
+use Rattle.user_model.specs.declared.call.Call.TheVariants.{Get, PostQuit, Enable, BeginDialog, DialogState, EndDialog, Await, Leave, Doom, Unmake, Drop, NextTop, SetFocus, ReleaseCapture, Erase, Clock, SleepUntil, Yield, EndThread}
 use Rattle.user_model.specs.declared.entry.Answer.{Answer}
-use Rattle.user_model.specs.declared.entry.Answer.TheVariants.{Wait, Value, Window as WindowMade, Called, Inside, Begun, Enter, Callback, Tell, Last, Refused}
+use Rattle.user_model.specs.declared.entry.Answer.TheVariants.{Wait, Value, Window as WindowMade, Called, Inside, Begun, Enter, Callback, Tell, Last, Running as RunningDialog, Finished, Got, Refused}
 use Rattle.user_model.specs.Stacks.{waits}
-use Rattle.script_tree.specs.declared.messages.TheConstants.{WM_PAINT, WM_ERASEBKGND, WM_CLOSE, WM_ACTIVATE, WM_CANCELMODE, WM_NCCREATE, WM_CREATE, WM_DESTROY, WM_NCDESTROY}
+use Rattle.script_tree.specs.declared.messages.TheConstants.{WM_NCCREATE, WM_CREATE, WM_DESTROY, WM_NCDESTROY}
 use Rattle.win_num.specs.declared.send.Frame.TheVariants.{Inside as InsideFrame, Called as CalledFrame}
 use Rattle.script_tree.specs.declared.operand.Test.{Test}
 use Rattle.script_tree.specs.declared.statement.Statement.{Statement, items-the_row-Statement}
@@ -14,25 +15,29 @@ use Rattle.script_tree.specs.declared.statement.Statement.TheVariants.{Let, Comp
 use Rattle.script_tree.specs.declared.variables.Parameters.{Parameters}
 use Rattle.script_tree.specs.declared.variables.Variables.{Variables}
 use Rattle.script_tree.specs.declared.statement.CompoundStatement.{CompoundStatement}
-use Rattle.script_tree.specs.declared.statement.CompoundStatement.TheVariants.{PostAll, NotifyAll}
+use Rattle.script_tree.specs.declared.statement.CompoundStatement.TheVariants.{PostAll, NotifyAll, Pump, Dialog as DialogOf}
 use Rattle.script_tree.specs.declared.frame.Begin.{Begin}
+use Rattle.script_tree.specs.declared.frame.Dialog.{Dialog}
+use Rattle.script_tree.specs.declared.frame.Modal.{Modal}
+use Rattle.script_tree.specs.declared.frame.Modal.TheVariants.{Pump as PumpLoop, Dialog as DialogLoop}
 use Rattle.script_tree.specs.declared.frame.Notices.{Notices}
 use Rattle.script_tree.specs.declared.frame.Broadcast.{Broadcast}
 use Rattle.script_tree.specs.declared.frame.Run.{Run}
 use Rattle.script_tree.specs.declared.frame.Place.{Place}
-use Rattle.script_tree.specs.declared.frame.Place.TheVariants.{Making as MakingWindow, Greeting, Telling, Undoing, Defaulting, Dooming, Unmaking as UnmakingPlace, Destroying, Parting, Dropping, Single, Calling, Notifying as NotifyingPlace, Seeking, Reaching}
+use Rattle.script_tree.specs.declared.frame.Place.TheVariants.{Making as MakingWindow, Greeting, Telling, Undoing, Defaulting, Dooming, Unmaking as UnmakingPlace, Destroying, Parting, Dropping, Single, Calling, Notifying as NotifyingPlace, Seeking, Reaching, Getting, Translating, Dispatching, Opening, Disabling, Asking, Requitting, Finishing, Enabling}
 use Rattle.script_tree.specs.declared.frame.Lead.TheVariants.{Calls as CallsLead, Runs as RunsLead, Ends}
 use Rattle.script_tree.specs.Tree.{Tree, body_of, procedure_of}
-use Rattle.script_tree.specs.Values.{value_of, computed, holds, assigned, call_of, creation_call, time_after, start, inside_of, settled}
-use Rattle.script_tree.specs.Notices.{number_in, next_notice, others, notices_after, result_after}
-use Rattle.script_tree.specs.Compounds.{sent, unmakes, validation, destruction as destruction_begin, cleaning, erasing, notifying as notifying_begin, compound_begin, notice_call, notifies, reach, default_begin, default_result, compound_after}
+use Rattle.script_tree.specs.Values.{value_of, computed, holds, assigned, call_of, settling_call, dispatch_of, translate_of, creation_call, time_after, start, inside_of, settled}
+use Rattle.script_tree.specs.Modals.{turns, enabling, loop_ends, quits as quits_so, dialog_on}
+use Rattle.script_tree.specs.Notices.{number_in, others, notices_after, result_after}
+use Rattle.script_tree.specs.Compounds.{sent, unmakes, validation, destruction as destruction_begin, cleaning, erasing, notifying as notifying_begin, compound_begin, notice_call, reach, default_begin, default_result, compound_after}
 use Rattle.script_tree.specs.Pieces.{Piece, Lines, One, PassEnd, Making, Again, Giving, Settle, Quiet, Sleeping, Running, Leaving, Leaves, Left, Restore, Feed, State, Going, Returning, Given, Becomes, Asks, Trace, End}
 use Rattle.script_tree.specs.Steps.{step, default_pieces, goes_on, sleeps as slept, passes, makes as calls_for, follows, following, given, answered, after_answer, is_last, parameters_of, run_of, variables_of}
 use Rattle.script_tree.specs.Traces.{Makes, over, silent, entry, cut, program, IsTrace}
-use Rattle.script_tree.specs.Rows.{Point, At, CutBefore, on, going, settling, giving, returning, restoring, defaulting, undone, ended, is_refusal, entered, called_back, end_of, ByRows, Part, Body, Line, Asleep, Calls, Frame, Exit, DefaultFor, Destruction, Doomed, Unmaking, Unmade, Created, Greeted, Told, Notifying, Notified, Sends, Broadcasts, Found, Thread, Rows, call_cut, after_cut, body_over, body, body_left, lets, computes, if_holds, if_fails, if_first, if_second, while_ends, while_left, while_cut, while_again, while_yields, returns, makes, sleeps, asleep_refused, asleep, defaults, destroys, creates, compounds, call_waits, call_enters, call_back, leave_back, call_inside, call_calls, call_begins, call_ends, frame, exit_returned, exit_callback, exit_default, default_close, default_paint, default_erase, default_activate, default_cancel, default_greeting, default_other, destruction, doom_refused, doomed, unmaking, unmade_tell, unmade_last, unmade_refused, unmade_gone, create_refused, create_none, created, greeted_no, greeted, told_refused, told_no, told, compound_part, notifying, notified_refused, notified, sends_over, sends_next, broadcasts, found_refused, found_none, found, thread}
+use Rattle.script_tree.specs.Rows.{Point, At, CutBefore, on, going, settling, giving, returning, restoring, defaulting, undone, concluding, ended, is_refusal, entered, called_back, end_of, ByRows, Part, Body, Line, Asleep, Calls, Frame, Exit, DefaultFor, Destruction, Doomed, Unmaking, Unmade, Created, Greeted, Told, Notifying, Notified, Sends, Broadcasts, Found, Fetches, Fetched, Hands, Closes, Opens, Opened, Disabled, Asks, Asked, Quits, Finishes, Thread, Rows, call_cut, after_cut, body_over, body, body_left, lets, computes, if_holds, if_fails, if_first, if_second, while_ends, while_left, while_cut, while_again, while_yields, returns, makes, sleeps, asleep_refused, asleep, defaults, destroys, creates, compounds, call_waits, call_enters, call_back, leave_back, call_inside, call_calls, call_begins, call_ends, frame, exit_returned, exit_callback, exit_default, default_close, default_paint, default_erase, default_activate, default_cancel, default_greeting, default_other, destruction, doom_refused, doomed, unmaking, unmade_tell, unmade_last, unmade_refused, unmade_gone, create_refused, create_none, created, greeted_no, greeted, told_refused, told_no, told, compound_part, notifying, notified_refused, notified, sends_over, sends_next, broadcasts, found_refused, found_none, found, loop_part, quit_part, fetches, fetched_refused, fetched_none, fetched_quit, fetched_key, fetched, hands, closes_pump, opens, opened_refused, opened_alone, opened, disabled, disabled_before, asks, asked_running, asked_finished, asked_refused, asked_gone, quits, finishes, closes_alone, closes_dialog, thread}
 use Rattle.script_tree.proofs.Defaults.{default_append, default_is, default_none, close_begins, paint_begins, erase_begins, activate_begins, cancel_begins, other_begins}
 use Rattle.script_tree.proofs.RowKinds.{IsGiven, IsReturned, IsRun, kind, answering, answering_given, default_answered}
-use Rattle.script_tree.proofs.RowSteps.{counted, uncounted, doom_goes, doom_ends, unmade_ends, unmade_done, made_ends, made_none, greeted_zero, greeted_more, telling_refused, telling_kept, kept_no, kept_yes, calling_ends, calling_goes, notifies_over, notifies_next, seeking_ends, seeking_none, seeking_next, begins_with_first, close_result, paint_result, erase_result, activate_result, cancel_result, other_result, greeting_result, final_follows, final_answered}
+use Rattle.script_tree.proofs.RowSteps.{counted, uncounted, doom_goes, doom_ends, unmade_ends, unmade_done, made_ends, made_none, greeted_zero, greeted_more, telling_refused, telling_kept, kept_no, kept_yes, calling_ends, calling_goes, notifies_over, notifies_next, seeking_ends, seeking_none, seeking_next, getting_ends, getting_none, getting_quit, getting_key, getting_other, opening_ends, opening_alone, opening_runs, disabling_enabled, disabling_other, asking_ends, asking_gone, closing_alone, closing_runs, close_result, paint_result, erase_result, activate_result, cancel_result, other_result, greeting_result, final_follows, final_answered}
 
 -- The pieces make the trace, up to that place: the table's relation with the state at its end.
 pub data Runs (s : Tree) : List Piece → State → ℕ → Trace → Point → Type 0 where
@@ -127,6 +132,11 @@ module _ (s : Tree) where
   defaulting_maps y (At st) n tr k = absurd k
   defaulting_maps y (CutBefore call) n tr k = (refl, refl)
 
+  enabling_maps : (b : Answer) (got : Point) (n : ℕ) (tr : Trace) → IsGiven got → Follow (Feed (Enabling b) ∷ []) n tr got [] (on (concluding b) got)
+  enabling_maps b (At (Given v a x)) n tr k = λ m e. passed (Feed (Enabling b)) (Given v a x) (Given v b 0) m refl
+  enabling_maps b (At st) n tr k = absurd k
+  enabling_maps b (CutBefore call) n tr k = (refl, refl)
+
   -- a piece that steps as another one has its traces
   same_step : (p q : Piece) (left : List Piece) (st st' : State) {n : ℕ} {tr : Trace} {out : Point} → ((n : ℕ) → step s p st n ≡ step s q st' n) → variables_of st ≡ variables_of st' → Runs s (p ∷ left) st n tr out → Runs s (q ∷ left) st' n tr out
   same_step p q left st st' {n} e f (runs_silent ps st'' h d) = runs_silent ps st'' (sym (e n) ∙ h) d
@@ -170,6 +180,17 @@ module _ (s : Tree) where
   Sound (Sends ns y) st n tr out = (a : Answer) (x : ℕ) → Runs s (Feed (NotifyingPlace ns y) ∷ []) (Given (variables_of st) a x) n tr out
   Sound (Broadcasts b w) st n tr out = Runs s (Making (NextTop w) ∷ Feed (Seeking b) ∷ []) st n tr out
   Sound (Found b) st n tr out = Runs s (Feed (Seeking b) ∷ []) st n tr out
+  Sound (Fetches l) st n tr out = Runs s (Making (Get 0 0 0) ∷ Feed (Getting l) ∷ []) st n tr out
+  Sound (Fetched l) st n tr out = Runs s (Feed (Getting l) ∷ []) st n tr out
+  Sound (Hands l msg) st n tr out = Runs s (Making (dispatch_of msg) ∷ Feed (Dispatching l) ∷ []) st n tr out
+  Sound (Closes l b) st n tr out = (q : Place) (a : Answer) (x : ℕ) → compound_after q a x ≡ loop_ends l b → Runs s (Feed q ∷ []) (Given (variables_of st) a x) n tr out
+  Sound (Opens w) st n tr out = Runs s (Making (BeginDialog w) ∷ Feed (Opening w) ∷ []) st n tr out
+  Sound (Opened w) st n tr out = Runs s (Feed (Opening w) ∷ []) st n tr out
+  Sound (Disabled d) st n tr out = Runs s (Feed (Disabling d) ∷ []) st n tr out
+  Sound (Asks d) st n tr out = Runs s (Making (DialogState d.window) ∷ Feed (Asking d) ∷ []) st n tr out
+  Sound (Asked d) st n tr out = Runs s (Feed (Asking d) ∷ []) st n tr out
+  Sound (Quits d code) st n tr out = Runs s (Making (PostQuit code) ∷ Feed (Requitting d) ∷ []) st n tr out
+  Sound (Finishes d) st n tr out = Runs s (Making (EndDialog d.window 0) ∷ Feed (Finishing d) ∷ []) st n tr out
   Sound (Thread t) st n tr out = Runs s (program s t) st n tr out
 
   -- after that place, whatever the number of entries is
@@ -232,10 +253,44 @@ module _ (s : Tree) where
   ahead_seek b w n first (At st) second out g k = absurd g
   ahead_seek b w n first (CutBefore c) second out g k = k
 
+  -- a loop of messages goes on
+  turn_feeds : (l : Modal) (q : Place) (v : Variables) (a : Answer) (x n : ℕ) (tr : Trace) (out : Point) → compound_after q a x ≡ turns l → Sound (loop_part l) (Going v) n tr out → Runs s (Feed q ∷ []) (Given v a x) n tr out
+  turn_feeds PumpLoop q v a x n tr out h d = feeds q v a x (Get 0 0 0) (Getting PumpLoop) n tr out h d
+  turn_feeds (DialogLoop d) q v a x n tr out h r = feeds q v a x (DialogState d.window) (Asking d) n tr out h r
+
+  ahead_turn : (l : Modal) (n : ℕ) (first : Trace) (mid : Point) (second : Trace) (out : Point) → IsGiven mid → Meaning (loop_part l) (on going mid) second out → Follow (Feed (Dispatching l) ∷ []) n first mid second out
+  ahead_turn l n first (At (Given v a x)) second out g k = λ m e. turn_feeds l (Dispatching l) v a x m second out refl (k m)
+  ahead_turn l n first (At st) second out g k = absurd g
+  ahead_turn l n first (CutBefore c) second out g k = k
+
+  -- WM_QUIT comes
+  quit_feeds : (l : Modal) (code : ℕ) (q : Place) (v : Variables) (a : Answer) (x n : ℕ) (tr : Trace) (out : Point) → compound_after q a x ≡ quits_so l code → Sound (quit_part l code) (Going v) n tr out → Runs s (Feed q ∷ []) (Given v a x) n tr out
+  quit_feeds PumpLoop code q v a x n tr out h d = d q a x h
+  quit_feeds (DialogLoop d) code q v a x n tr out h r = feeds q v a x (PostQuit code) (Requitting d) n tr out h r
+
+  -- the message of a key goes to its window's procedure
+  ahead_hands : (l : Modal) (msg : Msg) (n : ℕ) (first : Trace) (mid : Point) (second : Trace) (out : Point) → IsGiven mid → Meaning (Hands l msg) (on going mid) second out → Follow (Feed (Translating l msg) ∷ []) n first mid second out
+  ahead_hands l msg n first (At (Given v a x)) second out g k = λ m e. feeds (Translating l msg) v a x (dispatch_of msg) (Dispatching l) m second out refl (k m)
+  ahead_hands l msg n first (At st) second out g k = absurd g
+  ahead_hands l msg n first (CutBefore c) second out g k = k
+
+  -- a dialog behind its `post_quit`, and behind its `end_dialog`
+  ahead_finishes : (d : Dialog) (n : ℕ) (first : Trace) (mid : Point) (second : Trace) (out : Point) → IsGiven mid → Meaning (Finishes d) (on going mid) second out → Follow (Feed (Requitting d) ∷ []) n first mid second out
+  ahead_finishes d n first (At (Given v a x)) second out g k = λ m e. feeds (Requitting d) v a x (EndDialog d.window 0) (Finishing d) m second out refl (k m)
+  ahead_finishes d n first (At st) second out g k = absurd g
+  ahead_finishes d n first (CutBefore c) second out g k = k
+
+  ahead_asks : (d : Dialog) (n : ℕ) (first : Trace) (mid : Point) (second : Trace) (out : Point) → IsGiven mid → Meaning (Asks d) (on going mid) second out → Follow (Feed (Finishing d) ∷ []) n first mid second out
+  ahead_asks d n first (At (Given v a x)) second out g k = λ m e. feeds (Finishing d) v a x (DialogState d.window) (Asking d) m second out refl (k m)
+  ahead_asks d n first (At st) second out g k = absurd g
+  ahead_asks d n first (CutBefore c) second out g k = k
+
   -- the pieces of a compound statement
   part_runs : (c : CompoundStatement) (v : Variables) (n : ℕ) (tr : Trace) (out : Point) → Sound (compound_part c v) (Going v) n tr out → Runs s (Making (compound_begin c v).call ∷ Feed (compound_begin c v).place ∷ []) (Going v) n tr out
   part_runs (PostAll m p q) v n tr out d = d
   part_runs (NotifyAll m p q) v n tr out d = d
+  part_runs Pump v n tr out d = d
+  part_runs (DialogOf w) v n tr out d = d
   part_runs c v n tr out d = d
 
   while_step : (t : Test) (k : _) (a : _) (v : Variables) (n : ℕ) → holds t v ≡ true → step s (One (While' t k a)) (Going v) n ≡ Becomes (Lines (items-the_row-Statement _ a) ∷ PassEnd (While' t k a) n ∷ []) (Going v)
@@ -341,8 +396,8 @@ module _ (s : Tree) where
       (both (Making (creation_call c v) ∷ []) (Feed MakingWindow ∷ []) (Going v) n tr first second mid got (sound d n) (ahead (Feed MakingWindow ∷ []) n first mid second got (sound e)) f) (settle_maps (creation_call c v)) g)
   sound (compounds {c} {v} {tr} {got} {out} d f) = λ n.
       let b = compound_begin c v in
-      becomes (One (CompoundOf c)) (Making b.call ∷ Feed b.place ∷ Settle b.call ∷ []) (Going v) (Going v) n tr out refl
-      (maps (Making b.call ∷ Feed b.place ∷ []) (Settle b.call) (settling b.call) (Going v) n tr got out (part_runs c v n tr got (sound d n)) (settle_maps b.call) (f ∙ ap (λ x. on (settling x) got) (sym (begins_with_first c v))))
+      becomes (One (CompoundOf c)) (Making b.call ∷ Feed b.place ∷ Settle (settling_call c v) ∷ []) (Going v) (Going v) n tr out refl
+      (maps (Making b.call ∷ Feed b.place ∷ []) (Settle (settling_call c v)) (settling (settling_call c v)) (Going v) n tr got out (part_runs c v n tr got (sound d n)) (settle_maps (settling_call c v)) f)
   sound (call_waits {call} {v} {tr} {out} d) = λ n. answers call Wait (Making call ∷ []) v (Going v) n tr out refl refl (sound d (suc n))
   sound (call_enters {call} {v} {sid} {proc_no} {number} {wparam} {lparam} {w} {tr} {first} {second} {mid} {out} h d e f) = λ n.
       answers call (Enter sid proc_no w number wparam lparam) (Running (entered sid proc_no w.0 number wparam lparam) ∷ Again call ∷ []) v (Going v) n tr out
@@ -451,6 +506,43 @@ module _ (s : Tree) where
   sound (found {b} {x} {v} {a} {tr} {first} {second} {mid} {out} h g d e f) = λ n.
       feeds (Seeking b) v a x (reach b (number_in a)) (Reaching b (number_in a)) n tr out (seeking_next b a h g)
       (both (Making (reach b (number_in a)) ∷ []) (Feed (Reaching b (number_in a)) ∷ []) (Going v) n tr first second mid out (sound d n) (ahead_seek b (number_in a) n first mid second out (kind s d) (sound e)) f)
+  sound (fetches {l} {v} {tr} {first} {second} {got} {out} d e f) = λ n.
+      both (Making (Get 0 0 0) ∷ []) (Feed (Getting l) ∷ []) (Going v) n tr first second got out (sound d n) (ahead (Feed (Getting l) ∷ []) n first got second out (sound e)) f
+  sound (fetched_refused {l} {x} {v} {a} h d) = λ n. sound d n (Getting l) a x (getting_ends l a h)
+  sound (fetched_none {l} {x} {v} {a} h d) = λ n. sound d n (Getting l) a x (getting_none l a h)
+  sound (fetched_quit {l} {o} {number} {x} {msg} {v} {tr} {out} h d) = λ n. quit_feeds l msg.wparam (Getting l) v (Got o number msg) x n tr out (getting_quit l o number msg h) (sound d n)
+  sound (fetched_key {l} {o} {number} {x} {msg} {v} {tr} {first} {second} {mid} {out} h d e f) = λ n.
+      feeds (Getting l) v (Got o number msg) x (translate_of msg) (Translating l msg) n tr out (getting_key l o number msg h)
+      (both (Making (translate_of msg) ∷ []) (Feed (Translating l msg) ∷ []) (Going v) n tr first second mid out (sound d n) (ahead_hands l msg n first mid second out (kind s d) (sound e)) f)
+  sound (fetched {l} {o} {number} {x} {msg} {v} {tr} {out} h g d) = λ n.
+      feeds (Getting l) v (Got o number msg) x (dispatch_of msg) (Dispatching l) n tr out (getting_other l o number msg h g) (sound d n)
+  sound (hands {l} {msg} {v} {tr} {first} {second} {mid} {out} d e f) = λ n.
+      both (Making (dispatch_of msg) ∷ []) (Feed (Dispatching l) ∷ []) (Going v) n tr first second mid out (sound d n) (ahead_turn l n first mid second out (kind s d) (sound e)) f
+  sound (closes_pump {a} {v}) = λ n q b x h. feed_ends q v b a x n h
+  sound (opens {w} {v} {tr} {first} {second} {got} {out} d e f) = λ n.
+      both (Making (BeginDialog w) ∷ []) (Feed (Opening w) ∷ []) (Going v) n tr first second got out (sound d n) (ahead (Feed (Opening w) ∷ []) n first got second out (sound e)) f
+  sound (opened_refused {w} {x} {v} {a} h) = λ n. feed_ends (Opening w) v a a x n (opening_ends w a h)
+  sound (opened_alone {w} {x} {v} {a} {tr} {out} h g d) = λ n. feeds (Opening w) v a x (DialogState w) (Asking (dialog_on w 0)) n tr out (opening_alone w a h g) (sound d n)
+  sound (opened {w} {x} {v} {a} {tr} {first} {second} {got} {out} h g d e f) = λ n.
+      let o = number_in a in
+      feed_runs (Opening w) v a x (enabling o 0) (Disabling (dialog_on w o)) n tr out (opening_runs w a h g)
+      (both (Making (Enable o 0) ∷ Feed (Calling (Enable o 0)) ∷ []) (Feed (Disabling (dialog_on w o)) ∷ []) (Going v) n tr first second got out (sound d n) (ahead (Feed (Disabling (dialog_on w o)) ∷ []) n first got second out (sound e)) f)
+  sound (disabled {d} {x} {v} {a} {tr} {out} h r) = λ n. feeds (Disabling d) v a x (DialogState d.window) (Asking d) n tr out (disabling_enabled d a h) (sound r n)
+  sound (disabled_before {d} {x} {v} {a} {tr} {out} h r) = λ n. feeds (Disabling d) v a x (DialogState d.window) (Asking (dialog_on d.window 0)) n tr out (disabling_other d a h) (sound r n)
+  sound (asks {d} {v} {tr} {first} {second} {got} {out} r e f) = λ n.
+      both (Making (DialogState d.window) ∷ []) (Feed (Asking d) ∷ []) (Going v) n tr first second got out (sound r n) (ahead (Feed (Asking d) ∷ []) n first got second out (sound e)) f
+  sound (asked_running {d} {x} {v} {tr} {out} r) = λ n. feeds (Asking d) v RunningDialog x (Get 0 0 0) (Getting (DialogLoop d)) n tr out refl (sound r n)
+  sound (asked_finished {d} {result} {x} {v} r) = λ n. sound r n (Asking d) (Finished result) x refl
+  sound (asked_refused {d} {x} {v} {a} h r) = λ n. sound r n (Asking d) a x (asking_ends d a h)
+  sound (asked_gone {d} {x} {v} {a} h r) = λ n. sound r n (Asking d) a x (asking_gone d a h)
+  sound (quits {d} {code} {v} {tr} {first} {second} {mid} {out} r e f) = λ n.
+      both (Making (PostQuit code) ∷ []) (Feed (Requitting d) ∷ []) (Going v) n tr first second mid out (sound r n) (ahead_finishes d n first mid second out (kind s r) (sound e)) f
+  sound (finishes {d} {v} {tr} {first} {second} {mid} {out} r e f) = λ n.
+      both (Making (EndDialog d.window 0) ∷ []) (Feed (Finishing d) ∷ []) (Going v) n tr first second mid out (sound r n) (ahead_asks d n first mid second out (kind s r) (sound e)) f
+  sound (closes_alone {d} {a} {v} h) = λ n q b x g. feed_ends q v b a x n (g ∙ closing_alone d a h)
+  sound (closes_dialog {d} {a} {v} {tr} {got} {out} h r f) = λ n q b x g.
+      feed_runs q v b x (enabling d.owner 1) (Enabling a) n tr out (g ∙ closing_runs d a h)
+      (then_maps (Making (Enable d.owner 1) ∷ Feed (Calling (Enable d.owner 1)) ∷ []) (Feed (Enabling a)) (concluding a) (Going v) n tr got out (sound r n) (enabling_maps a got n tr (kind s r)) f)
   sound (thread {t} {tr} {first} {second} {mid} {out} d e f) = λ n.
       both (Lines (body_of s t) ∷ []) (Making EndThread ∷ []) (Going start) n tr first second mid out (sound d n) (ahead_end n first mid second out (kind s d) (sound e)) f
 

@@ -2,13 +2,14 @@
 use Rattle.std.specs.Prelude.{ℕ, pos, ◌==◌, Bool, not, ◌&&◌, if◌then◌else◌, Option, Some, None}
 use Rattle.script_tree.specs.declared.messages.TheConstants.{WM_PAINT, WM_ERASEBKGND, WM_CLOSE, WM_ACTIVATE, WM_CANCELMODE, WM_NCCREATE, WM_CREATE, WM_DESTROY, WM_NCDESTROY}
 use Rattle.user_model.specs.declared.call.Call.{Call}
-use Rattle.user_model.specs.declared.call.Call.TheVariants.{Post, Send, SendNotify, Doom, Unmake, Drop, NextTop, SetFocus, ReleaseCapture, Validate, Erase}
+use Rattle.user_model.specs.declared.call.Call.TheVariants.{BeginDialog, Get, Post, Send, SendNotify, Doom, Unmake, Drop, NextTop, SetFocus, ReleaseCapture, Validate, Erase}
 use Rattle.user_model.specs.declared.entry.Answer.{Answer}
 use Rattle.user_model.specs.declared.entry.Answer.TheVariants.{Value, Window as WindowMade, Tell, Last, Refused}
 use Rattle.script_tree.specs.declared.variables.Parameters.{Parameters}
 use Rattle.script_tree.specs.declared.frame.Begin.{Begin}
 use Rattle.script_tree.specs.declared.frame.Place.{Place}
-use Rattle.script_tree.specs.declared.frame.Place.TheVariants.{Making, Greeting, Telling, Undoing, Dooming, Unmaking, Destroying, Parting, Dropping, Single, Calling, Notifying, Seeking, Reaching, Defaulting}
+use Rattle.script_tree.specs.declared.frame.Place.TheVariants.{Making, Greeting, Telling, Undoing, Dooming, Unmaking, Destroying, Parting, Dropping, Single, Calling, Notifying, Seeking, Reaching, Getting, Translating, Dispatching, Opening, Disabling, Asking, Requitting, Finishing, Enabling, Defaulting}
+use Rattle.script_tree.specs.declared.frame.Modal.TheVariants.{Pump as PumpLoop, Dialog as DialogLoop}
 use Rattle.script_tree.specs.declared.frame.Notice.{Notice}
 use Rattle.script_tree.specs.declared.frame.Notices.{Notices}
 use Rattle.script_tree.specs.declared.frame.Spread.{Spread}
@@ -17,8 +18,9 @@ use Rattle.script_tree.specs.declared.frame.Broadcast.{Broadcast}
 use Rattle.script_tree.specs.declared.frame.Lead.{Lead}
 use Rattle.script_tree.specs.declared.frame.Lead.TheVariants.{Calls, Runs, Ends}
 use Rattle.script_tree.specs.declared.statement.CompoundStatement.{CompoundStatement}
-use Rattle.script_tree.specs.declared.statement.CompoundStatement.TheVariants.{PostAll, NotifyAll}
+use Rattle.script_tree.specs.declared.statement.CompoundStatement.TheVariants.{PostAll, NotifyAll, Pump, Dialog as DialogOf}
 use Rattle.script_tree.specs.declared.variables.Variables.{Variables}
+use Rattle.script_tree.specs.Modals.{turns, dispatches, after_getting, after_opening, after_disabling, after_asking, finishes}
 use Rattle.script_tree.specs.Notices.{number_in, next_notice, others, notices_after, result_after}
 use Rattle.script_tree.specs.Values.{value_of, first_call}
 
@@ -58,10 +60,20 @@ broadcasting b = record { call = NextTop 0; place = Seeking b }
 abbrev pub broadcast : Spread → ℕ → ℕ → ℕ → Broadcast
 broadcast way number p q = record { spread = way; number = number; wparam = p; lparam = q }
 
+-- `pump` begins with `get`
+abbrev pub pumping : Begin
+pumping = record { call = Get 0 0 0; place = Getting PumpLoop }
+
+-- `dialog` begins with `begin_dialog`
+abbrev pub dialog_begin : ℕ → Begin
+dialog_begin w = record { call = BeginDialog w; place = Opening w }
+
 -- how a compound statement begins
 abbrev pub compound_begin : CompoundStatement → Variables → Begin
 compound_begin (PostAll m p q) v = broadcasting (broadcast Posts (value_of m v) (value_of p v) (value_of q v))
 compound_begin (NotifyAll m p q) v = broadcasting (broadcast Notifies (value_of m v) (value_of p v) (value_of q v))
+compound_begin Pump v = pumping
+compound_begin (DialogOf w) v = dialog_begin (value_of w v)
 compound_begin c v = notifying (first_call c v)
 
 -- whether the message makes its window the active one
@@ -175,4 +187,13 @@ compound_after (Calling call) a x = after_calling call a
 compound_after (Notifying n y) a x = notifies n y
 compound_after (Seeking b) a x = after_seeking b a
 compound_after (Reaching b w) a x = seeks b w
+compound_after (Getting m) a x = after_getting m a
+compound_after (Translating m msg) a x = dispatches m msg
+compound_after (Dispatching m) a x = turns m
+compound_after (Opening w) a x = after_opening w a
+compound_after (Disabling d) a x = after_disabling d a
+compound_after (Asking d) a x = after_asking d a
+compound_after (Requitting d) a x = finishes d
+compound_after (Finishing d) a x = turns (DialogLoop d)
+compound_after (Enabling b) a x = Ends b
 compound_after (Defaulting y) a x = after_default y a

@@ -1,4 +1,5 @@
 pub mod Compounds
+pub mod Modals
 pub mod Notices
 pub mod Pieces
 pub mod Rows

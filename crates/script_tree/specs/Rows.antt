@@ -2,12 +2,15 @@
 use Rattle.std.specs.Prelude.{◌≡◌, ◌≢◌, ℕ, not, Bool, true, false, if◌then◌else◌, List, [], ◌∷◌, ◌++◌, Some, None}
 use Rattle.script_tree.specs.declared.messages.TheConstants.{WM_PAINT, WM_ERASEBKGND, WM_CLOSE, WM_ACTIVATE, WM_CANCELMODE, WM_NCCREATE, WM_CREATE, WM_DESTROY, WM_NCDESTROY}
 use Rattle.win_num.specs.declared.message.Hwnd.{Hwnd}
+use Rattle.win_num.specs.declared.message.Msg.{Msg}
+use Rattle.win_num.specs.declared.names.TheConstants.{WM_QUIT, WM_KEYDOWN}
 use Rattle.win_num.specs.declared.send.SendId.{SendId}
 use Rattle.win_num.specs.declared.send.Frame.TheVariants.{Entered, Inside as InsideFrame, Called as CalledFrame, CallbackRun}
 use Rattle.user_model.specs.declared.call.Call.{Call}
-use Rattle.user_model.specs.declared.call.Call.TheVariants.{Await, Leave, Doom, Unmake, Drop, NextTop, SetFocus, ReleaseCapture, Erase, Clock, SleepUntil, Yield, EndThread}
+use Rattle.user_model.specs.declared.call.Call.TheVariants.{Get, PostQuit, Enable, BeginDialog, DialogState, EndDialog, Await, Leave, Doom, Unmake, Drop, NextTop, SetFocus, ReleaseCapture, Erase, Clock, SleepUntil, Yield, EndThread}
 use Rattle.user_model.specs.declared.entry.Answer.{Answer}
-use Rattle.user_model.specs.declared.entry.Answer.TheVariants.{Wait, Value, Window as WindowMade, Called, Inside, Begun, Enter, Callback, Tell, Last, Refused}
+use Rattle.user_model.specs.declared.entry.Answer.TheVariants.{Wait, Value, Window as WindowMade, Called, Inside, Begun, Enter, Callback, Tell, Last, Running, Finished, Got, Refused}
+use Rattle.user_model.specs.declared.entry.Origin.{Origin}
 use Rattle.user_model.specs.Stacks.{leaves, waits}
 use Rattle.script_tree.specs.declared.operand.Letter.{Letter}
 use Rattle.script_tree.specs.declared.operand.Operand.{Operand}
@@ -15,20 +18,24 @@ use Rattle.script_tree.specs.declared.operand.Operator.{Operator}
 use Rattle.script_tree.specs.declared.operand.Test.{Test}
 use Rattle.script_tree.specs.declared.statement.CallStatement.{CallStatement}
 use Rattle.script_tree.specs.declared.statement.CompoundStatement.{CompoundStatement}
-use Rattle.script_tree.specs.declared.statement.CompoundStatement.TheVariants.{PostAll, NotifyAll}
+use Rattle.script_tree.specs.declared.statement.CompoundStatement.TheVariants.{PostAll, NotifyAll, Pump, Dialog as DialogOf}
 use Rattle.script_tree.specs.declared.statement.Creation.{Creation}
 use Rattle.script_tree.specs.declared.statement.Statement.{Statement, items-the_row-Statement}
 use Rattle.script_tree.specs.declared.statement.Statement.TheVariants.{Let, Compute, If', IfElse', While', Return, Call as CallOf, Sleep, Create, Destroy, Compound as CompoundOf, Default}
 use Rattle.script_tree.specs.declared.variables.Parameters.{Parameters}
 use Rattle.script_tree.specs.declared.variables.Variables.{Variables}
 use Rattle.script_tree.specs.declared.frame.Run.{Run}
+use Rattle.script_tree.specs.declared.frame.Dialog.{Dialog}
+use Rattle.script_tree.specs.declared.frame.Modal.{Modal}
+use Rattle.script_tree.specs.declared.frame.Modal.TheVariants.{Pump as PumpLoop, Dialog as DialogLoop}
 use Rattle.script_tree.specs.declared.frame.Notice.{Notice}
 use Rattle.script_tree.specs.declared.frame.Notices.{Notices}
 use Rattle.script_tree.specs.declared.frame.Broadcast.{Broadcast}
 use Rattle.script_tree.specs.declared.frame.Spread.TheVariants.{Posts, Notifies}
+use Rattle.script_tree.specs.Modals.{dialog_on, was_enabled}
 use Rattle.script_tree.specs.Notices.{number_in, next_notice, others, notices_after, result_after}
 use Rattle.script_tree.specs.Tree.{Tree, body_of, procedure_of}
-use Rattle.script_tree.specs.Values.{value_of, computed, holds, assigned, call_of, first_call, creation_call, time_after, start, inside_of, received, settled}
+use Rattle.script_tree.specs.Values.{value_of, computed, holds, assigned, call_of, first_call, settling_call, dispatch_of, translate_of, creation_call, time_after, start, inside_of, received, settled}
 use Rattle.script_tree.specs.Compounds.{sent, validation, notice_call, broadcast, reach, default_result}
 use Rattle.script_tree.specs.Pieces.{State, Going, Returning, Given, Trace, End, Whole, Cut}
 use Rattle.script_tree.specs.Steps.{is_callback, is_last, parameters_from, parameters_of, run_of, result_of, variables_of}
@@ -117,6 +124,24 @@ is_undone (Last w) = true
 is_undone (Refused code) = true
 is_undone _ = false
 
+-- whether an answer to `get` is a message or a refusal
+abbrev pub is_fetched : Answer → Bool
+is_fetched (Got origin number msg) = true
+is_fetched (Refused code) = true
+is_fetched _ = false
+
+-- whether an answer to `dialog_state` tells that the dialog runs or its result, or is a refusal
+abbrev pub is_standing : Answer → Bool
+is_standing Running = true
+is_standing (Finished v) = true
+is_standing (Refused code) = true
+is_standing _ = false
+
+-- a dialog ends with that answer, whatever became of its owner
+abbrev pub concluding : Answer → State → State
+concluding b (Given v a x) = Given v b 0
+concluding b st = st
+
 -- the procedure of a send that is entered
 abbrev pub entered : SendId → ℕ → ℕ → ℕ → ℕ → ℕ → Run
 entered s proc_no w number wparam lparam = run_of proc_no (parameters_from w number wparam lparam) (Entered s)
@@ -165,13 +190,47 @@ pub data Part : Type 0 where
   Broadcasts : Broadcast → ℕ → Part
   -- the same, behind the `next_top` that asks for the first of them
   Found : Broadcast → Part
+  -- a loop of messages, from one of its `get` on
+  Fetches : Modal → Part
+  -- the same, behind that `get`
+  Fetched : Modal → Part
+  -- the same, with a message that goes to its window's procedure
+  Hands : Modal → Msg → Part
+  -- the same, where the loop is over with that answer
+  Closes : Modal → Answer → Part
+  -- a dialog on that window
+  Opens : ℕ → Part
+  -- the same, behind its `begin_dialog`
+  Opened : ℕ → Part
+  -- the same, behind the compound that disables its owner
+  Disabled : Dialog → Part
+  -- the same, from one of its `dialog_state` on
+  Asks : Dialog → Part
+  -- the same, behind that `dialog_state`
+  Asked : Dialog → Part
+  -- the same, where WM_QUIT came with that code
+  Quits : Dialog → ℕ → Part
+  -- the same, behind the `post_quit` for that
+  Finishes : Dialog → Part
   -- a thread
   Thread : ℕ → Part
 
--- a compound statement of a message for each top-level window begins above no window; any other makes its call and sends messages
+-- where a loop of messages goes on
+abbrev pub loop_part : Modal → Part
+loop_part PumpLoop = Fetches PumpLoop
+loop_part (DialogLoop d) = Asks d
+
+-- what a loop does with a WM_QUIT of that code: `pump` is over, and the code is its result; a dialog posts it once more
+abbrev pub quit_part : Modal → ℕ → Part
+quit_part PumpLoop code = Closes PumpLoop (Value code)
+quit_part (DialogLoop d) code = Quits d code
+
+-- a compound statement of a message for each top-level window begins above no window, `pump` with its loop, and `dialog` on its window; any other makes its call and sends messages
 abbrev pub compound_part : CompoundStatement → Variables → Part
 compound_part (PostAll m p q) v = Broadcasts (broadcast Posts (value_of m v) (value_of p v) (value_of q v)) 0
 compound_part (NotifyAll m p q) v = Broadcasts (broadcast Notifies (value_of m v) (value_of p v) (value_of q v)) 0
+compound_part Pump v = loop_part PumpLoop
+compound_part (DialogOf w) v = Opens (value_of w v)
 compound_part c v = Notifying (first_call c v)
 
 -- The part has that trace, from the place before it to the place after it.
@@ -225,7 +284,7 @@ pub data Rows (s : Tree) : Part → Point → Trace → Point → Type 0 where
   -- `create`: `new_window`, and then the rest of the `create`, which sets r and err at its end
   creates : {c : Creation} {v : Variables} {tr first second : Trace} {mid got out : Point} → Rows s (Calls (creation_call c v)) (At (Going v)) first mid → Rows s Created mid second got → tr ≡ first ++ second → out ≡ on (settling (creation_call c v)) got → Rows s (Line (Create c)) (At (Going v)) tr out
   -- one of the other compound statements, which sets r and err at its end
-  compounds : {c : CompoundStatement} {v : Variables} {tr : Trace} {got out : Point} → Rows s (compound_part c v) (At (Going v)) tr got → out ≡ on (settling (first_call c v)) got → Rows s (Line (CompoundOf c)) (At (Going v)) tr out
+  compounds : {c : CompoundStatement} {v : Variables} {tr : Trace} {got out : Point} → Rows s (compound_part c v) (At (Going v)) tr got → out ≡ on (settling (settling_call c v)) got → Rows s (Line (CompoundOf c)) (At (Going v)) tr out
   -- an attempt that is told to wait, and then the same call
   call_waits : {call : Call} {v : Variables} {tr : Trace} {out : Point} → Rows s (Calls call) (At (Going v)) tr out → Rows s (Calls call) (At (Going v)) ((call, Wait) ∷ tr) out
   -- an attempt that is entered: the procedure of the send, and then the same call
@@ -314,6 +373,52 @@ pub data Rows (s : Tree) : Part → Point → Trace → Point → Type 0 where
   found_none : {b : Broadcast} {x : ℕ} {v : Variables} {a : Answer} → is_refusal a ≡ false → number_in a ≡ 0 → Rows s (Found b) (At (Given v a x)) [] (ended v (Value 1))
   -- the message goes to the window, whatever becomes of it, and then to those above
   found : {b : Broadcast} {x : ℕ} {v : Variables} {a : Answer} {tr first second : Trace} {mid out : Point} → is_refusal a ≡ false → number_in a ≢ 0 → Rows s (Calls (reach b (number_in a))) (At (Going v)) first mid → Rows s (Broadcasts b (number_in a)) (on going mid) second out → tr ≡ first ++ second → Rows s (Found b) (At (Given v a x)) tr out
+  -- a loop of messages: `get`, and then what comes
+  fetches : {l : Modal} {v : Variables} {tr first second : Trace} {got out : Point} → Rows s (Calls (Get 0 0 0)) (At (Going v)) first got → Rows s (Fetched l) got second out → tr ≡ first ++ second → Rows s (Fetches l) (At (Going v)) tr out
+  -- a refused `get` ends it
+  fetched_refused : {l : Modal} {x : ℕ} {v : Variables} {a : Answer} {tr : Trace} {out : Point} → is_refusal a ≡ true → Rows s (Closes l a) (At (Going v)) tr out → Rows s (Fetched l) (At (Given v a x)) tr out
+  -- with an answer that isn't one of `get` it ends with 0
+  fetched_none : {l : Modal} {x : ℕ} {v : Variables} {a : Answer} {tr : Trace} {out : Point} → is_fetched a ≡ false → Rows s (Closes l (Value 0)) (At (Going v)) tr out → Rows s (Fetched l) (At (Given v a x)) tr out
+  -- WM_QUIT comes
+  fetched_quit : {l : Modal} {o : Origin} {number x : ℕ} {msg : Msg} {v : Variables} {tr : Trace} {out : Point} → msg.number ≡ WM_QUIT → Rows s (quit_part l msg.wparam) (At (Going v)) tr out → Rows s (Fetched l) (At (Given v (Got o number msg) x)) tr out
+  -- a key goes down: `translate`, whatever becomes of that, and then the message goes to its window's procedure
+  fetched_key : {l : Modal} {o : Origin} {number x : ℕ} {msg : Msg} {v : Variables} {tr first second : Trace} {mid out : Point} → msg.number ≡ WM_KEYDOWN → Rows s (Calls (translate_of msg)) (At (Going v)) first mid → Rows s (Hands l msg) (on going mid) second out → tr ≡ first ++ second → Rows s (Fetched l) (At (Given v (Got o number msg) x)) tr out
+  -- any other message goes there at once
+  fetched : {l : Modal} {o : Origin} {number x : ℕ} {msg : Msg} {v : Variables} {tr : Trace} {out : Point} → msg.number ≢ WM_QUIT → msg.number ≢ WM_KEYDOWN → Rows s (Hands l msg) (At (Going v)) tr out → Rows s (Fetched l) (At (Given v (Got o number msg) x)) tr out
+  -- `dispatch`, whatever becomes of it, and then the loop goes on
+  hands : {l : Modal} {msg : Msg} {v : Variables} {tr first second : Trace} {mid out : Point} → Rows s (Calls (dispatch_of msg)) (At (Going v)) first mid → Rows s (loop_part l) (on going mid) second out → tr ≡ first ++ second → Rows s (Hands l msg) (At (Going v)) tr out
+  -- `pump` ends with the answer of its loop
+  closes_pump : {a : Answer} {v : Variables} → Rows s (Closes PumpLoop a) (At (Going v)) [] (ended v a)
+  -- a dialog: `begin_dialog`, and then the rest
+  opens : {w : ℕ} {v : Variables} {tr first second : Trace} {got out : Point} → Rows s (Calls (BeginDialog w)) (At (Going v)) first got → Rows s (Opened w) got second out → tr ≡ first ++ second → Rows s (Opens w) (At (Going v)) tr out
+  -- a refused `begin_dialog` ends it
+  opened_refused : {w x : ℕ} {v : Variables} {a : Answer} → is_refusal a ≡ true → Rows s (Opened w) (At (Given v a x)) [] (ended v a)
+  -- without an owner its loop begins
+  opened_alone : {w x : ℕ} {v : Variables} {a : Answer} {tr : Trace} {out : Point} → is_refusal a ≡ false → number_in a ≡ 0 → Rows s (Asks (dialog_on w 0)) (At (Going v)) tr out → Rows s (Opened w) (At (Given v a x)) tr out
+  -- else the owner is disabled as by `enable_window`, and then its loop begins
+  opened : {w x : ℕ} {v : Variables} {a : Answer} {tr first second : Trace} {got out : Point} → is_refusal a ≡ false → number_in a ≢ 0 → Rows s (Notifying (Enable (number_in a) 0)) (At (Going v)) first got → Rows s (Disabled (dialog_on w (number_in a))) got second out → tr ≡ first ++ second → Rows s (Opened w) (At (Given v a x)) tr out
+  -- an owner that had been enabled is enabled again after it
+  disabled : {d : Dialog} {x : ℕ} {v : Variables} {a : Answer} {tr : Trace} {out : Point} → was_enabled a ≡ true → Rows s (Asks d) (At (Going v)) tr out → Rows s (Disabled d) (At (Given v a x)) tr out
+  -- any other isn't
+  disabled_before : {d : Dialog} {x : ℕ} {v : Variables} {a : Answer} {tr : Trace} {out : Point} → was_enabled a ≡ false → Rows s (Asks (dialog_on d.window 0)) (At (Going v)) tr out → Rows s (Disabled d) (At (Given v a x)) tr out
+  -- the loop of a dialog: `dialog_state`, and then what that tells
+  asks : {d : Dialog} {v : Variables} {tr first second : Trace} {got out : Point} → Rows s (Calls (DialogState d.window)) (At (Going v)) first got → Rows s (Asked d) got second out → tr ≡ first ++ second → Rows s (Asks d) (At (Going v)) tr out
+  -- while it runs a message is got
+  asked_running : {d : Dialog} {x : ℕ} {v : Variables} {tr : Trace} {out : Point} → Rows s (Fetches (DialogLoop d)) (At (Going v)) tr out → Rows s (Asked d) (At (Given v Running x)) tr out
+  -- its result ends the loop
+  asked_finished : {d : Dialog} {result x : ℕ} {v : Variables} {tr : Trace} {out : Point} → Rows s (Closes (DialogLoop d) (Value result)) (At (Going v)) tr out → Rows s (Asked d) (At (Given v (Finished result) x)) tr out
+  -- a refused `dialog_state` ends it
+  asked_refused : {d : Dialog} {x : ℕ} {v : Variables} {a : Answer} {tr : Trace} {out : Point} → is_refusal a ≡ true → Rows s (Closes (DialogLoop d) a) (At (Going v)) tr out → Rows s (Asked d) (At (Given v a x)) tr out
+  -- with `gone`, and with an answer that isn't one of `dialog_state`, it ends with 0
+  asked_gone : {d : Dialog} {x : ℕ} {v : Variables} {a : Answer} {tr : Trace} {out : Point} → is_standing a ≡ false → Rows s (Closes (DialogLoop d) (Value 0)) (At (Going v)) tr out → Rows s (Asked d) (At (Given v a x)) tr out
+  -- WM_QUIT in a dialog: `post_quit` with its code, whatever becomes of that
+  quits : {d : Dialog} {code : ℕ} {v : Variables} {tr first second : Trace} {mid out : Point} → Rows s (Calls (PostQuit code)) (At (Going v)) first mid → Rows s (Finishes d) (on going mid) second out → tr ≡ first ++ second → Rows s (Quits d code) (At (Going v)) tr out
+  -- then `end_dialog` with the result 0, whatever becomes of that, and the loop goes on
+  finishes : {d : Dialog} {v : Variables} {tr first second : Trace} {mid out : Point} → Rows s (Calls (EndDialog d.window 0)) (At (Going v)) first mid → Rows s (Asks d) (on going mid) second out → tr ≡ first ++ second → Rows s (Finishes d) (At (Going v)) tr out
+  -- a dialog whose owner isn't to be enabled ends with the answer of its loop
+  closes_alone : {d : Dialog} {a : Answer} {v : Variables} → d.owner ≡ 0 → Rows s (Closes (DialogLoop d) a) (At (Going v)) [] (ended v a)
+  -- any other enables its owner as by `enable_window`, whatever becomes of that, and then ends so
+  closes_dialog : {d : Dialog} {a : Answer} {v : Variables} {tr : Trace} {got out : Point} → d.owner ≢ 0 → Rows s (Notifying (Enable d.owner 1)) (At (Going v)) tr got → out ≡ on (concluding a) got → Rows s (Closes (DialogLoop d) a) (At (Going v)) tr out
   -- a thread: its statements from variables of zeros on, and then `end_thread`
   thread : {t : ℕ} {tr first second : Trace} {mid out : Point} → Rows s (Body (body_of s t)) (At (Going start)) first mid → Rows s (Calls EndThread) (on going mid) second out → tr ≡ first ++ second → Rows s (Thread t) (At (Going start)) tr out
 

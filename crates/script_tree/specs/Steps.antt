@@ -5,7 +5,7 @@ use Rattle.win_num.specs.declared.send.Frame.TheVariants.{Entered, Inside as Ins
 use Rattle.user_model.specs.declared.call.Call.{Call}
 use Rattle.user_model.specs.declared.call.Call.TheVariants.{Dispatch, Send, SendTimeout, SendNotify, SendCallback, Await, Leave, Doom, Clock, SleepUntil, Yield, EndThread}
 use Rattle.user_model.specs.declared.entry.Answer.{Answer}
-use Rattle.user_model.specs.declared.entry.Answer.TheVariants.{Okay, Ended, Nothing, Wait, Stuck, Gone, Value, Window as WindowMade, Was, Posted, Input, Called, Inside, Begun, Left as LeftOf, Tell, Last, Advanced, Busy, Update, Painting, Snap, Enter, Callback, Done, Got, Refused}
+use Rattle.user_model.specs.declared.entry.Answer.TheVariants.{Okay, Ended, Nothing, Wait, Stuck, Gone, Running as RunningDialog, Finished, Value, Window as WindowMade, Was, Posted, Input, Called, Inside, Begun, Left as LeftOf, Tell, Last, Advanced, Busy, Update, Painting, Snap, Enter, Callback, Done, Got, Refused}
 use Rattle.user_model.specs.Stacks.{leaves, waits}
 use Rattle.script_tree.specs.declared.statement.Statement.{Statement, items-the_row-Statement}
 use Rattle.script_tree.specs.declared.statement.Statement.TheVariants.{Let, Compute, If', IfElse', While', Return, Call as CallOf, Sleep, Create, Destroy, Compound as CompoundOf, Default as DefaultOf}
@@ -17,7 +17,7 @@ use Rattle.script_tree.specs.declared.frame.Place.TheVariants.{Defaulting}
 use Rattle.script_tree.specs.declared.frame.Lead.{Lead}
 use Rattle.script_tree.specs.declared.frame.Lead.TheVariants.{Calls, Runs, Ends}
 use Rattle.script_tree.specs.Tree.{Tree, procedure_of}
-use Rattle.script_tree.specs.Values.{value_of, computed, holds, assigned, call_of, creation_call, time_after, no_parameters, inside_of, received, settled}
+use Rattle.script_tree.specs.Values.{value_of, computed, holds, assigned, call_of, settling_call, creation_call, time_after, no_parameters, inside_of, received, settled}
 use Rattle.script_tree.specs.Compounds.{creation, destruction, compound_begin, default_begin, default_result, compound_after}
 use Rattle.script_tree.specs.Pieces.{Piece, Lines, One, PassEnd, Making, Again, Giving, Settle, Quiet, Sleeping, Running, Leaving, Leaves, Left, Restore, Feed, State, Going, Returning, Given, Step, Becomes, Asks}
 
@@ -54,7 +54,7 @@ statement (CallOf ask) v n = makes (call_of ask v) v
 statement (Sleep e) v n = Becomes (Making Clock ∷ Sleeping (value_of e v) ∷ []) (Going v)
 statement (Create c) v n = Becomes (begun_over (creation (creation_call c v)) (Settle (creation_call c v) ∷ [])) (Going v)
 statement (Destroy e) v n = Becomes (begun_over (destruction (value_of e v)) (Settle (Doom (value_of e v)) ∷ [])) (Going v)
-statement (CompoundOf c) v n = Becomes (begun_over (compound_begin c v) (Settle (compound_begin c v).call ∷ [])) (Going v)
+statement (CompoundOf c) v n = Becomes (begun_over (compound_begin c v) (Settle (settling_call c v) ∷ [])) (Going v)
 statement DefaultOf v n = Becomes (default_pieces v.parameters (Settle (Doom v.parameters.hwnd) ∷ [])) (Going v)
 
 -- whether the frame is that of a callback procedure
@@ -142,6 +142,8 @@ result_of Nothing = 0
 result_of Wait = 0
 result_of Stuck = 0
 result_of Gone = 0
+result_of RunningDialog = 0
+result_of (Finished n) = 0
 result_of (WindowMade w) = 0
 result_of (Was w) = 0
 result_of (Posted number) = 0

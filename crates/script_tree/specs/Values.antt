@@ -5,9 +5,9 @@ use Rattle.win_num.specs.declared.message.Msg.{Msg}
 use Rattle.win_num.specs.Codes.{number_of}
 use Rattle.name_table.specs.Constants.{constant_values}
 use Rattle.user_model.specs.declared.call.Call.{Call}
-use Rattle.user_model.specs.declared.call.Call.TheVariants.{Place, Show, Enable, SetFocus, SetActive, SetCapture, ReleaseCapture, BeginPaint, Peek, Get, Post, PostThread, PostQuit, Status, Dispatch, Translate, Send, SendTimeout, SendNotify, SendCallback, Reply, InSend, Message as MessageCall, Register, Unregister, NewWindow, Find, AwaitTitle, NextTop, WindowAt, IsWindow, Parent, GetFocus, GetActive, GetCapture, Attach, Detach, Mouse, Key, KeyState, Invalidate, Validate, UpdateRect, EndPaint, Fill, Snap, SetTimer, KillTimer, Clock, Yield}
+use Rattle.user_model.specs.declared.call.Call.TheVariants.{BeginDialog, EndDialog, Place, Show, Enable, SetFocus, SetActive, SetCapture, ReleaseCapture, BeginPaint, Peek, Get, Post, PostThread, PostQuit, Status, Dispatch, Translate, Send, SendTimeout, SendNotify, SendCallback, Reply, InSend, Message as MessageCall, Register, Unregister, NewWindow, Find, AwaitTitle, NextTop, WindowAt, IsWindow, Parent, GetFocus, GetActive, GetCapture, Attach, Detach, Mouse, Key, KeyState, Invalidate, Validate, UpdateRect, EndPaint, Fill, Snap, SetTimer, KillTimer, Clock, Yield}
 use Rattle.user_model.specs.declared.entry.Answer.{Answer}
-use Rattle.user_model.specs.declared.entry.Answer.TheVariants.{Okay, Ended, Nothing, Wait, Stuck, Gone, Value, Window as WindowAnswer, Was, Posted, Input, Called, Inside, Begun, Left, Tell, Last, Advanced, Busy, Update, Painting, Snap as SnapAnswer, Enter, Callback, Done, Got, Refused}
+use Rattle.user_model.specs.declared.entry.Answer.TheVariants.{Okay, Ended, Nothing, Wait, Stuck, Gone, Running, Finished, Value, Window as WindowAnswer, Was, Posted, Input, Called, Inside, Begun, Left, Tell, Last, Advanced, Busy, Update, Painting, Snap as SnapAnswer, Enter, Callback, Done, Got, Refused}
 use Rattle.win_num.specs.declared.send.Cause.{Cause}
 use Rattle.win_num.specs.declared.send.Cause.TheVariants.{Loss, Timeout}
 use Rattle.script_tree.specs.declared.operand.Letter.{Letter}
@@ -22,9 +22,9 @@ use Rattle.script_tree.specs.declared.operand.Comparison.{Comparison}
 use Rattle.script_tree.specs.declared.operand.Comparison.TheVariants.{Equal, Different, Below}
 use Rattle.script_tree.specs.declared.operand.Test.{Test}
 use Rattle.script_tree.specs.declared.statement.CallStatement.{CallStatement}
-use Rattle.script_tree.specs.declared.statement.CallStatement.TheVariants.{Peek as PeekStatement, Get as GetStatement, Post as PostStatement, PostThread as PostThreadStatement, PostQuit as PostQuitStatement, Status as StatusStatement, Dispatch as DispatchStatement, Translate as TranslateStatement, Send as SendStatement, SendTimeout as SendTimeoutStatement, SendNotify as SendNotifyStatement, SendCallback as SendCallbackStatement, Reply as ReplyStatement, InSend as InSendStatement, Message as MessageStatement, Register as RegisterStatement, Unregister as UnregisterStatement, IsWindow as IsWindowStatement, Parent as ParentStatement, NextTop as NextTopStatement, Find as FindStatement, AwaitTitle as AwaitTitleStatement, WindowAt as WindowAtStatement, GetFocus as GetFocusStatement, GetActive as GetActiveStatement, GetCapture as GetCaptureStatement, Attach as AttachStatement, Detach as DetachStatement, Mouse as MouseStatement, Key as KeyStatement, KeyState as KeyStateStatement, Invalidate as InvalidateStatement, Validate as ValidateStatement, UpdateRect as UpdateRectStatement, EndPaint as EndPaintStatement, Fill as FillStatement, Snap as SnapStatement, SetTimer as SetTimerStatement, KillTimer as KillTimerStatement, Clock as ClockStatement, Yield as YieldStatement}
+use Rattle.script_tree.specs.declared.statement.CallStatement.TheVariants.{Peek as PeekStatement, Get as GetStatement, Post as PostStatement, PostThread as PostThreadStatement, PostQuit as PostQuitStatement, Status as StatusStatement, Dispatch as DispatchStatement, Translate as TranslateStatement, Send as SendStatement, SendTimeout as SendTimeoutStatement, SendNotify as SendNotifyStatement, SendCallback as SendCallbackStatement, Reply as ReplyStatement, InSend as InSendStatement, Message as MessageStatement, Register as RegisterStatement, Unregister as UnregisterStatement, IsWindow as IsWindowStatement, Parent as ParentStatement, NextTop as NextTopStatement, Find as FindStatement, AwaitTitle as AwaitTitleStatement, WindowAt as WindowAtStatement, GetFocus as GetFocusStatement, GetActive as GetActiveStatement, GetCapture as GetCaptureStatement, Attach as AttachStatement, Detach as DetachStatement, Mouse as MouseStatement, Key as KeyStatement, KeyState as KeyStateStatement, EndDialog as EndDialogStatement, Invalidate as InvalidateStatement, Validate as ValidateStatement, UpdateRect as UpdateRectStatement, EndPaint as EndPaintStatement, Fill as FillStatement, Snap as SnapStatement, SetTimer as SetTimerStatement, KillTimer as KillTimerStatement, Clock as ClockStatement, Yield as YieldStatement}
 use Rattle.script_tree.specs.declared.statement.CompoundStatement.{CompoundStatement}
-use Rattle.script_tree.specs.declared.statement.CompoundStatement.TheVariants.{ShowWindow, EnableWindow, SetWindowPos, SetFocus as SetFocusStatement, SetActive as SetActiveStatement, SetCapture as SetCaptureStatement, ReleaseCapture as ReleaseCaptureStatement, BeginPaint as BeginPaintStatement, UpdateWindow, PostAll, NotifyAll}
+use Rattle.script_tree.specs.declared.statement.CompoundStatement.TheVariants.{ShowWindow, EnableWindow, SetWindowPos, SetFocus as SetFocusStatement, SetActive as SetActiveStatement, SetCapture as SetCaptureStatement, ReleaseCapture as ReleaseCaptureStatement, BeginPaint as BeginPaintStatement, UpdateWindow, PostAll, NotifyAll, Pump, Dialog as DialogStatement}
 use Rattle.script_tree.specs.declared.statement.Creation.{Creation}
 use Rattle.script_tree.specs.declared.variables.Letters.{Letters}
 use Rattle.script_tree.specs.declared.variables.Parameters.{Parameters}
@@ -126,6 +126,7 @@ call_of (DetachStatement t u) v = Detach (value_of t v) (value_of u v)
 call_of (MouseStatement m x y) v = Mouse (value_of m v) (edge_of x v) (edge_of y v)
 call_of (KeyStatement down k) v = Key (value_of down v) (value_of k v)
 call_of (KeyStateStatement k) v = KeyState (value_of k v)
+call_of (EndDialogStatement w x) v = EndDialog (value_of w v) (value_of x v)
 call_of (InvalidateStatement w l t r b erase) v = Invalidate (value_of w v) (edge_of l v) (edge_of t v) (edge_of r v) (edge_of b v) (value_of erase v)
 call_of (ValidateStatement w l t r b) v = Validate (value_of w v) (edge_of l v) (edge_of t v) (edge_of r v) (edge_of b v)
 call_of (UpdateRectStatement w) v = UpdateRect (value_of w v)
@@ -152,7 +153,7 @@ IsRectangle (ValidateStatement w l t r b) = Unit {0}
 IsRectangle (FillStatement w l t r b colour) = Unit {0}
 IsRectangle _ = ⊥
 
--- a statement about focus, active window, capture, attached threads, the mouse or keys
+-- a statement about focus, active window, capture, attached threads, the mouse, keys or dialogs
 abbrev pub IsOfInput : CallStatement → Type 0
 IsOfInput GetFocusStatement = Unit {0}
 IsOfInput GetActiveStatement = Unit {0}
@@ -162,6 +163,7 @@ IsOfInput (DetachStatement t u) = Unit {0}
 IsOfInput (MouseStatement m x y) = Unit {0}
 IsOfInput (KeyStatement down k) = Unit {0}
 IsOfInput (KeyStateStatement k) = Unit {0}
+IsOfInput (EndDialogStatement w x) = Unit {0}
 IsOfInput TranslateStatement = Unit {0}
 IsOfInput _ = ⊥
 
@@ -196,6 +198,13 @@ first_call (BeginPaintStatement w) v = BeginPaint (value_of w v)
 first_call (UpdateWindow w) v = UpdateRect (value_of w v)
 first_call (PostAll m p q) v = NextTop 0
 first_call (NotifyAll m p q) v = NextTop 0
+first_call Pump v = Get 0 0 0
+first_call (DialogStatement w) v = BeginDialog (value_of w v)
+
+-- the call by which the end of a compound statement sets r and err: its first one, but a refused `pump` gives 0, and not what a refused `get` does
+abbrev pub settling_call : CompoundStatement → Variables → Call
+settling_call Pump v = Dispatch 0 0 0 0
+settling_call c v = first_call c v
 
 -- the call that makes the window of a `create`
 abbrev pub creation_call : Creation → Variables → Call
@@ -283,6 +292,8 @@ settled v call Ended x = resulting v 1 0
 settled v call Wait x = resulting v 1 0
 settled v call Stuck x = resulting v 1 0
 settled v call Gone x = resulting v 1 0
+settled v call Running x = resulting v 1 0
+settled v call (Finished n) x = resulting v 1 0
 settled v call (Posted number) x = resulting v 1 0
 settled v call (Input number) x = resulting v 1 0
 settled v call (Begun s) x = resulting v 1 0

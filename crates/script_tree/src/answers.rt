@@ -13,6 +13,7 @@ pub fn result_of(answer: &Answer) -> u64
         Answer::Value(value) => *value,
         Answer::Done { result, .. } => *result,
         Answer::Okay | Answer::Ended | Answer::Nothing | Answer::Wait => 0,
+        Answer::Running | Answer::Finished(_) => 0,
         Answer::Stuck | Answer::Gone | Answer::Window(_) | Answer::Was(_) => 0,
         Answer::Posted(_) | Answer::Input(_) => 0,
         Answer::Called(_) | Answer::Inside(_, _) | Answer::Begun(_) | Answer::Left(_) => 0,

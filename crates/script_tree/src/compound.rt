@@ -1,12 +1,15 @@
 //! How compound statements begin, and where they go on.
 
 ghost use Rattle.std.specs.Prelude.{◌≡◌};
-ghost use Rattle.script_tree.specs.Compounds.{sent as sent_of, creation as creation_of, destruction as destruction_of, cleaning as cleaning_of, erasing as erasing_of, notifying as notifying_of, broadcasting as broadcasting_of, activates as activates_of, default_begin, default_result as default_of, undoes as undoes_of, unmakes as unmakes_of, compound_after, after_making as making_leads, after_greeting as greeting_leads, after_telling as telling_leads, after_dooming as dooming_leads, after_unmaking as unmaking_leads, after_default as default_leads, notice_call, reach as reach_of, notifies as notifies_of, after_calling as calling_leads, after_seeking as seeking_leads, seeks as seeks_of};
+ghost use Rattle.script_tree.specs.Compounds.{sent as sent_of, creation as creation_of, destruction as destruction_of, cleaning as cleaning_of, erasing as erasing_of, notifying as notifying_of, broadcasting as broadcasting_of, activates as activates_of, default_begin, default_result as default_of, undoes as undoes_of, unmakes as unmakes_of, compound_after, after_making as making_leads, after_greeting as greeting_leads, after_telling as telling_leads, after_dooming as dooming_leads, after_unmaking as unmaking_leads, after_default as default_leads, notice_call, reach as reach_of, notifies as notifies_of, after_calling as calling_leads, after_seeking as seeking_leads, seeks as seeks_of, pumping as pumping_of, dialog_begin as dialog_of};
 
-use crate::frame::{Begin, Broadcast, Lead, Notice, Notices, Place, Spread};
+use crate::frame::{Begin, Broadcast, Lead, Modal, Notice, Notices, Place, Spread};
 use crate::messages::{
     WM_ACTIVATE, WM_CANCELMODE, WM_CLOSE, WM_CREATE, WM_DESTROY, WM_ERASEBKGND, WM_NCCREATE,
     WM_NCDESTROY, WM_PAINT,
+};
+use crate::modal::{
+    after_asking, after_disabling, after_getting, after_opening, dispatches, finishes, turns,
 };
 use crate::notifying::{notices_after, result_after, told_number};
 use crate::variables::Parameters;
@@ -74,6 +77,26 @@ impl Begin {
             place: Place::Seeking(broadcast),
         }
     }
+
+    /// `pump`, with its first `get`.
+    pub fn pumping() -> Begin
+        ensures { result ≡ pumping_of }
+    {
+        Begin {
+            call: Call::Get(0, 0, 0),
+            place: Place::Getting(Modal::Pump),
+        }
+    }
+
+    /// `dialog` on the window of this number.
+    pub fn dialog(window: u64) -> Begin
+        ensures { result ≡ dialog_of window }
+    {
+        Begin {
+            call: Call::BeginDialog(window),
+            place: Place::Opening(window),
+        }
+    }
 }
 
 impl Parameters {
@@ -139,6 +162,15 @@ impl Place {
             Place::Notifying(notices, end) => notifies(notices, end),
             Place::Seeking(broadcast) => after_seeking(broadcast, answer),
             Place::Reaching(broadcast, window) => seeks(broadcast, window),
+            Place::Getting(modal) => after_getting(modal, answer),
+            Place::Translating(modal, msg) => dispatches(modal, &msg),
+            Place::Dispatching(modal) => turns(modal),
+            Place::Opening(window) => after_opening(window, answer),
+            Place::Disabling(dialog) => after_disabling(dialog, answer),
+            Place::Asking(dialog) => after_asking(dialog, answer),
+            Place::Requitting(dialog) => finishes(dialog),
+            Place::Finishing(dialog) => turns(Modal::Dialog(dialog)),
+            Place::Enabling(end) => Lead::Ends(end),
             Place::Defaulting(result) => after_default(result, answer),
         }
     }

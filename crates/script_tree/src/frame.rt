@@ -2,7 +2,7 @@
 
 use crate::variables::Parameters;
 use user_model::{Answer, Call};
-use win_num::Frame;
+use win_num::{Frame, Msg};
 
 /// A procedure that is to run, or runs.
 #[derive(Clone, Copy)]
@@ -52,6 +52,24 @@ pub struct Broadcast {
     pub lparam: u64,
 }
 
+/// A dialog, by the numbers of its windows (Microsoft, DialogBox function).
+#[derive(Clone, Copy)]
+pub struct Dialog {
+    /// The window that it runs on.
+    pub window: u64,
+    /// The owner that is enabled again after it, or 0.
+    pub owner: u64,
+}
+
+/// A loop that gets messages and hands each to its window's procedure.
+#[derive(Clone, Copy)]
+pub enum Modal {
+    /// `pump`, until WM_QUIT comes (Microsoft, GetMessage and DispatchMessage functions).
+    Pump,
+    /// That of a dialog, until it has its result (Microsoft, DialogBox and EndDialog functions).
+    Dialog(Dialog),
+}
+
 /// Where a compound statement stands: behind one of its calls, or behind the end of a compound inside of
 /// it. Windows are named by their numbers.
 #[derive(Clone, Copy)]
@@ -84,6 +102,25 @@ pub enum Place {
     Seeking(Broadcast),
     /// The same: the message goes to the window of this number.
     Reaching(Broadcast, u64),
+    /// A loop of messages: the next message is got (Microsoft, GetMessage function).
+    Getting(Modal),
+    /// The same: this message is of a key that goes down, and its character is posted (Microsoft, TranslateMessage
+    /// function).
+    Translating(Modal, Msg),
+    /// The same: a message is handed to its window's procedure (Microsoft, DispatchMessage function).
+    Dispatching(Modal),
+    /// `dialog`: the dialog on this window begins (Microsoft, DialogBox function).
+    Opening(u64),
+    /// `dialog`: its owner is disabled by a compound inside of it.
+    Disabling(Dialog),
+    /// `dialog`: whether it has its result is asked for.
+    Asking(Dialog),
+    /// `dialog`: WM_QUIT came and is posted once more (Microsoft, PostQuitMessage function).
+    Requitting(Dialog),
+    /// `dialog`: it gets the result 0 for that (Microsoft, EndDialog function).
+    Finishing(Dialog),
+    /// `dialog`: its owner is enabled again by a compound inside of it. It ends with this answer.
+    Enabling(Answer),
     /// The default procedure, which has this result where nothing is refused: the compound inside of it
     /// runs (Microsoft, DefWindowProc function).
     Defaulting(u64),

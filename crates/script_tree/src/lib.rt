@@ -7,6 +7,7 @@ mod compound;
 mod frame;
 mod laws;
 pub mod messages;
+mod modal;
 mod notifying;
 mod operand;
 mod script;
@@ -15,7 +16,7 @@ mod values;
 mod variables;
 
 pub use answers::result_of;
-pub use frame::{Begin, Broadcast, Lead, Notice, Notices, Place, Run, Spread};
+pub use frame::{Begin, Broadcast, Dialog, Lead, Modal, Notice, Notices, Place, Run, Spread};
 pub use laws::{
     calls_come_in_turn, calls_fit_the_stack, ends_once, one_next_call, rows_are_the_table,
     traces_agree,

@@ -69,6 +69,8 @@ pub enum CallStatement {
     Key(Operand, Operand),
     /// `key_state VK` (Microsoft, GetKeyState function).
     KeyState(Operand),
+    /// `end_dialog W V` (Microsoft, EndDialog function).
+    EndDialog(Operand, Operand),
     /// `invalidate W L T R B ERASE`; an edge from 2^63 on is a number below 0, by two's complement (Microsoft,
     /// InvalidateRect function).
     Invalidate(Operand, Operand, Operand, Operand, Operand, Operand),
@@ -92,8 +94,8 @@ pub enum CallStatement {
     Yield,
 }
 
-/// A compound statement that makes a call and then sends messages, or that goes through the top-level
-/// windows, with its operands in the order in which they are written.
+/// A compound statement that makes a call and then sends messages, that goes through the top-level windows, or
+/// that is a loop of messages or a dialog with one, with its operands in the order in which they are written.
 #[derive(Clone, Copy, Debug, PartialEq, Eq)]
 pub enum CompoundStatement {
     /// `show_window W ON` (Microsoft, ShowWindow function).
@@ -119,6 +121,10 @@ pub enum CompoundStatement {
     PostAll(Operand, Operand, Operand),
     /// `notify_all M P Q` (Microsoft, SendNotifyMessage function, HWND_BROADCAST).
     NotifyAll(Operand, Operand, Operand),
+    /// `pump` (Microsoft, GetMessage, TranslateMessage and DispatchMessage functions).
+    Pump,
+    /// `dialog W` (Microsoft, DialogBox function).
+    Dialog(Operand),
 }
 
 /// What `create` makes a window of (Microsoft, CreateWindowEx function).

@@ -1,7 +1,7 @@
 //! The values of operands and tests, and the calls of statements.
 
 ghost use Rattle.std.specs.Prelude.{◌≡◌};
-ghost use Rattle.script_tree.specs.Values.{value_of, edge_of, computed, compared, holds as holds_of, call_of, first_call as first_call_of, creation_call, dispatch_of, translate_of, IsSend, IsRectangle, IsOfInput, IsShort};
+ghost use Rattle.script_tree.specs.Values.{value_of, edge_of, computed, compared, holds as holds_of, call_of, first_call as first_call_of, settling_call as settling_call_of, creation_call, dispatch_of, translate_of, IsSend, IsRectangle, IsOfInput, IsShort};
 ghost use Rattle.script_tree.specs.Compounds.{compound_begin, broadcast as broadcast_of};
 
 use crate::frame::{Begin, Broadcast, Spread};
@@ -110,7 +110,20 @@ impl CompoundStatement {
                 wparam.value(variables),
                 lparam.value(variables),
             )),
+            CompoundStatement::Pump => Begin::pumping(),
+            CompoundStatement::Dialog(window) => Begin::dialog(window.value(variables)),
             _ => Begin::notifying(self.first_call(variables)),
+        }
+    }
+
+    /// The call by which its end sets `r` and `err`: its first one, but a refused `pump` gives 0, and not what a
+    /// refused `get` does (Microsoft, GetMessage function).
+    pub fn settling_call(&self, variables: &Variables) -> Call
+        ensures { result ≡ settling_call_of self.now variables.now }
+    {
+        match self {
+            CompoundStatement::Pump => Call::Dispatch(0, 0, 0, 0),
+            _ => self.first_call(variables),
         }
     }
 
@@ -144,6 +157,8 @@ impl CompoundStatement {
             CompoundStatement::UpdateWindow(window) => Call::UpdateRect(window.value(variables)),
             CompoundStatement::PostAll(_, _, _) => Call::NextTop(0),
             CompoundStatement::NotifyAll(_, _, _) => Call::NextTop(0),
+            CompoundStatement::Pump => Call::Get(0, 0, 0),
+            CompoundStatement::Dialog(window) => Call::BeginDialog(window.value(variables)),
         }
     }
 }
@@ -336,14 +351,17 @@ impl CallStatement {
                 Call::Key(down.value(variables), key.value(variables))
             }
             CallStatement::KeyState(key) => Call::KeyState(key.value(variables)),
+            CallStatement::EndDialog(window, result) => {
+                Call::EndDialog(window.value(variables), result.value(variables))
+            }
             CallStatement::Translate => translate(&variables.got),
             _ => unreachable!(),
         }
     }
 }
 
-/// Hands the last message got to its window's procedure.
-fn dispatch(got: &Msg) -> Call
+/// Hands a message that was got to its window's procedure.
+pub fn dispatch(got: &Msg) -> Call
     ensures { result ≡ dispatch_of got.now }
 {
     Call::Dispatch(
@@ -354,8 +372,8 @@ fn dispatch(got: &Msg) -> Call
     )
 }
 
-/// Posts the character of the last message got, where that is of a key that is down.
-fn translate(got: &Msg) -> Call
+/// Posts the character of a message that was got, where that is of a key that is down.
+pub fn translate(got: &Msg) -> Call
     ensures { result ≡ translate_of got.now }
 {
     Call::Translate(

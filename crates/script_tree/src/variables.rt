@@ -167,6 +167,7 @@ impl Variables {
             Answer::Inside(_, _) => (inside(call, value), 0),
             Answer::Okay => (okay(call), 0),
             Answer::Ended | Answer::Wait | Answer::Stuck | Answer::Gone => (1, 0),
+            Answer::Running | Answer::Finished(_) => (1, 0),
             Answer::Posted(_) | Answer::Input(_) | Answer::Begun(_) | Answer::Left(_) => (1, 0),
             Answer::Tell(_) | Answer::Last(_) => (1, 0),
             Answer::Advanced(_) | Answer::Busy(_) => (1, 0),

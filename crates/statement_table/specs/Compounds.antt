@@ -24,6 +24,8 @@ compound_word names.BeginPaint = codes "begin_paint"
 compound_word names.UpdateWindow = codes "update_window"
 compound_word names.PostAll = codes "post_all"
 compound_word names.NotifyAll = codes "notify_all"
+compound_word names.Pump = codes "pump"
+compound_word names.Dialog = codes "dialog"
 
 -- the places of the words behind it
 abbrev pub compound_places : CompoundName → List Place
@@ -38,6 +40,8 @@ compound_places names.BeginPaint = places.Operand ∷ []
 compound_places names.UpdateWindow = places.Operand ∷ []
 compound_places names.PostAll = places.Operand ∷ places.Operand ∷ places.Operand ∷ []
 compound_places names.NotifyAll = places.Operand ∷ places.Operand ∷ places.Operand ∷ []
+compound_places names.Pump = []
+compound_places names.Dialog = places.Operand ∷ []
 
 -- which compound statement it is
 abbrev pub compound_name : CompoundStatement → CompoundName
@@ -52,6 +56,8 @@ compound_name (statements.BeginPaint w) = names.BeginPaint
 compound_name (statements.UpdateWindow w) = names.UpdateWindow
 compound_name (statements.PostAll m p q) = names.PostAll
 compound_name (statements.NotifyAll m p q) = names.NotifyAll
+compound_name statements.Pump = names.Pump
+compound_name (statements.Dialog w) = names.Dialog
 
 -- its operands
 abbrev pub compound_operands : CompoundStatement → List Operand
@@ -66,6 +72,8 @@ compound_operands (statements.BeginPaint w) = w ∷ []
 compound_operands (statements.UpdateWindow w) = w ∷ []
 compound_operands (statements.PostAll m p q) = m ∷ p ∷ q ∷ []
 compound_operands (statements.NotifyAll m p q) = m ∷ p ∷ q ∷ []
+compound_operands statements.Pump = []
+compound_operands (statements.Dialog w) = w ∷ []
 
 -- its parts in their places
 abbrev pub compound_parts : CompoundStatement → List Part
@@ -84,3 +92,5 @@ made_compound names.BeginPaint ps = statements.BeginPaint (operand_in ps 0)
 made_compound names.UpdateWindow ps = statements.UpdateWindow (operand_in ps 0)
 made_compound names.PostAll ps = statements.PostAll (operand_in ps 0) (operand_in ps 1) (operand_in ps 2)
 made_compound names.NotifyAll ps = statements.NotifyAll (operand_in ps 0) (operand_in ps 1) (operand_in ps 2)
+made_compound names.Pump ps = statements.Pump
+made_compound names.Dialog ps = statements.Dialog (operand_in ps 0)

@@ -23,6 +23,8 @@ pub enum CompoundName {
     UpdateWindow,
     PostAll,
     NotifyAll,
+    Pump,
+    Dialog,
 }
 
 /// Its word.
@@ -41,6 +43,8 @@ pub fn compound_word(name: CompoundName) -> &'static [u8]
         CompoundName::UpdateWindow => b"update_window",
         CompoundName::PostAll => b"post_all",
         CompoundName::NotifyAll => b"notify_all",
+        CompoundName::Pump => b"pump",
+        CompoundName::Dialog => b"dialog",
     }
 }
 
@@ -78,6 +82,8 @@ pub fn compound_places(name: CompoundName) -> Places
         CompoundName::UpdateWindow => places_of(&[Place::Operand]),
         CompoundName::PostAll => places_of(&[Place::Operand, Place::Operand, Place::Operand]),
         CompoundName::NotifyAll => places_of(&[Place::Operand, Place::Operand, Place::Operand]),
+        CompoundName::Pump => places_of(&[]),
+        CompoundName::Dialog => places_of(&[Place::Operand]),
     }
 }
 
@@ -97,6 +103,8 @@ pub fn compound_name(statement: CompoundStatement) -> CompoundName
         CompoundStatement::UpdateWindow(_) => CompoundName::UpdateWindow,
         CompoundStatement::PostAll(_, _, _) => CompoundName::PostAll,
         CompoundStatement::NotifyAll(_, _, _) => CompoundName::NotifyAll,
+        CompoundStatement::Pump => CompoundName::Pump,
+        CompoundStatement::Dialog(_) => CompoundName::Dialog,
     }
 }
 
@@ -122,6 +130,8 @@ pub fn compound_parts(statement: CompoundStatement) -> Parts
         CompoundStatement::NotifyAll(number, wparam, lparam) => {
             operand_parts(&[number, wparam, lparam])
         }
+        CompoundStatement::Pump => operand_parts(&[]),
+        CompoundStatement::Dialog(window) => operand_parts(&[window]),
     }
 }
 
@@ -153,5 +163,7 @@ fn made_compound(name: CompoundName, parts: &[Part]) -> CompoundStatement
         CompoundName::UpdateWindow => CompoundStatement::UpdateWindow(a),
         CompoundName::PostAll => CompoundStatement::PostAll(a, b, c),
         CompoundName::NotifyAll => CompoundStatement::NotifyAll(a, b, c),
+        CompoundName::Pump => CompoundStatement::Pump,
+        CompoundName::Dialog => CompoundStatement::Dialog(a),
     }
 }

@@ -1,4 +1,4 @@
-//! Statements on focus, active window, capture, attached threads, the mouse and keys, one row each.
+//! Statements on focus, active window, capture, attached threads, the mouse, keys and dialogs, one row each.
 
 ghost use Rattle.std.specs.Prelude.{◌≡◌, option_map};
 ghost use Rattle.statement_table.specs.Input.{split_input, made_input};
@@ -30,6 +30,9 @@ pub fn split_input(call: CallStatement) -> Option<SplitStatement>
         }
         CallStatement::Key(down, key) => split_operands(Input(InputCall::Key), &[down, key]),
         CallStatement::KeyState(key) => split_operands(Input(InputCall::KeyState), &[key]),
+        CallStatement::EndDialog(window, result) => {
+            split_operands(Input(InputCall::EndDialog), &[window, result])
+        }
         _ => None,
     }
 }
@@ -44,7 +47,9 @@ pub fn made_input(name: InputCall, parts: &[Part]) -> Option<CallStatement>
         InputCall::SetFocus
         | InputCall::SetActive
         | InputCall::SetCapture
-        | InputCall::ReleaseCapture => None,
+        | InputCall::ReleaseCapture
+        | InputCall::BeginDialog
+        | InputCall::DialogState => None,
         InputCall::GetFocus => Some(CallStatement::GetFocus),
         InputCall::GetActive => Some(CallStatement::GetActive),
         InputCall::GetCapture => Some(CallStatement::GetCapture),
@@ -53,5 +58,6 @@ pub fn made_input(name: InputCall, parts: &[Part]) -> Option<CallStatement>
         InputCall::Mouse => Some(CallStatement::Mouse(operands[0], operands[1], operands[2])),
         InputCall::Key => Some(CallStatement::Key(operands[0], operands[1])),
         InputCall::KeyState => Some(CallStatement::KeyState(operands[0])),
+        InputCall::EndDialog => Some(CallStatement::EndDialog(operands[0], operands[1])),
     }
 }

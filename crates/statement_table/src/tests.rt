@@ -20,6 +20,7 @@ fn statements_again(rt: HostRuntime) -> Result<(), Fail> {
         (CallStatement::Mouse(one, h, one), 3),
         (CallStatement::Key(one, h), 2),
         (CallStatement::KeyState(h), 1),
+        (CallStatement::EndDialog(one, h), 2),
         (CallStatement::Invalidate(one, h, one, h, one, h), 6),
         (CallStatement::Validate(one, h, one, h, one), 5),
         (CallStatement::UpdateRect(h), 1),
@@ -58,6 +59,8 @@ fn compounds_again(rt: HostRuntime) -> Result<(), Fail> {
         (CompoundStatement::UpdateWindow(b), 1),
         (CompoundStatement::PostAll(a, b, b), 3),
         (CompoundStatement::NotifyAll(b, a, a), 3),
+        (CompoundStatement::Pump, 0),
+        (CompoundStatement::Dialog(b), 1),
     ] {
         let name = compound_name(compound);
         let parts = compound_parts(compound);
@@ -78,12 +81,16 @@ fn calls_of_no_statement(rt: HostRuntime) -> Result<(), Fail> {
     let begin = CallName::Drawing(DrawingCall::BeginPaint);
     let erase = CallName::Drawing(DrawingCall::Erase);
     let focus = CallName::Input(InputCall::SetFocus);
+    let dialog = CallName::Input(InputCall::BeginDialog);
+    let state = CallName::Input(InputCall::DialogState);
     let parent = CallName::Lookup(LookupCall::Parent);
     assert_eq!(rt; statement_of_parts(doom, &one).is_none(), true);
     assert_eq!(rt; statement_of_parts(tick, &one).is_none(), true);
     assert_eq!(rt; statement_of_parts(begin, &one).is_none(), true);
     assert_eq!(rt; statement_of_parts(erase, &one).is_none(), true);
     assert_eq!(rt; statement_of_parts(focus, &one).is_none(), true);
+    assert_eq!(rt; statement_of_parts(dialog, &one).is_none(), true);
+    assert_eq!(rt; statement_of_parts(state, &one).is_none(), true);
     assert_eq!(rt; statement_of_parts(parent, &one).is_none(), false);
     assert_eq!(rt; field_places(doom).len(), 1);
     Ok(())

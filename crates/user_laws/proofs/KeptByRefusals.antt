@@ -80,6 +80,7 @@ changes_none past who call (Refused code) is = record {
   same_inputs = λ setup. refl;
   same_input_numbers = refl;
   same_keys = λ t key. refl;
+  same_dialogs = λ w. refl;
   same_last_looks = λ t. refl;
 }
 changes_none past who call _ is = absurd (false≢true is)

@@ -23,6 +23,7 @@ use Rattle.user_model.specs.Groups.{attached}
 use Rattle.user_model.specs.Focus.{Slot, foreground, last_set}
 use Rattle.user_model.specs.Inputs.{inputs, untaken}
 use Rattle.user_model.specs.Keys.{is_key_down}
+use Rattle.user_model.specs.Dialogs.{dialog}
 use Rattle.user_model.specs.Status.{last_look}
 
 -- after the entry each value is the one before it
@@ -64,4 +65,5 @@ pub record ChangesNothing (past : Past) (e : Entry) : Type 0 where
   pub same_inputs : (setup : Setup) → untaken setup (e ∷ past) ≡ untaken setup past
   pub same_input_numbers : inputs (e ∷ past) ≡ inputs past
   pub same_keys : (t key : ℕ) → is_key_down (e ∷ past) t key ≡ is_key_down past t key
+  pub same_dialogs : (w : ℕ) → dialog (e ∷ past) w ≡ dialog past w
   pub same_last_looks : (t : ℕ) → last_look (e ∷ past) t ≡ last_look past t

@@ -3,6 +3,7 @@
 #![tactic(auto)]
 
 mod colours;
+mod dialogs;
 mod groups;
 mod inputs;
 mod machines;
@@ -16,6 +17,7 @@ mod times;
 mod words;
 
 pub use colours::{clips_follow, colours_follow, frames_stay};
+pub use dialogs::dialogs_follow;
 pub use groups::{groups_follow, settings_follow};
 pub use inputs::{inputs_follow, keys_follow};
 pub use machines::{send_law, sum_law};

@@ -1,6 +1,6 @@
 -- The one walk over all calls: what the answer of a row says of its call.
 use Rattle.std.proofs.Common.{◌≡◌, ℕ, suc, Bool, true, false, not, cond, eqb, List, [], ◌∷◌, length, Option, Some, None, refl, ap, ◌∙◌, sym, subst, inl, inr}
-use Rattle.std.specs.Prelude.{◌&&◌, ◌||◌, unwrap_or, option_map, nat_lt, nat_le}
+use Rattle.std.specs.Prelude.{◌&&◌, ◌||◌, unwrap_or, option_map, is_none, nat_lt, nat_le}
 use Rattle.std.proofs.lemmas.Bool.{false≢true}
 use Rattle.win_num.specs.declared.message.Filter.{Filter}
 use Rattle.win_num.specs.declared.message.Hwnd.{Hwnd}
@@ -14,7 +14,9 @@ use Rattle.win_num.specs.declared.code.Code.{Code}
 use Rattle.win_num.specs.declared.code.Code.TheVariants.{Full, NoTarget}
 use Rattle.win_num.specs.declared.names.TheConstants.{WM_CHAR, WM_KEYDOWN}
 use Rattle.user_model.specs.declared.call.Call.{Call}
-use Rattle.user_model.specs.declared.call.Call.TheVariants.{Peek, Get, Post, PostThread, PostQuit, Status, Dispatch, Send, SendTimeout, SendNotify, SendCallback, Await, Leave, Reply, InSend, Message, Translate, Register, Unregister, NewWindow, Doom, Unmake, Drop, Place, Show, Enable, Find, AwaitTitle, NextTop, WindowAt, IsWindow, Parent, SetFocus, SetActive, SetCapture, ReleaseCapture, GetFocus, GetActive, GetCapture, Attach, Detach, Mouse, Key, KeyState, Invalidate, Validate, UpdateRect, BeginPaint, EndPaint, Fill, Erase, Snap, SetTimer, KillTimer, EndThread, Clock, SleepUntil, Yield, Tick, Advance}
+use Rattle.user_model.specs.declared.call.Call.TheVariants.{Peek, Get, Post, PostThread, PostQuit, Status, Dispatch, Send, SendTimeout, SendNotify, SendCallback, Await, Leave, Reply, InSend, Message, Translate, Register, Unregister, NewWindow, Doom, Unmake, Drop, Place, Show, Enable, Find, AwaitTitle, NextTop, WindowAt, IsWindow, Parent, SetFocus, SetActive, SetCapture, ReleaseCapture, GetFocus, GetActive, GetCapture, Attach, Detach, Mouse, Key, KeyState, BeginDialog, DialogState, EndDialog, Invalidate, Validate, UpdateRect, BeginPaint, EndPaint, Fill, Erase, Snap, SetTimer, KillTimer, EndThread, Clock, SleepUntil, Yield, Tick, Advance}
+use Rattle.user_model.specs.declared.dialog.Dialog.{Dialog}
+use Rattle.user_model.specs.declared.dialog.Dialog.TheVariants as dialogs
 use Rattle.user_model.specs.declared.entry.Answer.{Answer}
 use Rattle.user_model.specs.declared.entry.Answer.TheVariants as answers
 use Rattle.user_model.specs.declared.entry.Setup.{Setup}
@@ -31,6 +33,7 @@ use Rattle.user_model.specs.Windows.{Window, window, is_live, thread_of}
 use Rattle.user_model.specs.ZOrder.{titled}
 use Rattle.user_model.specs.Destruction.{Step, told, ended, is_marked, next_step}
 use Rattle.user_model.specs.Classes.{proc_of}
+use Rattle.user_model.specs.Dialogs.{dialog}
 use Rattle.user_model.specs.Filters.{filter_of, is_no_filter_window}
 use Rattle.user_model.specs.Posts.{PostedMsg, PostedQuit, posted, queue_of, first_post, quit}
 use Rattle.user_model.specs.Stacks.{top, has_room, waits}
@@ -44,6 +47,7 @@ use Rattle.user_model.specs.Refusals.{refuse, is_no_message, invalid_parameter, 
 use Rattle.user_model.specs.ReplyDelivery.{next_post_number, is_no_post_window, post_to}
 use Rattle.user_model.specs.ReplyInput.{inject, is_no_key, is_no_mouse, has_no_place, next_input_number}
 use Rattle.user_model.specs.ReplyWindows.{step_answer, unmake_step}
+use Rattle.user_model.specs.ReplyDialogs.{standing_told, standing_reply}
 use Rattle.user_model.specs.ReplyClock.{woken}
 use Rattle.user_model.specs.ReplySends.{send_made, send_if_room, waiting_send, other_send, next_send_number, deadline, has_come, served, blocks, left_inside, leave_from, reply_in, in_send_at}
 use Rattle.user_model.specs.Replies.{row}
@@ -57,6 +61,9 @@ is_plain answers.Okay = true
 is_plain (answers.Value v) = true
 is_plain (answers.Window w) = true
 is_plain (answers.Was w) = true
+is_plain answers.Gone = true
+is_plain answers.Running = true
+is_plain (answers.Finished v) = true
 is_plain (answers.Update kind l t r b) = true
 is_plain (answers.Painting erases l t r b) = true
 is_plain (answers.Refused code) = not (is_not_now code)
@@ -83,6 +90,15 @@ plain_in_send past _ = record { so = refl }
 plain_parent : (o : Option Window) → IsPlain (elim o as (λ _. Answer) [ None ↦ refuse true invalid_window_handle answers.Okay | Some x ↦ answers.Window (record { 0 = cond (eqb x.parent 0) x.owner x.parent }) ])
 plain_parent None = record { so = refl }
 plain_parent (Some x) = record { so = refl }
+
+plain_standing : (o : Option Dialog) → IsPlain (standing_told o)
+plain_standing None = record { so = refl }
+plain_standing (Some dialogs.Running) = record { so = refl }
+plain_standing (Some (dialogs.Finished v)) = record { so = refl }
+
+plain_dialog_state : (past : Past) (who w : ℕ) (o : Option Window) → IsPlain (elim o as (λ _. Answer) [ None ↦ answers.Gone | Some x ↦ standing_reply past who w x ])
+plain_dialog_state past who w None = record { so = refl }
+plain_dialog_state past who w (Some x) = plain_behind (is_none (dialog past w)) invalid_parameter _ refl (plain_behind (not (eqb x.thread who)) access_denied _ refl (plain_standing (dialog past w)))
 
 properly : (b : Bool) → not b ≡ true → b ≡ false
 properly true h = absurd (false≢true h)
@@ -121,6 +137,9 @@ module _ (setup : Setup) (past : Past) (who : ℕ) (call : Call) where
       by (answers.Value v) h = tt
       by (answers.Window w) h = tt
       by (answers.Was w) h = tt
+      by answers.Gone h = tt
+      by answers.Running h = tt
+      by (answers.Finished v) h = tt
       by (answers.Update kind l t r b) h = tt
       by (answers.Painting erases l t r b) h = tt
       by (answers.Refused code) h = inl (properly (is_not_now code) h)
@@ -262,7 +281,7 @@ module _ (setup : Setup) (past : Past) (who : ℕ) where
   title_awaited title (Some w) = record { says = tt }
 
   unmade : (w : ℕ) (o : Option Window) → Said setup past who (Unmake w) (elim o as (λ _. Answer) [ None ↦ answers.Gone | Some x ↦ unmake_step past who w x ])
-  unmade w None = record { says = (w, refl) }
+  unmade w None = record { says = tt }
   unmade w (Some x) =
       behind setup past who (Unmake w) (not (is_marked past w)) invalid_parameter _ refl (λ marked.
       behind setup past who (Unmake w) (not (eqb x.thread who)) access_denied (step_answer w (next_step past x)) refl (λ own. step_said w (next_step past x)))
@@ -356,6 +375,9 @@ row_said setup past who (Detach t u) = plainly setup past who (Detach t u) (row 
 row_said setup past who (Mouse number x y) = let call = Mouse number x y in behind setup past who call (is_no_mouse setup number (point x y)) invalid_parameter _ refl (λ fits. injected_said setup past who call (of_mouse number (point x y)) refl)
 row_said setup past who (Key down key) = let call = Key down key in behind setup past who call (nat_lt 1 down || is_no_key key) invalid_parameter _ refl (λ fits. injected_said setup past who call (of_key (key_message down) key) refl)
 row_said setup past who (KeyState key) = plainly setup past who (KeyState key) (row setup past who (KeyState key)) (search (plain_behind, plain))
+row_said setup past who (BeginDialog w) = plainly setup past who (BeginDialog w) (row setup past who (BeginDialog w)) (search (plain_behind, plain))
+row_said setup past who (DialogState w) = plainly setup past who (DialogState w) (row setup past who (DialogState w)) (plain_dialog_state past who w (window past w))
+row_said setup past who (EndDialog w v) = plainly setup past who (EndDialog w v) (row setup past who (EndDialog w v)) (search (plain_behind, plain))
 row_said setup past who (Invalidate w l t r b erase) = plainly setup past who (Invalidate w l t r b erase) (row setup past who (Invalidate w l t r b erase)) (search (plain_behind, plain))
 row_said setup past who (Validate w l t r b) = plainly setup past who (Validate w l t r b) (row setup past who (Validate w l t r b)) (search (plain_behind, plain))
 row_said setup past who (UpdateRect w) = plainly setup past who (UpdateRect w) (row setup past who (UpdateRect w)) (search (plain_behind, plain))

@@ -4,6 +4,7 @@ pub mod Colours
 pub mod Counts
 pub mod Deeds
 pub mod Destruction
+pub mod Dialogs
 pub mod Dirty
 pub mod Filters
 pub mod Focus
@@ -25,6 +26,7 @@ pub mod Refusals
 pub mod Replies
 pub mod ReplyClock
 pub mod ReplyDelivery
+pub mod ReplyDialogs
 pub mod ReplyDrawing
 pub mod ReplyGroups
 pub mod ReplyInput

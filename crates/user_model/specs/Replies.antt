@@ -7,13 +7,14 @@ use Rattle.user_model.specs.declared.entry.Setup.{Setup}
 use Rattle.user_model.specs.declared.entry.Answer.{Answer}
 use Rattle.user_model.specs.declared.entry.Answer.TheVariants.{Okay, Ended, Refused}
 use Rattle.user_model.specs.declared.call.Call.{Call}
-use Rattle.user_model.specs.declared.call.Call.TheVariants.{Peek, Get, Post, PostThread, PostQuit, Status, Dispatch, Send, SendTimeout, SendNotify, SendCallback, Await, Leave, Reply, InSend, Message, Translate, Register, Unregister, NewWindow, Doom, Unmake, Drop, Place, Show, Enable, Find, AwaitTitle, NextTop, WindowAt, IsWindow, Parent, SetFocus, SetActive, SetCapture, ReleaseCapture, GetFocus, GetActive, GetCapture, Attach, Detach, Mouse, Key, KeyState, Invalidate, Validate, UpdateRect, BeginPaint, EndPaint, Fill, Erase, Snap, SetTimer, KillTimer, EndThread, Clock, SleepUntil, Yield, Tick, Advance}
+use Rattle.user_model.specs.declared.call.Call.TheVariants.{Peek, Get, Post, PostThread, PostQuit, Status, Dispatch, Send, SendTimeout, SendNotify, SendCallback, Await, Leave, Reply, InSend, Message, Translate, Register, Unregister, NewWindow, Doom, Unmake, Drop, Place, Show, Enable, Find, AwaitTitle, NextTop, WindowAt, IsWindow, Parent, SetFocus, SetActive, SetCapture, ReleaseCapture, GetFocus, GetActive, GetCapture, Attach, Detach, Mouse, Key, KeyState, BeginDialog, DialogState, EndDialog, Invalidate, Validate, UpdateRect, BeginPaint, EndPaint, Fill, Erase, Snap, SetTimer, KillTimer, EndThread, Clock, SleepUntil, Yield, Tick, Advance}
 use Rattle.user_model.specs.Past.{Past}
 use Rattle.user_model.specs.ReplyDelivery.{peek_reply, get_reply, post_reply, post_thread_reply, status_reply}
 use Rattle.user_model.specs.ReplyWindows.{register_reply, unregister_reply, message_reply, new_window_reply, doom_reply, unmake_reply, drop_reply, place_reply, show_reply, enable_reply, find_reply, await_title_reply, next_top_reply, window_at_reply, is_window_reply, parent_reply}
 use Rattle.user_model.specs.Focus.{focus, active, capture}
 use Rattle.user_model.specs.ReplyGroups.{set_focus_reply, set_active_reply, set_capture_reply, was, value_reply, attach_reply, detach_reply}
 use Rattle.user_model.specs.ReplyInput.{mouse_reply, key_reply, key_state_reply, translate_reply}
+use Rattle.user_model.specs.ReplyDialogs.{begin_dialog_reply, dialog_state_reply, end_dialog_reply}
 use Rattle.user_model.specs.ReplyDrawing.{invalidate_reply, validate_reply, update_rect_reply, begin_paint_reply, end_paint_reply, fill_reply, erase_reply, snap_reply}
 use Rattle.user_model.specs.ReplySends.{dispatch_reply, send_reply, send_timeout_reply, send_other_reply, await_reply, leave_reply, reply_reply, in_send_reply}
 use Rattle.user_model.specs.ReplyClock.{clock_reply, sleep_until_reply, set_timer_reply, kill_timer_reply}
@@ -67,6 +68,9 @@ row setup past who (Detach t u) = detach_reply past t u
 row setup past who (Mouse number x y) = mouse_reply setup past number x y
 row setup past who (Key down key) = key_reply setup past down key
 row setup past who (KeyState key) = key_state_reply past who key
+row setup past who (BeginDialog w) = begin_dialog_reply past who w
+row setup past who (DialogState w) = dialog_state_reply past who w
+row setup past who (EndDialog w v) = end_dialog_reply past who w
 row setup past who (Invalidate w l t r b erase) = invalidate_reply past w l t r b erase
 row setup past who (Validate w l t r b) = validate_reply past w l t r b
 row setup past who (UpdateRect w) = update_rect_reply setup past w

@@ -6,7 +6,7 @@ use Rattle.win_num.specs.declared.send.Frame.{Frame}
 use Rattle.win_num.specs.declared.send.Frame.TheVariants.{Entered, Inside, Called, CallbackRun, Await}
 use Rattle.user_model.specs.declared.call.Call.{Call}
 use Rattle.user_model.specs.declared.entry.Answer.{Answer}
-use Rattle.user_model.specs.declared.entry.Answer.TheVariants.{Update, Painting, Snap, Enter, Inside as InsideOf, Called as CalledProc, Callback, Begun, Left, Done, Okay, Ended, Nothing, Wait as StillWaits, Stuck, Gone, Value, Window, Was, Posted, Input, Tell, Last, Advanced, Busy, Got, Refused}
+use Rattle.user_model.specs.declared.entry.Answer.TheVariants.{Update, Painting, Snap, Enter, Inside as InsideOf, Called as CalledProc, Callback, Begun, Left, Done, Okay, Ended, Nothing, Wait as StillWaits, Stuck, Gone, Running, Finished, Value, Window, Was, Posted, Input, Tell, Last, Advanced, Busy, Got, Refused}
 use Rattle.user_model.specs.Past.{Past, is_refused, first}
 use Rattle.user_model.specs.Deeds.{SendParts, parts_of, Deed, leaving, deed}
 
@@ -50,6 +50,8 @@ stacked call Nothing frames = frames
 stacked call StillWaits frames = frames
 stacked call Stuck frames = frames
 stacked call Gone frames = frames
+stacked call Running frames = frames
+stacked call (Finished v) frames = frames
 stacked call (Value v) frames = frames
 stacked call (Window w) frames = frames
 stacked call (Was w) frames = frames

@@ -124,6 +124,12 @@ pub enum Call {
     /// Whether a key or a button of the mouse is down, by the input that the caller and those attached to it have taken (Microsoft,
     /// GetKeyState function).
     KeyState(u64),
+    /// Begins a dialog on an own window, and tells its owner (Microsoft, DialogBox function).
+    BeginDialog(u64),
+    /// How the dialog on an own window stands; one that has a result runs no more once that was told (Microsoft, DialogBox function).
+    DialogState(u64),
+    /// Gives the dialog on an own window its result; a later one replaces it (Microsoft, EndDialog function).
+    EndDialog(u64, u64),
     /// Makes the pixels of a rectangle dirty that the window owns: the window, the left, top, right and bottom edge in
     /// pixels from its own left top corner, and 1 where its background is to be erased too, else 0 (Microsoft,
     /// InvalidateRect function).

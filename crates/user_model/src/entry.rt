@@ -35,6 +35,10 @@ pub enum Answer {
     Stuck,
     /// The window is no live window any more.
     Gone,
+    /// The dialog has no result yet.
+    Running,
+    /// The dialog has this result, and runs no more.
+    Finished(u64),
     /// A number: 1 for true and 0 for false, an atom, or the number of a message.
     Value(u64),
     /// A window, or 0 where there is none.

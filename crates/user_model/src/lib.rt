@@ -6,12 +6,14 @@
 #![tactic(auto)]
 
 mod call;
+mod dialog;
 mod entry;
 mod machine;
 mod story;
 mod teller;
 
 pub use call::Call;
+pub use dialog::Dialog;
 pub use entry::{Answer, Entry, Origin, SendCount, Setup};
 pub use machine::Machine;
 pub use story::SendStory;

@@ -16,12 +16,12 @@ use Rattle.win_calls.specs.declared.compound.Next.{Next}
 use Rattle.win_calls.specs.declared.stage.Turn.{Turn}
 use Rattle.win_calls.specs.declared.stage.Then.{Then}
 use Rattle.win_calls.specs.declared.stage.Stage.{Stage}
-use Rattle.win_calls.specs.declared.stage.Stage.TheVariants.{Fresh, Asked, Running as RunningStage, Leaving as LeavingStage, Over}
+use Rattle.win_calls.specs.declared.stage.Stage.TheVariants.{Fresh, Ready, Asked, Running as RunningStage, Leaving as LeavingStage, Over}
 use Rattle.win_calls.specs.Table.{begun, Handed, started, was_answered, was_returned}
-use Rattle.win_calls.specs.States.{IsTurn, Accepts, Hands, Below, behind, then_piece, IsLeave, StandsFor, is_fresh, is_asked, is_running, is_leaving, is_over, Leads}
+use Rattle.win_calls.specs.States.{IsTurn, Accepts, Hands, Below, behind, then_piece, IsLeave, StandsFor, is_fresh, is_ready, is_asked, is_running, is_leaving, is_over, Leads}
 use Rattle.win_calls.proofs.TableLaws.{leave_asks}
 
--- where the stages stand
+-- where the stages stand; one that is ready stands where its first call is made
 abbrev FreshAt : Compound → List Piece → State → Type 0
 FreshAt c ps st = (v : Variables) × (ps ≡ begun c) × (st ≡ Going v)
 
@@ -37,6 +37,7 @@ LeavingAt turn next x value ps st = (v : Variables) × (p : Piece) × (qs : List
 -- where a stage stands
 abbrev At : Stage → List Piece → State → Type 0
 At (Fresh c) ps st = FreshAt c ps st
+At (Ready turn) ps st = AskedAt turn ps st
 At (Asked turn) ps st = AskedAt turn ps st
 At (RunningStage turn next x) ps st = RunningAt turn next x ps st
 At (LeavingStage turn next x value) ps st = LeavingAt turn next x value ps st
@@ -44,6 +45,7 @@ At Over ps st = Unit {0}
 
 stands_at : {stage : Stage} {ps : List Piece} {st : State} → StandsFor stage ps st → At stage ps st
 stands_at (is_fresh c v) = (v, refl, refl)
+stands_at (is_ready turn v h) = (v, h, refl, refl)
 stands_at (is_asked turn v h) = (v, h, refl, refl)
 stands_at (is_running {qs = qs} turn next x run v h b) = (v, run, qs, h, b, refl, refl)
 stands_at (is_leaving {qs = qs} turn next x value p v h l k) = (v, p, qs, h, l, k, refl, refl)
@@ -56,6 +58,11 @@ accepts_start : (c : Compound) (g : Got) → Accepts (Fresh c) g → g ≡ Start
 accepts_start c Start k = refl
 accepts_start c (Answered a) k = absurd k
 accepts_start c (Returned x) k = absurd k
+
+ready_start : (turn : Turn) (g : Got) → Accepts (Ready turn) g → g ≡ Start
+ready_start turn Start k = refl
+ready_start turn (Answered a) k = absurd k
+ready_start turn (Returned x) k = absurd k
 
 module _ (s : Tree) (n : ℕ) where
   handed_start : {ps qs : List Piece} {st sq : State} {g : Got} → Handed s n ps st g qs sq → g ≡ Start → (qs ≡ ps) × (sq ≡ st)
@@ -91,6 +98,13 @@ module _ (s : Tree) (n : ℕ) where
       let begins : Accepts (Fresh c) g = subst (λ x. Accepts x g) e a in
       let i = handed_start m (accepts_start c g begins) in
       from_place (begun c) qs (Going k.0) sq new next (i.0 ∙ k.1) (i.1 ∙ k.2) (l k.0)
+
+  pub ready_leads : (stage : Stage) (g : Got) (turn : Turn) (ps qs : List Piece) (st sq : State) (new : Stage) (next : Next) → stage ≡ Ready turn → Accepts stage g → StandsFor stage ps st → Handed s n ps st g qs sq → ((v : Variables) → IsTurn turn → Leads s n (Making turn.call ∷ behind turn) (Going v) new next) → Leads s n qs sq new next
+  ready_leads stage g turn ps qs st sq new next e a h m l =
+      let k : AskedAt turn ps st = at_stage e h in
+      let begins : Accepts (Ready turn) g = subst (λ x. Accepts x g) e a in
+      let i = handed_start m (ready_start turn g begins) in
+      from_place (Making turn.call ∷ behind turn) qs (Going k.0) sq new next (i.0 ∙ k.2) (i.1 ∙ k.3) (l k.0 k.1)
 
   pub asked_leads : (stage : Stage) (g : Got) (turn : Turn) (a : Answer) (ps qs : List Piece) (st sq : State) (new : Stage) (next : Next) → stage ≡ Asked turn → g ≡ Answered a → StandsFor stage ps st → Handed s n ps st g qs sq → ((v : Variables) → IsTurn turn → Leads s n (follows turn.call a ++ behind turn) (answered turn.call a v) new next) → Leads s n qs sq new next
   asked_leads stage g turn a ps qs st sq new next e f h m l =

@@ -1,9 +1,10 @@
 -- The table comes to one thing from each place.
 use Rattle.std.proofs.Common.{◌≡◌, ℕ, List, ◌++◌, refl, sym, ap, subst}
+use Rattle.std.specs.Prelude.{IfSome}
 use Rattle.user_model.specs.declared.call.Call.TheVariants.{Leave}
 use Rattle.script_tree.specs.declared.statement.Statement.TheVariants.{Compound as CompoundOf}
 use Rattle.script_tree.specs.declared.statement.CompoundStatement.{CompoundStatement}
-use Rattle.script_tree.specs.declared.statement.CompoundStatement.TheVariants.{PostAll, NotifyAll}
+use Rattle.script_tree.specs.declared.statement.CompoundStatement.TheVariants.{PostAll, NotifyAll, Pump, Dialog}
 use Rattle.script_tree.specs.declared.variables.Variables.{Variables}
 use Rattle.script_tree.specs.Tree.{Tree}
 use Rattle.script_tree.specs.Pieces.{Piece, Making, Leaves, State, Going, Becomes, Asks}
@@ -14,12 +15,14 @@ use Rattle.win_calls.specs.declared.compound.Next.{Next}
 use Rattle.win_calls.specs.declared.compound.Next.TheVariants.{Make}
 use Rattle.win_calls.specs.declared.stage.Stage.{Stage}
 use Rattle.win_calls.specs.Table.{begun, compound_of, Comes, silent, calls, runs, over, Handed, started, was_answered, was_returned}
-use Rattle.win_calls.specs.States.{StandsFor, is_fresh, is_asked, is_running, is_leaving, is_over, Accepts, IsLeave}
+use Rattle.win_calls.specs.States.{StandsFor, is_fresh, is_ready, is_asked, is_running, is_leaving, is_over, Accepts, IsLeave}
 
 -- a compound statement becomes the pieces of the compound with the values of its operands
-pub begins_so : (c : CompoundStatement) (v : Variables) (n : ℕ) → statement (CompoundOf c) v n ≡ Becomes (begun (compound_of c v)) (Going v)
+pub begins_so : (c : CompoundStatement) (v : Variables) (n : ℕ) → IfSome (compound_of c v) (λ d. statement (CompoundOf c) v n ≡ Becomes (begun d) (Going v))
 begins_so (PostAll m p q) v n = refl
 begins_so (NotifyAll m p q) v n = refl
+begins_so Pump v n = tt
+begins_so (Dialog w) v n = tt
 begins_so c v n = refl
 
 module _ (s : Tree) (n : ℕ) where
@@ -51,10 +54,12 @@ module _ (s : Tree) (n : ℕ) where
   handed stage ps st (Answered a) (is_asked turn v t) k = (_, _, was_answered turn.call a refl)
   handed stage ps st (Answered a) (is_leaving turn next x value p v t l h) k = (_, _, was_answered (Leave value) a (leave_asks value p v l))
   handed stage ps st (Answered a) (is_fresh c v) k = absurd k
+  handed stage ps st (Answered a) (is_ready turn v t) k = absurd k
   handed stage ps st (Answered a) (is_running turn next first run v t b) k = absurd k
   handed stage ps st (Answered a) (is_over v) k = absurd k
   handed stage ps st (Returned x) (is_running turn next first run v t b) k = (_, _, was_returned run v x)
   handed stage ps st (Returned x) (is_fresh c v) k = absurd k
+  handed stage ps st (Returned x) (is_ready turn v t) k = absurd k
   handed stage ps st (Returned x) (is_asked turn v t) k = absurd k
   handed stage ps st (Returned x) (is_leaving turn next y value p v t l h) k = absurd k
   handed stage ps st (Returned x) (is_over v) k = absurd k

@@ -1,17 +1,22 @@
 -- Where the table leads from the pieces that a stage stands for.
-use Rattle.std.proofs.Common.{◌≡◌, ℕ, Bool, true, false, List, [], ◌∷◌, ◌++◌, Option, Some, None, refl, sym, ap, ◌∙◌, subst, arith}
+use Rattle.std.proofs.Common.{◌≡◌, ◌≤◌, ℕ, Bool, true, false, List, [], ◌∷◌, ◌++◌, Option, Some, None, refl, sym, ap, ◌∙◌, subst, arith}
 use Rattle.std.specs.Prelude.{if◌then◌else◌, ◌==◌}
+use Rattle.win_num.specs.declared.message.Msg.{Msg}
+use Rattle.win_num.specs.declared.names.TheConstants.{WM_QUIT, WM_KEYDOWN}
 use Rattle.win_num.specs.declared.send.SendId.{SendId}
 use Rattle.win_num.specs.declared.send.Frame.TheVariants.{Entered, Inside as InsideFrame, Called as CalledFrame, CallbackRun}
 use Rattle.user_model.specs.Stacks.{waits, leaves}
 use Rattle.user_model.specs.declared.call.Call.{Call}
-use Rattle.user_model.specs.declared.call.Call.TheVariants.{Leave, Await}
+use Rattle.user_model.specs.declared.call.Call.TheVariants.{Leave, Await, Enable}
 use Rattle.user_model.specs.declared.entry.Answer.{Answer}
-use Rattle.user_model.specs.declared.entry.Answer.TheVariants.{Wait, Window, Tell, Last, Enter, Callback, Inside, Called, Begun, Refused, Value}
+use Rattle.user_model.specs.declared.entry.Answer.TheVariants.{Wait, Window, Tell, Last, Enter, Callback, Inside, Called, Begun, Running as RunningAnswer, Finished, Got as GotMessage, Refused, Value}
 use Rattle.script_tree.specs.declared.frame.Begin.{Begin}
 use Rattle.script_tree.specs.declared.frame.Run.{Run}
 use Rattle.script_tree.specs.declared.frame.Place.{Place}
-use Rattle.script_tree.specs.declared.frame.Place.TheVariants.{Making as MakingWindow, Greeting, Telling, Undoing, Dooming, Unmaking, Destroying, Parting, Dropping, Single, Calling, Notifying, Seeking, Reaching, Defaulting}
+use Rattle.script_tree.specs.declared.frame.Place.TheVariants.{Making as MakingWindow, Greeting, Telling, Undoing, Dooming, Unmaking, Destroying, Parting, Dropping, Single, Calling, Notifying, Seeking, Reaching, Getting, Translating, Dispatching, Opening, Disabling, Asking, Requitting, Finishing, Enabling, Defaulting}
+use Rattle.script_tree.specs.declared.frame.Dialog.{Dialog}
+use Rattle.script_tree.specs.declared.frame.Modal.{Modal}
+use Rattle.script_tree.specs.declared.frame.Modal.TheVariants.{Pump as PumpLoop, Dialog as DialogLoop}
 use Rattle.script_tree.specs.declared.frame.Notice.{Notice}
 use Rattle.script_tree.specs.declared.frame.Notices.{Notices}
 use Rattle.script_tree.specs.declared.frame.Broadcast.{Broadcast}
@@ -21,6 +26,8 @@ use Rattle.script_tree.specs.declared.frame.Lead.{Lead}
 use Rattle.script_tree.specs.declared.frame.Lead.TheVariants.{Calls, Runs, Ends}
 use Rattle.script_tree.specs.declared.variables.Parameters.{Parameters}
 use Rattle.script_tree.specs.declared.variables.Variables.{Variables}
+use Rattle.script_tree.specs.Modals.{turns, enabling, loop_ends, quits, dispatches, handles, after_getting, dialog_on, after_opening, was_enabled, after_disabling, after_asking}
+use Rattle.script_tree.specs.Values.{translate_of}
 use Rattle.script_tree.specs.Notices.{number_in, next_notice, others, notices_after, result_after}
 use Rattle.script_tree.specs.Compounds.{destruction, default_begin, default_result, notifies_by, after_calling, reach_by, reach, after_seeking, compound_after}
 use Rattle.script_tree.proofs.Defaults.{each_begin}
@@ -43,7 +50,7 @@ use Rattle.win_calls.specs.declared.stage.Stage.{Stage}
 use Rattle.win_calls.specs.declared.stage.Stage.TheVariants.{Asked, Running as RunningStage, Leaving as LeavingStage, Over}
 use Rattle.win_calls.specs.declared.stage.Step.{Step}
 use Rattle.win_calls.specs.Table.{silent, calls, runs, over, IsNoRun, runs_first, asked_of, begin_of, begun_with, begun}
-use Rattle.win_calls.specs.States.{Suits, IsTurn, IsOuter, IsInside, within, outer_in, first_turn, MayFollow, Awaits, Accepts, IsRun, around_pieces, behind, then_piece, then_of, Hands, first, more, Below, is_first, is_later, is_asked, is_running, is_leaving, is_over, Leads}
+use Rattle.win_calls.specs.States.{Suits, IsTurn, IsInside, within, outer_in, depth, first_turn, MayFollow, Awaits, Accepts, IsRun, around_pieces, behind, then_piece, then_of, Hands, first, more, Below, is_first, is_later, is_asked, is_running, is_leaving, is_over, Leads}
 
 -- one compound more may be around
 abbrev pub HasRoom : Around → Type 0
@@ -64,19 +71,23 @@ either false around x y f g = g
 pub plain : {call : Call} {q : Place} {around : Around} → leaves call ≡ false → is_last call ≡ false → IsInside q around → Suits call q around
 plain c d e = record { stays = c; goes_on = d; inside = e }
 
+-- a compound of its own calls alone begins inside of one that lets others begin
+one_inside : (p q inner : Place) (around : Around) → 1 ≤ depth p → depth q ≤ 1 → depth inner ≤ 0 → IsInside p around → IsInside inner (within q around) × HasRoom around
+one_inside p q inner Nobody d e f h = ((omega (arith, f), omega (arith, e)), tt)
+one_inside p q inner (One a) d e f h = ((f, e, h.1), tt)
+one_inside p q inner (Two a b) d e f h = absurd (omega (arith, d, h.0))
+
 -- a destruction inside of a `create`
-undoing_inside : (w : ℕ) (around : Around) → IsInside (Greeting w) around → IsInside (Dooming w) (within Undoing around)
-undoing_inside w Nobody h = (omega arith, tt)
-undoing_inside w (One a) h = (omega arith, tt, h.1)
-undoing_inside w (Two a b) h = absurd (omega (arith, h.0))
-
-undoing_room : (w : ℕ) (around : Around) → IsInside (Greeting w) around → HasRoom around
-undoing_room w Nobody h = tt
-undoing_room w (One a) h = tt
-undoing_room w (Two a b) h = absurd (omega (arith, h.0))
-
 undoing : (w : ℕ) (around : Around) → IsInside (Greeting w) around → LeadSuits around (Runs (destruction w) Undoing)
-undoing w around h = (plain refl refl (undoing_inside w around h), undoing_room w around h)
+undoing w around h =
+    let k = one_inside (Greeting w) Undoing (Dooming w) around (omega arith) (omega arith) (omega arith) h in
+    (plain refl refl k.0, k.1)
+
+-- an owner is disabled or enabled inside of a `dialog`
+enabling_suits : (p q : Place) (w on : ℕ) (around : Around) → 1 ≤ depth p → depth q ≤ 1 → IsInside p around → LeadSuits around (Runs (enabling w on) q)
+enabling_suits p q w on around d e h =
+    let k = one_inside p q (Calling (Enable w on)) around d e (omega arith) h in
+    (plain refl refl k.0, k.1)
 
 -- messages that are sent
 notifies_suits : (o : Option Notice) (n : Notices) (y : ℕ) (around : Around) → IsInside (Notifying n y) around → LeadSuits around (notifies_by o n y)
@@ -95,6 +106,40 @@ reach_suits Notifies b w around i = plain refl refl i
 seeking_suits : (b : Broadcast) (a : Answer) (around : Around) → IsInside (Seeking b) around → LeadSuits around (after_seeking b a)
 seeking_suits b (Refused code) around i = tt
 seeking_suits b a around i = either (number_in a == 0) around (Ends (Value 1)) (Calls (reach b (number_in a)) (Reaching b (number_in a))) tt (reach_suits b.spread b (number_in a) around i)
+
+-- a loop of messages
+turns_suit : (m : Modal) (around : Around) → IsInside (Dispatching m) around → LeadSuits around (turns m)
+turns_suit PumpLoop around i = plain refl refl i
+turns_suit (DialogLoop d) around i = plain refl refl i
+
+ends_suit : (m : Modal) (a : Answer) (around : Around) → IsInside (Dispatching m) around → LeadSuits around (loop_ends m a)
+ends_suit PumpLoop a around i = tt
+ends_suit (DialogLoop d) a around i = either (d.owner == 0) around (Ends a) (Runs (enabling d.owner 1) (Enabling a)) tt (enabling_suits (Asking d) (Enabling a) d.owner 1 around (omega arith) (omega arith) i)
+
+quits_suit : (m : Modal) (code : ℕ) (around : Around) → IsInside (Dispatching m) around → LeadSuits around (quits m code)
+quits_suit PumpLoop code around i = tt
+quits_suit (DialogLoop d) code around i = plain refl refl i
+
+handles_suit : (m : Modal) (msg : Msg) (around : Around) → IsInside (Dispatching m) around → LeadSuits around (handles m msg)
+handles_suit m msg around i = either (msg.number == WM_KEYDOWN) around (Calls (translate_of msg) (Translating m msg)) (dispatches m msg) (plain refl refl i) (plain refl refl i)
+
+getting_suits : (m : Modal) (a : Answer) (around : Around) → IsInside (Dispatching m) around → LeadSuits around (after_getting m a)
+getting_suits m (GotMessage origin number msg) around i = either (msg.number == WM_QUIT) around (quits m msg.wparam) (handles m msg) (quits_suit m msg.wparam around i) (handles_suit m msg around i)
+getting_suits m (Refused code) around i = ends_suit m (Refused code) around i
+getting_suits m a around i = ends_suit m (Value 0) around i
+
+-- a dialog
+opening_suits : (w : ℕ) (a : Answer) (around : Around) → IsInside (Opening w) around → LeadSuits around (after_opening w a)
+opening_suits w (Refused code) around i = tt
+opening_suits w a around i =
+    let o = number_in a in
+    either (o == 0) around (turns (DialogLoop (dialog_on w 0))) (Runs (enabling o 0) (Disabling (dialog_on w o))) (plain refl refl i) (enabling_suits (Opening w) (Disabling (dialog_on w o)) o 0 around (omega arith) (omega arith) i)
+
+asking_suits : (d : Dialog) (a : Answer) (around : Around) → IsInside (Asking d) around → LeadSuits around (after_asking d a)
+asking_suits d RunningAnswer around i = plain refl refl i
+asking_suits d (Finished x) around i = ends_suit (DialogLoop d) (Value x) around i
+asking_suits d (Refused code) around i = ends_suit (DialogLoop d) (Refused code) around i
+asking_suits d a around i = ends_suit (DialogLoop d) (Value 0) around i
 
 -- where a place leads suits what is around it
 pub lead_suits : (q : Place) (a : Answer) (x : ℕ) (around : Around) → IsInside q around → LeadSuits around (compound_after q a x)
@@ -119,19 +164,17 @@ lead_suits (Calling call) a x around i = calling_suits call a around i
 lead_suits (Notifying n y) a x around i = notifies_suits (next_notice n) (others n) y around i
 lead_suits (Seeking b) a x around i = seeking_suits b a around i
 lead_suits (Reaching b w) a x around i = plain refl refl i
+lead_suits (Getting m) a x around i = getting_suits m a around i
+lead_suits (Translating m msg) a x around i = plain refl refl i
+lead_suits (Dispatching m) a x around i = turns_suit m around i
+lead_suits (Opening w) a x around i = opening_suits w a around i
+lead_suits (Disabling d) a x around i = either (was_enabled a) around (turns (DialogLoop d)) (turns (DialogLoop (dialog_on d.window 0))) (plain refl refl i) (plain refl refl i)
+lead_suits (Asking d) a x around i = asking_suits d a around i
+lead_suits (Requitting d) a x around i = plain refl refl i
+lead_suits (Finishing d) a x around i = plain refl refl i
+lead_suits (Enabling b) a x around i = tt
 lead_suits (Defaulting y) (Refused code) x around i = tt
 lead_suits (Defaulting y) a x around i = tt
-
--- a place around another stands alone and inside of one more
-outer_alone : (q : Place) → IsOuter q → IsInside q Nobody
-outer_alone Undoing h = omega arith
-outer_alone (Defaulting x) h = omega arith
-outer_alone q h = absurd h
-
-outer_inside : (q a : Place) → IsOuter q → IsOuter a → IsInside q (One a)
-outer_inside Undoing a h k = (omega arith, k)
-outer_inside (Defaulting x) a h k = (omega arith, k)
-outer_inside q a h k = absurd h
 
 -- what is asked for at a stage is what it accepts
 pub asked_accepts : (turn : Turn) (g : Got) → Awaits (Make turn.call) g → Accepts (Asked turn) g
@@ -225,12 +268,12 @@ inside_pieces q (Two a b) ps h = absurd h
 hands_to_one : (turn : Turn) (q : Place) → IsTurn turn → turn.around ≡ One q → IsTurn (record turn { place = q; around = Nobody })
 hands_to_one turn q h e =
     let i : IsInside turn.place (One q) = subst (λ x. IsInside turn.place x) e h.inside in
-    plain h.stays h.goes_on (outer_alone q i.1)
+    plain h.stays h.goes_on i.1
 
 hands_to_two : (turn : Turn) (q a : Place) → IsTurn turn → turn.around ≡ Two q a → IsTurn (record turn { place = q; around = One a })
 hands_to_two turn q a h e =
     let i : IsInside turn.place (Two q a) = subst (λ x. IsInside turn.place x) e h.inside in
-    plain h.stays h.goes_on (outer_inside q a i.1 i.2)
+    plain h.stays h.goes_on (i.1, i.2)
 
 -- and so it does by the turn outside
 pub hands_out : (turn o : Turn) (x : Around) → turn.around ≡ x → outer_in turn x ≡ Some o → IsTurn turn → IsTurn o
@@ -242,7 +285,7 @@ hands_out turn o (Two q a) e f h = let same : record turn { place = q; around = 
 default_suits : (p : Parameters) (b : Begin) (x : ℕ) (call : Call) → Some b ≡ default_begin p → IsTurn (first_turn b (One (Defaulting x)) call)
 default_suits p b x call h =
     each_begin (λ y. IsTurn (first_turn y (One (Defaulting x)) call)) p b h
-    (λ e. plain refl refl (omega arith, tt)) (λ e. plain refl refl (omega arith, tt)) (λ e. plain refl refl (omega arith, tt)) (λ e. plain refl refl (omega arith, tt)) (λ e. plain refl refl (omega arith, tt))
+    (λ e. plain refl refl (omega arith, omega arith)) (λ e. plain refl refl (omega arith, omega arith)) (λ e. plain refl refl (omega arith, omega arith)) (λ e. plain refl refl (omega arith, omega arith)) (λ e. plain refl refl (omega arith, omega arith))
 
 -- the first call of a compound
 pub begin_suits : (c : Compound) (call : Call) → IsTurn (first_turn (begin_of c) Nobody call)

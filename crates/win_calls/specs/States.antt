@@ -3,7 +3,9 @@ use Rattle.std.specs.Prelude.{◌≡◌, ◌<◌, ◌≤◌, ◌^◌, ℕ, false
 use Rattle.script_tree.specs.declared.frame.Begin.{Begin}
 use Rattle.script_tree.specs.declared.frame.Run.{Run}
 use Rattle.script_tree.specs.declared.frame.Place.{Place}
-use Rattle.script_tree.specs.declared.frame.Place.TheVariants.{Making as MakingWindow, Greeting, Telling, Undoing, Dooming, Unmaking, Destroying, Parting, Dropping, Single, Calling, Notifying, Seeking, Reaching, Defaulting}
+use Rattle.script_tree.specs.declared.frame.Place.TheVariants.{Making as MakingWindow, Greeting, Telling, Undoing, Dooming, Unmaking, Destroying, Parting, Dropping, Single, Calling, Notifying, Seeking, Reaching, Getting, Translating, Dispatching, Opening, Disabling, Asking, Requitting, Finishing, Enabling, Defaulting}
+use Rattle.script_tree.specs.declared.frame.Modal.{Modal}
+use Rattle.script_tree.specs.declared.frame.Modal.TheVariants.{Pump, Dialog as DialogLoop}
 use Rattle.script_tree.specs.declared.variables.Parameters.{Parameters}
 use Rattle.script_tree.specs.declared.variables.Variables.{Variables}
 use Rattle.script_tree.specs.Tree.{Tree}
@@ -25,7 +27,7 @@ use Rattle.win_calls.specs.declared.stage.Turn.{Turn}
 use Rattle.win_calls.specs.declared.stage.Then.{Then}
 use Rattle.win_calls.specs.declared.stage.Then.TheVariants.{Again as AgainThen, Giving as GivingThen}
 use Rattle.win_calls.specs.declared.stage.Stage.{Stage}
-use Rattle.win_calls.specs.declared.stage.Stage.TheVariants.{Fresh, Asked, Running as RunningStage, Leaving as LeavingStage, Over}
+use Rattle.win_calls.specs.declared.stage.Stage.TheVariants.{Fresh, Ready, Asked, Running as RunningStage, Leaving as LeavingStage, Over}
 use Rattle.win_calls.specs.Table.{begun, Comes}
 
 -- a window and a message's number of 32 bits
@@ -58,12 +60,18 @@ IsRun next = ⊥
 -- what may be handed in at that stage
 abbrev pub Accepts : Stage → Got → Type 0
 Accepts (Fresh c) Start = Unit {0}
+Accepts (Ready turn) Start = Unit {0}
 Accepts (Asked turn) (Answered a) = MayFollow turn.call a
 Accepts (RunningStage turn next first) (Returned x) = Unit {0}
 Accepts (LeavingStage turn next first value) (Answered a) = MayFollow (Leave value) a
 Accepts stage got = ⊥
 
--- how many compounds may begin inside of one another from that place on
+-- how many compounds may begin inside of one another in a loop of messages
+abbrev pub modal_depth : Modal → ℕ
+modal_depth Pump = 0
+modal_depth (DialogLoop d) = 1
+
+-- the same from that place on
 abbrev pub depth : Place → ℕ
 depth MakingWindow = 1
 depth (Greeting w) = 1
@@ -79,19 +87,22 @@ depth (Calling call) = 0
 depth (Notifying n y) = 0
 depth (Seeking b) = 0
 depth (Reaching b w) = 0
+depth (Getting m) = modal_depth m
+depth (Translating m msg) = modal_depth m
+depth (Dispatching m) = modal_depth m
+depth (Opening w) = 1
+depth (Disabling d) = 1
+depth (Asking d) = 1
+depth (Requitting d) = 1
+depth (Finishing d) = 1
+depth (Enabling a) = 0
 depth (Defaulting x) = 0
-
--- a place behind a compound inside, from which no other begins
-abbrev pub IsOuter : Place → Type 0
-IsOuter Undoing = Unit {0}
-IsOuter (Defaulting x) = Unit {0}
-IsOuter place = ⊥
 
 -- the compounds around that place wait for one inside of them, and with all that may begin they are three deep at most
 abbrev pub IsInside : Place → Around → Type 0
 IsInside q Nobody = depth q ≤ 2
-IsInside q (One a) = (depth q ≤ 1) × IsOuter a
-IsInside q (Two a b) = (depth q ≤ 0) × IsOuter a × IsOuter b
+IsInside q (One a) = (depth q ≤ 1) × (depth a ≤ 2)
+IsInside q (Two a b) = (depth q ≤ 0) × (depth a ≤ 1) × (depth b ≤ 2)
 
 -- one compound more around the one that begins inside of it
 abbrev pub within : Place → Around → Around
@@ -172,6 +183,8 @@ IsLeave x p = ⊥
 pub data StandsFor : Stage → List Piece → State → Type 0 where
   -- before the first call: the pieces of the statement
   is_fresh : (c : Compound) (v : Variables) → StandsFor (Fresh c) (begun c) (Going v)
+  -- before the first call, which is that one
+  is_ready : (turn : Turn) (v : Variables) → IsTurn turn → StandsFor (Ready turn) (Making turn.call ∷ behind turn) (Going v)
   -- a call is made, and what it leads to is behind it
   is_asked : (turn : Turn) (v : Variables) → IsTurn turn → StandsFor (Asked turn) (Making turn.call ∷ behind turn) (Going v)
   -- a procedure runs

@@ -39,19 +39,21 @@ begin_of (PostAll m p q) = broadcasting (broadcast Posts m p q)
 begin_of (NotifyAll m p q) = broadcasting (broadcast Notifies m p q)
 begin_of (DefaultOf w number p q) = destruction w
 
--- a compound statement with the values of its operands
-abbrev pub compound_of : CompoundStatement → Variables → Compound
-compound_of (statements.ShowWindow w on) v = ShowWindow (value_of w v) (value_of on v)
-compound_of (statements.EnableWindow w on) v = EnableWindow (value_of w v) (value_of on v)
-compound_of (statements.SetWindowPos w after l t r b flags) v = SetWindowPos (value_of w v) (edge_of after v) (edge_of l v) (edge_of t v) (edge_of r v) (edge_of b v) (value_of flags v)
-compound_of (statements.SetFocus w) v = SetFocus (value_of w v)
-compound_of (statements.SetActive w) v = SetActive (value_of w v)
-compound_of (statements.SetCapture w) v = SetCapture (value_of w v)
-compound_of statements.ReleaseCapture v = ReleaseCapture
-compound_of (statements.BeginPaint w) v = BeginPaint (value_of w v)
-compound_of (statements.UpdateWindow w) v = UpdateWindow (value_of w v)
-compound_of (statements.PostAll m p q) v = PostAll (value_of m v) (value_of p v) (value_of q v)
-compound_of (statements.NotifyAll m p q) v = NotifyAll (value_of m v) (value_of p v) (value_of q v)
+-- a compound statement with the values of its operands; none for a loop of messages, which isn't one of these
+abbrev pub compound_of : CompoundStatement → Variables → Option Compound
+compound_of (statements.ShowWindow w on) v = Some (ShowWindow (value_of w v) (value_of on v))
+compound_of (statements.EnableWindow w on) v = Some (EnableWindow (value_of w v) (value_of on v))
+compound_of (statements.SetWindowPos w after l t r b flags) v = Some (SetWindowPos (value_of w v) (edge_of after v) (edge_of l v) (edge_of t v) (edge_of r v) (edge_of b v) (value_of flags v))
+compound_of (statements.SetFocus w) v = Some (SetFocus (value_of w v))
+compound_of (statements.SetActive w) v = Some (SetActive (value_of w v))
+compound_of (statements.SetCapture w) v = Some (SetCapture (value_of w v))
+compound_of statements.ReleaseCapture v = Some ReleaseCapture
+compound_of (statements.BeginPaint w) v = Some (BeginPaint (value_of w v))
+compound_of (statements.UpdateWindow w) v = Some (UpdateWindow (value_of w v))
+compound_of (statements.PostAll m p q) v = Some (PostAll (value_of m v) (value_of p v) (value_of q v))
+compound_of (statements.NotifyAll m p q) v = Some (NotifyAll (value_of m v) (value_of p v) (value_of q v))
+compound_of statements.Pump v = None
+compound_of (statements.Dialog w) v = None
 
 -- the pieces of a statement that begins so
 abbrev pub begun_with : Begin → List Piece

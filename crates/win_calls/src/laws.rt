@@ -1,6 +1,6 @@
 //! Laws of the table for compounds.
 
-ghost use Rattle.std.specs.Prelude.{◌≡◌, ℕ, List};
+ghost use Rattle.std.specs.Prelude.{◌≡◌, ℕ, List, IfSome};
 ghost use Rattle.script_tree.specs.Tree.{Tree};
 ghost use Rattle.script_tree.specs.Pieces.{Piece, State, Going, Becomes};
 ghost use Rattle.script_tree.specs.Steps.{statement};
@@ -17,11 +17,11 @@ ghost use Rattle.win_calls.specs.declared.stage.Stage.{Stage};
 ghost use Rattle.win_calls.specs.Table.{begun, compound_of, Handed, Comes};
 ghost use Rattle.win_calls.specs.States.{StandsFor, Accepts};
 
-/// A compound begins with the pieces that the table has for its statement.
+/// A compound begins with the pieces that the table has for its statement. A loop of messages is none of these compounds.
 pub fn begins_as_its_statement()
     ensures create { (c : Creation) (v : Variables) (n : ℕ) → statement (Create c) v n ≡ Becomes (begun (Creates c.class c.title (value_of c.parent v) (value_of c.style v) (value_of c.extended_style v) (edge_of c.left v) (edge_of c.top v) (edge_of c.right v) (edge_of c.bottom v))) (Going v) }
     ensures destroy { (w : Operand) (v : Variables) (n : ℕ) → statement (Destroy w) v n ≡ Becomes (begun (Destroys (value_of w v))) (Going v) }
-    ensures compound { (c : CompoundStatement) (v : Variables) (n : ℕ) → statement (Compound c) v n ≡ Becomes (begun (compound_of c v)) (Going v) }
+    ensures compound { (c : CompoundStatement) (v : Variables) (n : ℕ) → IfSome (compound_of c v) (λ d. statement (Compound c) v n ≡ Becomes (begun d) (Going v)) }
     ensures default { (v : Variables) (n : ℕ) → statement Default v n ≡ Becomes (begun (Defaults v.parameters.hwnd v.parameters.number v.parameters.wparam v.parameters.lparam)) (Going v) }
 {}
 

@@ -40,6 +40,8 @@ pub enum Then {
 pub enum Stage {
     /// It hasn't begun.
     Fresh(Compound),
+    /// The same, where its first call is this one.
+    Ready(Turn),
     /// Its call is made.
     Asked(Turn),
     /// A procedure runs: the first for the call, or one for the `leave` of another that ran before, where

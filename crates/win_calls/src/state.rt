@@ -1,16 +1,19 @@
 //! The state of a compound statement.
 
-ghost use Rattle.std.specs.Prelude.{ℕ, List};
+ghost use Rattle.std.specs.Prelude.{ℕ, List, [], ◌∷◌};
 ghost use Rattle.script_tree.specs.Tree.{Tree};
-ghost use Rattle.script_tree.specs.Pieces.{Piece, State, Going};
+ghost use Rattle.script_tree.specs.Pieces.{Piece, Settle, State, Going};
+ghost use Rattle.script_tree.specs.Steps.{begun_over};
 ghost use Rattle.script_tree.specs.declared.variables.Variables.{Variables};
 ghost use Rattle.win_calls.specs.Table.{begun, Handed};
-ghost use Rattle.win_calls.specs.States.{StandsFor, Accepts, Awaits, Leads};
+ghost use Rattle.win_calls.specs.States.{StandsFor, Accepts, Awaits, Leads, IsTurn, first_turn};
 
 use crate::compound::{Compound, Got, Next};
-use crate::ends::begins;
-use crate::stage::{Stage, Step};
+use crate::ends::{asks, begins};
+use crate::stage::{Around, Stage, Step, Turn};
 use crate::turns::{answered, left, returned};
+use script_tree::Begin;
+use user_model::Call;
 
 /// A compound statement in the middle of its calls. It has a fixed size and takes no memory.
 #[derive(Clone, Copy)]
@@ -28,6 +31,23 @@ impl CompoundState {
     {
         CompoundState {
             stage: Stage::Fresh(compound),
+        }
+    }
+
+    /// A statement that begins so, before its first call; its end sets `r` and `err` by that call. The crates above
+    /// make theirs so.
+    pub fn of_begin(begin: Begin, settling: Call) -> CompoundState
+        requires { IsTurn (first_turn begin Around.Nobody settling) }
+        ensures stands { (v : Variables) → StandsFor result.stage (begun_over begin (Settle settling ∷ [])) (Going v) }
+        ensures accepts { Accepts result.stage Got.Start }
+    {
+        CompoundState {
+            stage: Stage::Ready(Turn {
+                call: begin.call,
+                place: begin.place,
+                around: Around::Nobody,
+                statement: settling,
+            }),
         }
     }
 
@@ -51,6 +71,7 @@ fn goes_on(stage: Stage, got: Got) -> Step
 {
     match stage {
         Stage::Fresh(compound) => begins(compound),
+        Stage::Ready(turn) => asks(turn),
         Stage::Asked(turn) => match got {
             Got::Answered(answer) => answered(turn, answer),
             _ => unreachable!(),

@@ -1,4 +1,5 @@
-use Rattle.win_calls.proofs.StateLaws.{fresh_leads, asked_leads, running_leads, leaving_leads}
+use Rattle.win_calls.proofs.TurnLaws.{carry, asks_leads}
+use Rattle.win_calls.proofs.StateLaws.{fresh_leads, ready_leads, asked_leads, running_leads, leaving_leads}
 use Rattle.win_calls.proofs.state.goes_on.Goals as goal
 
 pub returns-in-Fresh-clause-follows : goal.returns-in-Fresh-clause-follows
@@ -16,3 +17,7 @@ returns-in-Returned-clause-follows c s n ps qs st sq h m =
 pub returns-in-Answered-got-clause-follows : goal.returns-in-Answered-got-clause-follows
 returns-in-Answered-got-clause-follows c s n ps qs st sq h m =
     leaving_leads s n c.args.stage c.args.got c.in-Leaving.turn c.in-Leaving.then c.in-Leaving.first c.in-Leaving.value c.in-Answered-got.answer ps qs st sq _ _ c.in-Leaving.is c.in-Answered-got.is h m (λ rs v t b. c.left.ensures.follows s n rs v t b)
+
+pub returns-in-Ready-clause-follows : goal.returns-in-Ready-clause-follows
+returns-in-Ready-clause-follows c s n ps qs st sq h m =
+    ready_leads s n c.args.stage c.args.got c.in-Ready.turn ps qs st sq _ _ c.in-Ready.is c.requires h m (λ v t. carry s n _ _ _ _ c.asks.result c.asks.ensures.step (asks_leads s n c.in-Ready.turn v t))

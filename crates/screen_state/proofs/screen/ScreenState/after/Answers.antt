@@ -1,7 +1,8 @@
-use Rattle.std.proofs.Common.{◌≡◌, ◌∙◌, Option, false, sym}
+use Rattle.std.proofs.Common.{◌≡◌, ◌∙◌, Option, None, true, false, sym}
+use Rattle.std.proofs.lemmas.Bool.{false≢true}
 use Rattle.std.proofs.lemmas.Result.{IfOk-weaker}
 use Rattle.screen_state.specs.Screens.{Change, FollowsScreen, LeavesScreen, draws, replaced}
-use Rattle.screen_state.proofs.Changed.{entered_leaves}
+use Rattle.screen_state.proofs.Changed.{draws_none, entered_leaves}
 use Rattle.screen_state.proofs.Followed.{entered_children, entry_fits, next_children}
 use Rattle.screen_state.proofs.Screens.{stays_follow}
 use Rattle.screen_state.proofs.Unmoved.{made_of}
@@ -30,4 +31,14 @@ returns-clause-windows c =
     let e = c.args.entry in
     IfOk-weaker c.changed.result (λ (o : Option Change). LeavesScreen c.args.setup t c.args.order.now l.tree l.order s (replaced o s)) (λ (o : Option Change). draws e.call e.answer ≡ false → FollowsScreen c.args.setup t c.args.order.now e s (replaced o s))
     (λ o leaves quiet. entered_leaves c.args.setup t l.tree c.args.order.now l.order e s (replaced o s) c.in_ok-layout.ensures (sym c.stays.ensures ∙ c.if-stays.false) leaves)
+    c.changed.ensures
+
+pub returns-clause-drawing : goal.returns-clause-drawing
+returns-clause-drawing c =
+    let e = c.args.entry in
+    let s = c.args.self.now in
+    let l = c.in_ok-layout.layout in
+    let none : draws e.call e.answer ≡ false = draws_none e.call e.answer s (sym c.stays.ensures ∙ c.if-stays.false) in
+    IfOk-weaker c.changed.result (λ (o : Option Change). LeavesScreen c.args.setup c.args.tree.now c.args.order.now l.tree l.order s (replaced o s)) (λ (o : Option Change). draws e.call e.answer ≡ true → o ≡ None)
+    (λ o leaves drawn. absurd (false≢true (sym none ∙ drawn)))
     c.changed.ensures
