@@ -20,6 +20,3 @@ pub use messages::MessageAnswer;
 pub use plain::PlainAnswer;
 pub use sends::SendAnswer;
 pub use split::SplitAnswer;
-
-#[cfg(test)]
-mod tests;

@@ -162,6 +162,3 @@ impl Region {
         self.rects == o.rects
     }
 }
-
-#[cfg(test)]
-mod tests;

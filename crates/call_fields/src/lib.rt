@@ -14,6 +14,3 @@ pub use value::{
     signed_at, source_at, thread_at, values_of, window_at,
 };
 pub use words::{cause_word, code_word, source_word};
-
-#[cfg(test)]
-mod tests;

@@ -30,6 +30,3 @@ pub use replies::ReplyCall;
 pub use sends::SendCall;
 pub use split::SplitCall;
 pub use windows::WindowCall;
-
-#[cfg(test)]
-mod tests;

@@ -11,9 +11,6 @@ use band_region::Region;
 use std::alloc::{AllocError, Global};
 use win_num::Rect;
 
-#[cfg(test)]
-mod tests;
-
 /// The pixels of the region that a rectangle has too: those of each half of the list, united.
 fn covered(alloc: Global, whole: &Region, covers: &[Rect]) -> Result<Region, AllocError>
     ensures { IfOk result (λ x. (p : Point) → region_has x p ≡ (region_has whole.now p && region_has covers.now p)) }

@@ -1,10 +1,12 @@
 //! The calls of delivery: what each answers, and its entry.
 
-ghost use Rattle.std.specs.Prelude.{◌≡◌, ◌<◌, ◌≤◌, true, false, IfOk, OnOk, OnErr};
+ghost use Rattle.std.specs.Prelude.{◌≡◌, ◌<◌, ◌≤◌, ◌+◌, length, true, false, IfOk, OnOk, OnErr};
 ghost use Rattle.core_deliver.specs.Groups.{is_delivery, is_retrieval};
+ghost use Rattle.core_deliver.specs.Reads.{is_unfiltered, reads_by};
 ghost use Rattle.user_model.specs.Idle.{reply};
 ghost use Rattle.user_model.specs.Machines.{after};
 ghost use Rattle.user_model.specs.Past.{is_full};
+ghost use Rattle.user_model.specs.Posts.{posted};
 ghost use Rattle.user_model.specs.Replies.{is_barred_by, row};
 ghost use Rattle.user_model.specs.Stacks.{top};
 
@@ -17,22 +19,26 @@ use crate::sends::{
 };
 use crate::status_words::queue_status;
 use core_state::CoreState;
+use post_queue::Steps;
 use std::alloc::AllocError;
+use std::marker::Brand;
+use std::sync::ledger::{Blank, Ledger};
 use user_model::{Answer, Call, Entry};
 use win_num::{Filter, Thread};
 
 /// The answer of a retrieval to a running thread, where its stack allows it.
-fn retrieval_row(state: &CoreState, who: u8, call: Call) -> Answer
+fn retrieval_row<L: Ledger>(state: &CoreState, who: u8, call: Call, steps: &mut Steps<L>) -> Answer
     requires group { is_retrieval call ≡ true }
     requires some { 0 < who }
     requires known { who ≤ state.now.setup.threads }
-    ensures { result ≡ row state.now.setup state.now.past who call }
+    ensures answer { result ≡ row state.now.setup state.now.past who call }
+    ensures reads { steps.new ≤ steps.old + reads_by state.now.past who call }
 {
     match call {
         Call::Peek(hwnd, min, max, flags) => {
-            peek_answer(state, who, Filter { hwnd, min, max }, flags)
+            peek_answer(state, who, Filter { hwnd, min, max }, flags, steps)
         }
-        Call::Get(hwnd, min, max) => get_answer(state, who, Filter { hwnd, min, max }),
+        Call::Get(hwnd, min, max) => get_answer(state, who, Filter { hwnd, min, max }, steps),
         _ => unreachable!(),
     }
 }
@@ -68,15 +74,41 @@ fn delivery_row(state: &CoreState, who: u8, call: Call) -> Answer
     }
 }
 
+/// What a retrieval answers, in one step for each posted message that is read.
+fn counted_answer<L: Ledger>(
+    state: &CoreState,
+    who: Thread,
+    call: Call,
+    steps: &mut Steps<L>,
+) -> Answer
+    requires { is_retrieval call ≡ true }
+    ensures answer { result ≡ reply state.now.setup state.now.past who.0 call }
+    ensures reads { steps.new ≤ steps.old + reads_by state.now.past who.0 call }
+{
+    match admit(state, who, call) {
+        Some(code) => Answer::Refused(code),
+        None => retrieval_row(state, who.0, call, steps),
+    }
+}
+
+/// What a retrieval answers, in steps that nobody counts.
+fn uncounted_answer<L: Ledger>(blank: Blank, state: &CoreState, who: Thread, call: Call) -> Answer
+    requires name { blank.name ≡ L.name }
+    requires parts { blank.parts ≡ L.parts }
+    requires one { blank.parts ≡ 1 }
+    requires group { is_retrieval call ≡ true }
+    ensures { result ≡ reply state.now.setup state.now.past who.0 call }
+{
+    let mut steps = Steps::<L>::new(blank);
+    counted_answer(state, who, call, &mut steps)
+}
+
 /// What a retrieval answers.
 pub fn retrieval_answer(state: &CoreState, who: Thread, call: Call) -> Answer
     requires { is_retrieval call ≡ true }
     ensures { result ≡ reply state.now.setup state.now.past who.0 call }
 {
-    match admit(state, who, call) {
-        Some(code) => Answer::Refused(code),
-        None => retrieval_row(state, who.0, call),
-    }
+    uncounted_answer::<Brand>(Blank::new(1), state, who, call)
 }
 
 /// What a call of delivery answers.
@@ -126,15 +158,25 @@ pub fn enter(
 
 /// Makes a get or a peek. The answer is the reply of the definitions, and stands with the call as the
 /// newest entry, unless the history is full: then it stays as it was. After want of memory nothing
-/// has changed, and the call may be made again (Microsoft, GetMessage and PeekMessage functions).
-pub fn retrieve(s: &mut CoreState, who: Thread, call: Call) -> Result<Answer, AllocError>
+/// has changed, and the call may be made again (Microsoft, GetMessage and PeekMessage functions). The messages posted
+/// to the thread are read up to the first that the filter lets pass, in one step each: with the filter 0, 0, 0 one at
+/// most, and never more than are posted. A caller that counts nothing hands in `Steps` from `Blank::new(1)`.
+pub fn retrieve<L: Ledger>(
+    s: &mut CoreState,
+    who: Thread,
+    call: Call,
+    steps: &mut Steps<L>,
+) -> Result<Answer, AllocError>
     requires { is_retrieval call ≡ true }
     ensures answer { IfOk result (λ answer. answer ≡ reply s.old.setup s.old.past who.0 call) }
     ensures entry { OnOk result (s.new.past ≡ after s.old.setup s.old.past who call) }
     ensures err { OnErr result (s.new.past ≡ s.old.past) }
     ensures setup { s.new.setup ≡ s.old.setup }
+    ensures reads { steps.new ≤ steps.old + reads_by s.old.past who.0 call }
+    ensures unfiltered { is_unfiltered call ≡ true → steps.new ≤ steps.old + 1 }
+    ensures most { steps.new ≤ steps.old + length (posted s.old.past who.0) }
 {
-    let answer = retrieval_answer(s, who, call);
+    let answer = counted_answer(s, who, call, steps);
     enter(s, who, call, answer)
 }
 
@@ -154,12 +196,18 @@ pub fn deliver(s: &mut CoreState, who: Thread, call: Call) -> Result<Answer, All
 
 /// Asks which kinds of messages are there, and which of them came since the thread looked last. The answer is the reply of the
 /// definitions, and stands with the call as the newest entry, unless the history is full: then it stays as it was. After want of memory
-/// nothing has changed, and the call may be made again (Microsoft, GetQueueStatus function).
-pub fn status(s: &mut CoreState, who: Thread, flags: u64) -> Result<Answer, AllocError>
+/// nothing has changed, and the call may be made again (Microsoft, GetQueueStatus function). No posted message is read.
+pub fn status<L: Ledger>(
+    s: &mut CoreState,
+    who: Thread,
+    flags: u64,
+    steps: &mut Steps<L>,
+) -> Result<Answer, AllocError>
     ensures answer { IfOk result (λ answer. answer ≡ reply s.old.setup s.old.past who.0 (Call.Status flags)) }
     ensures entry { OnOk result (s.new.past ≡ after s.old.setup s.old.past who (Call.Status flags)) }
     ensures err { OnErr result (s.new.past ≡ s.old.past) }
     ensures setup { s.new.setup ≡ s.old.setup }
+    ensures steps { steps.new ≡ steps.old }
 {
     let answer = status_answer(s, who, flags)?;
     enter(s, who, Call::Status(flags), answer)

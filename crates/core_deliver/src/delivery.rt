@@ -1,6 +1,7 @@
 //! What posts and retrievals answer.
 
-ghost use Rattle.std.specs.Prelude.{◌≡◌, ◌<◌, ◌≤◌, false};
+ghost use Rattle.std.specs.Prelude.{◌≡◌, ◌<◌, ◌≤◌, ◌+◌, false};
+ghost use Rattle.core_deliver.specs.Reads.{reads_for};
 ghost use Rattle.user_model.specs.Past.{is_full};
 ghost use Rattle.user_model.specs.Filters.{is_no_filter_window};
 ghost use Rattle.user_model.specs.Places.{clock, cursor};
@@ -13,6 +14,8 @@ ghost use Rattle.user_model.specs.ReplyDelivery.{get_reply, is_no_post_window, p
 
 use crate::codes::{INVALID_PARAMETER, INVALID_THREAD_ID, INVALID_WINDOW_HANDLE, NOT_ENOUGH_QUOTA};
 use core_state::CoreState;
+use post_queue::Steps;
+use std::sync::ledger::Ledger;
 use user_model::{Answer, Origin, QUEUE_LIMIT};
 use win_num::{Filter, Hwnd, Msg, names};
 
@@ -30,15 +33,21 @@ fn is_no_filter_window(state: &CoreState, who: u8, w: u64) -> bool
 }
 
 /// What is ready, else the first posted message that passes, else quit, else input, else painting, else a timer.
-fn next(state: &CoreState, who: u8, filter: Filter) -> Option<Answer>
+fn next<L: Ledger>(
+    state: &CoreState,
+    who: u8,
+    filter: Filter,
+    steps: &mut Steps<L>,
+) -> Option<Answer>
     requires some { 0 < who }
     requires known { who ≤ state.now.setup.threads }
-    ensures { result ≡ next state.now.setup state.now.past who filter }
+    ensures answer { result ≡ next state.now.setup state.now.past who filter }
+    ensures reads { steps.new ≤ steps.old + reads_for state.now.past who filter }
 {
     if let Some(answer) = state.next_ready(who) {
         return Some(answer);
     }
-    if let Some(answer) = next_posted(state, who, filter) {
+    if let Some(answer) = next_posted(state, who, filter, steps) {
         return Some(answer);
     }
     if let Some(answer) = next_quit(state, who) {
@@ -53,13 +62,19 @@ fn next(state: &CoreState, who: u8, filter: Filter) -> Option<Answer>
     next_timer(state, who, filter)
 }
 
-/// The first posted message that passes.
-fn next_posted(state: &CoreState, who: u8, filter: Filter) -> Option<Answer>
+/// The first posted message that passes, in one step for each that is read.
+fn next_posted<L: Ledger>(
+    state: &CoreState,
+    who: u8,
+    filter: Filter,
+    steps: &mut Steps<L>,
+) -> Option<Answer>
     requires some { 0 < who }
     requires known { who ≤ state.now.setup.threads }
-    ensures { result ≡ next_posted state.now.past who filter }
+    ensures answer { result ≡ next_posted state.now.past who filter }
+    ensures reads { steps.new ≡ steps.old + reads_for state.now.past who filter }
 {
-    match state.first_post(who, filter) {
+    match state.first_post_counted(who, filter, steps) {
         Some((number, msg)) => Some(Answer::Got {
             origin: Origin::Posted,
             number,
@@ -138,26 +153,39 @@ fn got(state: &CoreState, origin: Origin, hwnd: Hwnd, number: u32, wparam: u64) 
     }
 }
 
-/// The answer of a get.
-pub fn get_answer(state: &CoreState, who: u8, filter: Filter) -> Answer
+/// The answer of a get, in one step for each posted message that is read.
+pub fn get_answer<L: Ledger>(
+    state: &CoreState,
+    who: u8,
+    filter: Filter,
+    steps: &mut Steps<L>,
+) -> Answer
     requires some { 0 < who }
     requires known { who ≤ state.now.setup.threads }
-    ensures { result ≡ get_reply state.now.setup state.now.past who filter.hwnd filter.min filter.max }
+    ensures answer { result ≡ get_reply state.now.setup state.now.past who filter.hwnd filter.min filter.max }
+    ensures reads { steps.new ≤ steps.old + reads_for state.now.past who filter }
 {
     if is_no_filter_window(state, who, filter.hwnd) {
         return Answer::Refused(INVALID_WINDOW_HANDLE);
     }
-    match next(state, who, filter) {
+    match next(state, who, filter, steps) {
         Some(answer) => answer,
         None => Answer::Wait,
     }
 }
 
-/// The answer of a peek.
-pub fn peek_answer(state: &CoreState, who: u8, filter: Filter, flags: u64) -> Answer
+/// The answer of a peek, in one step for each posted message that is read.
+pub fn peek_answer<L: Ledger>(
+    state: &CoreState,
+    who: u8,
+    filter: Filter,
+    flags: u64,
+    steps: &mut Steps<L>,
+) -> Answer
     requires some { 0 < who }
     requires known { who ≤ state.now.setup.threads }
-    ensures { result ≡ peek_reply state.now.setup state.now.past who filter.hwnd filter.min filter.max flags }
+    ensures answer { result ≡ peek_reply state.now.setup state.now.past who filter.hwnd filter.min filter.max flags }
+    ensures reads { steps.new ≤ steps.old + reads_for state.now.past who filter }
 {
     if flags > 3 {
         return Answer::Refused(INVALID_PARAMETER);
@@ -165,7 +193,7 @@ pub fn peek_answer(state: &CoreState, who: u8, filter: Filter, flags: u64) -> An
     if is_no_filter_window(state, who, filter.hwnd) {
         return Answer::Refused(INVALID_WINDOW_HANDLE);
     }
-    match next(state, who, filter) {
+    match next(state, who, filter, steps) {
         Some(answer) => answer,
         None => Answer::Nothing,
     }

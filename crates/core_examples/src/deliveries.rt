@@ -1,10 +1,14 @@
 //! What the calls of delivery answer to a thread and to the clock.
 
+ghost use Rattle.std.specs.Prelude.{◌≡◌};
+
 use core_deliver::{
     admit, deliver, delivery_answer, is_delivery, is_retrieval, retrieval_answer, retrieve, status,
 };
 use core_state::CoreState;
+use post_queue::Steps;
 use std::io::Print;
+use std::sync::ledger::{Blank, Ledger};
 use user_model::Call;
 use win_num::Thread;
 
@@ -18,10 +22,14 @@ const GET: Call = Call::Get(0, 0, 0);
 const SEND: Call = Call::Send(16, 1024, 0, 0);
 
 /// A post, which is retrieved.
-fn tell_post(rt: &impl Print, state: &mut CoreState) -> anyhow::Result<()> {
+fn tell_post<L: Ledger>(
+    rt: &impl Print,
+    state: &mut CoreState,
+    steps: &mut Steps<L>,
+) -> anyhow::Result<()> {
     println!(rt; "post: {:?}", deliver(state, Thread(1), POST)?)?;
-    println!(rt; "status: {:?}", status(state, Thread(1), 127)?)?;
-    println!(rt; "get: {:?}", retrieve(state, Thread(1), GET)?)?;
+    println!(rt; "status: {:?}", status(state, Thread(1), 127, steps)?)?;
+    println!(rt; "get: {:?}", retrieve(state, Thread(1), GET, steps)?)?;
     println!(rt; "get again: {:?}", retrieval_answer(state, Thread(1), GET))?;
     println!(rt; "history {}", state.history().len())?;
     Ok(())
@@ -44,7 +52,16 @@ fn tell_refusals(rt: &impl Print, state: &mut CoreState) -> anyhow::Result<()> {
 }
 
 /// Both, one after the other.
-pub fn tell_deliveries(rt: &impl Print, state: &mut CoreState) -> anyhow::Result<()> {
-    tell_post(rt, state)?;
+pub fn tell_deliveries<L: Ledger>(
+    blank: Blank,
+    rt: &impl Print,
+    state: &mut CoreState,
+) -> anyhow::Result<()>
+    requires name { blank.name ≡ L.name }
+    requires parts { blank.parts ≡ L.parts }
+    requires one { blank.parts ≡ 1 }
+{
+    let mut steps = Steps::<L>::new(blank);
+    tell_post(rt, state, &mut steps)?;
     tell_refusals(rt, state)
 }

@@ -19,6 +19,7 @@ pub mod Timing
 pub mod TurnedDialogs
 pub mod Tops
 pub mod Owners
+pub mod PostReads
 pub mod Running
 pub mod SendNumbers
 pub mod Threads

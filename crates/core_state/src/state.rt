@@ -5,7 +5,7 @@ ghost use Rattle.win_num.specs.Clocks.{clock_limit};
 ghost use Rattle.user_model.specs.Legal.{IsLegal};
 ghost use Rattle.user_model.specs.Past.{is_full};
 ghost use Rattle.user_model.specs.Places.{clock, cursor, has_ended};
-ghost use Rattle.user_model.specs.Posts.{first_post, posted, quit};
+ghost use Rattle.user_model.specs.Posts.{first_post, passes, posted, quit};
 ghost use Rattle.user_model.specs.ReplyDelivery.{next_post_number};
 ghost use Rattle.user_model.specs.ReplyWindows.{changes_told, next_window, next_top_reply};
 ghost use Rattle.user_model.specs.Setups.{IsSetup};
@@ -41,6 +41,7 @@ ghost use Rattle.user_model.specs.Classes.{class, classes, registered_count, is_
 ghost use Rattle.user_model.specs.Idle.{reply, is_idle, ends_stuck, last_entry, least_of, times_of};
 ghost use Rattle.user_model.specs.Timers.{due, due_time, passing_timers, timer, timers_of};
 ghost use Rattle.timer_state.specs.TimerLists.{as_due};
+ghost use Rattle.thread_state.specs.Reads.{reads};
 ghost use Rattle.thread_state.specs.Threads.{code_of, fresh_thread, told_post, waiting_call};
 ghost use Rattle.window_state.specs.Steps.{destruction_answer};
 
@@ -54,10 +55,12 @@ use group_state::{GroupState, Slot};
 use input_queue::Inputs;
 use look_state::{Looks, seen_by};
 use pending_state::follow_inputs;
+use post_queue::Steps;
 use screen_state::UpdateBox;
 use send_state::{SendRow, SendState, Tally, first_cause, named_send};
 use std::alloc::{AllocError, Global};
 use std::marker::Model;
+use std::sync::ledger::Ledger;
 use thread_queues::{Stamp, note_entry};
 use thread_state::ThreadState;
 use timer_source::{Timer, Timers};
@@ -246,6 +249,22 @@ impl CoreState {
         ensures { result ≡ option_map told_post (first_post self.now.past thread filter) }
     {
         self.threads[usize::from(thread - 1)].first(&self.tree, filter)
+    }
+
+    /// The same, in one step for each posted message that it reads: those up to the first that the filter lets pass, or all where it
+    /// lets none pass.
+    pub fn first_post_counted<L: Ledger>(
+        &self,
+        thread: u8,
+        filter: Filter,
+        steps: &mut Steps<L>,
+    ) -> Option<(u32, Msg)>
+        requires some { 0 < thread }
+        requires known { thread ≤ self.now.setup.threads }
+        ensures first { result ≡ option_map told_post (first_post self.now.past thread filter) }
+        ensures reads { steps.new ≡ steps.old + reads (passes self.now.past filter) (posted self.now.past thread) }
+    {
+        self.threads[usize::from(thread - 1)].first_counted(&self.tree, filter, steps)
     }
 
     /// The code of the thread's quit, where it was posted and not taken since.

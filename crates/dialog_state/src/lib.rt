@@ -4,6 +4,3 @@
 mod dialogs;
 
 pub use dialogs::{Dialogs, turns};
-
-#[cfg(test)]
-mod tests;

@@ -3,8 +3,6 @@
 #![tactic(auto)]
 
 mod groups;
-#[cfg(test)]
-mod tests;
 
 pub use groups::GroupState;
 pub use input_state::Slot;

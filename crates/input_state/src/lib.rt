@@ -9,8 +9,6 @@ mod groups;
 mod masks;
 mod state;
 mod table;
-#[cfg(test)]
-mod tests;
 
 pub use masks::is_member;
 pub use state::{InputState, Slot};

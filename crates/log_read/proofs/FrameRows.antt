@@ -25,7 +25,7 @@ row_again [] all = refl
 row_again (c ∷ row) all =
     ap (λ (x : ℕ). x ∷ map colour_at (map digit row)) (colour_again c all.0) ∙ ap (λ (l : List ℕ). c ∷ l) (row_again row all.1)
 
-row_below : (row : List ℕ) → AllByRecursion IsColour (map colour_at row)
+pub row_below : (row : List ℕ) → AllByRecursion IsColour (map colour_at row)
 row_below [] = tt
 row_below (c ∷ row) = (colour_below c, row_below row)
 

@@ -1,11 +1,15 @@
 pub mod EntryLoops
 pub mod EntryParts
+pub mod FirstBad
 pub mod FrameRows
 pub mod LineLoops
 pub mod LineWords
 pub mod ListLaws
 pub mod LogParts
 pub mod OneLog
+pub mod OneRefusal
+pub mod Rests
+pub mod RowTexts
 pub mod RunColours
 pub mod RunLogs
 pub mod ValueLoops

@@ -105,7 +105,7 @@ entry_written s e =
     ∙ ap (λ (l : List ℕ). who ++ (32 ∷ l)) (row_written s word (call_parts e.call) (codes "=" ∷ answer ∷ last) (10 ∷ []))
     ∙ two_words who word (flat_map blank_word (map (value_word s) (call_parts e.call) ++ (codes "=" ∷ answer ∷ last))) (10 ∷ [])
 
-end_written : (end : End) → end_line end ≡ line_text (end_words end)
+pub end_written : (end : End) → end_line end ≡ line_text (end_words end)
 end_written ends.Done = refl
 end_written ends.Stuck = refl
 end_written ends.Spent = refl

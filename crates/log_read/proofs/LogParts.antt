@@ -40,7 +40,7 @@ module _ {A : Type 0} where
       let further : length (x ∷ xs) + 1 ≡ suc (length xs + 1) = omega arith in
       ap (λ (k : ℕ). drop k (x ∷ (xs ++ y ∷ ys))) further ∙ drop_more_than xs ys y
 
-  but_last : (xs : List A) (y : A) → take (length (xs ++ y ∷ []) - 1) (xs ++ y ∷ []) ≡ xs
+  pub but_last : (xs : List A) (y : A) → take (length (xs ++ y ∷ []) - 1) (xs ++ y ∷ []) ≡ xs
   but_last xs y =
       let n : length (xs ++ y ∷ []) - 1 ≡ length xs = omega (arith, length-append xs (y ∷ [])) in
       ap (λ (k : ℕ). take k (xs ++ y ∷ [])) n ∙ take_front xs (y ∷ [])

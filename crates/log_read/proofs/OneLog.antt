@@ -124,7 +124,7 @@ module _ (s : Tree) (h : AreKnown (known_of s)) where
 
   -- ---- entries
 
-  entry_same : (e f : Entry) → IsEntry s e → IsEntry s f → entry_words s e ≡ entry_words s f → e ≡ f
+  pub entry_same : (e f : Entry) → IsEntry s e → IsEntry s f → entry_words s e ≡ entry_words s f → e ≡ f
   entry_same e f fits fits' same =
       let mine : Words = call_words s e.call (codes "=" ∷ answer_words s e.answer) in
       let other : Words = call_words s f.call (codes "=" ∷ answer_words s f.answer) in
@@ -168,7 +168,7 @@ module _ (s : Tree) (h : AreKnown (known_of s)) where
 
   -- ---- the ending
 
-  end_same : (x y : End) → end_words x ≡ end_words y → x ≡ y
+  pub end_same : (x y : End) → end_words x ≡ end_words y → x ≡ y
   end_same x y e =
       let word : end_word x ≡ end_word y = first_same _ _ [] [] (rest_same (codes "end") (codes "end") (end_word x ∷ []) (end_word y ∷ []) e) in
       some_same x y (sym (end_again x) ∙ ap end_at word ∙ end_again y)

@@ -1,7 +1,7 @@
 -- Taking the words of a log apart, loosely: a number may have leading zeros, or be too large. Whether the
 -- text is that of what was found is seen by writing it again.
-use Rattle.std.specs.Prelude.{ℕ, ℤ, pos, negsuc, ◌+◌, ◌-◌, ◌^◌, min, ◌==◌, if◌then◌else◌, ◌&&◌, int_le, nat_le, List, [], ◌∷◌, codes, find, Option, Some, None, option_map, Bool, false, not}
-use Rattle.std.specs.List.{position_from}
+use Rattle.std.specs.Prelude.{ℕ, ℤ, pos, negsuc, ◌+◌, ◌-◌, ◌^◌, min, ◌==◌, if◌then◌else◌, ◌&&◌, ◌||◌, int_le, nat_le, List, [], ◌∷◌, codes, find, Option, Some, None, option_map, Bool, false, not}
+use Rattle.std.specs.List.{position_from, list_all}
 use Rattle.std.specs.Str.{bytes_eq}
 use Rattle.win_num.specs.declared.code.Code.{Code}
 use Rattle.win_num.specs.declared.code.Code.TheVariants as codes_of
@@ -125,3 +125,10 @@ line_count s a = if keeps_frame a then s.height + 1 else 1
 -- the colour of a digit, 0 to 9 and a to f; another letter is read as colour 0
 abbrev pub colour_at : ℕ → ℕ
 colour_at c = if nat_le 48 c && nat_le c 57 then c - 48 else if nat_le 97 c && nat_le c 102 then c - 87 else 0
+
+-- whether all bytes are digits of colours
+abbrev pub is_colour_digit : ℕ → Bool
+is_colour_digit c = (nat_le 48 c && nat_le c 57) || (nat_le 97 c && nat_le c 102)
+
+abbrev pub are_colours : List ℕ → Bool
+are_colours text = list_all is_colour_digit text

@@ -45,7 +45,7 @@ pub fn end_at(word: &[u8]) -> Option<End>
 }
 
 /// The extra line with these words. None comes after an end that has no extra lines.
-fn extra_at(words: &Words, end: End, line: &[&[u8]]) -> Option<Extra>
+pub fn extra_at(words: &Words, end: End, line: &[&[u8]]) -> Option<Extra>
     requires named { AreKnown (known_of words.now.script.now) }
     ensures fits { IfSome result (IsExtra words.now.script.now end) }
     ensures again { (x : Extra) → IsExtra words.now.script.now end x → map (λ w. w.now) line.now ≡ extra_words words.now.script.now x → result ≡ Some x }

@@ -67,7 +67,7 @@ fn answer_at(words: &Words, line: &[&[u8]], at: usize) -> Option<Answer>
 }
 
 /// The entry with these words.
-fn entry_at(words: &Words, line: &[&[u8]]) -> Option<Entry>
+pub fn entry_at(words: &Words, line: &[&[u8]]) -> Option<Entry>
     requires named { AreKnown (known_of words.now.script.now) }
     ensures fits { IfSome result (IsEntry words.now.script.now) }
     ensures again { (e : Entry) → IsEntry words.now.script.now e → map (λ w. w.now) line.now ≡ entry_words words.now.script.now e → result ≡ Some e }
@@ -79,7 +79,7 @@ fn entry_at(words: &Words, line: &[&[u8]]) -> Option<Entry>
 }
 
 /// Whether the entry of an answer kept a frame, whose lines stand behind its own.
-fn keeps_frame(answer: Answer) -> bool
+pub fn keeps_frame(answer: Answer) -> bool
     ensures { result ≡ keeps_frame answer }
 {
     matches!(answer, Answer::Snap(_))

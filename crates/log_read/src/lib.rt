@@ -12,17 +12,20 @@
 
 mod ending;
 mod entries;
-mod faults;
+mod forms;
 mod frames;
 mod judge;
 mod laws;
+mod lines;
 mod log;
 mod parser;
+mod phase;
 mod reader;
+mod reasons;
 mod values;
 mod writer;
 
-pub use laws::{one_log, run_is_its_log};
+pub use laws::{one_log, one_refusal, run_is_its_log};
 pub use log::{Extra, Log, LogEntry};
 pub use reader::read_log;
 pub use script_text::{ReadFault, Reason, Refusal};

@@ -36,8 +36,8 @@ fn refused(alloc: Global, words: &Words, bytes: &[u8]) -> ReadFault
 }
 
 /// The log of a script whose text the bytes are. `Refused` comes exactly where no log of the script has this text. It
-/// tells a line, from 1 on, and a reason: of the first line with which no log of the script begins, or of the one behind the last where
-/// the text ends too early. The form of logs is this project's own.
+/// tells the first line, from 1 on, with which no log of the script begins, or the one behind the last where the text
+/// ends too early, and the first reason that applies to it. The form of logs is this project's own.
 pub fn read_log(alloc: Global, script: &Script, bytes: &[u8]) -> Result<Log, ReadFault>
     requires named { AreKnown (known_of script.now) }
     ensures log { IfOk result (IsLog script.now) }

@@ -28,7 +28,7 @@ fn put_entries(out: &mut Vec<u8>, words: &Words, entries: &[LogEntry]) -> Result
 }
 
 /// Adds an extra line.
-fn put_extra(out: &mut Vec<u8>, words: &Words, extra: Extra) -> Result<(), AllocError>
+pub fn put_extra(out: &mut Vec<u8>, words: &Words, extra: Extra) -> Result<(), AllocError>
     ensures { OnOk result (Adds out.old.items out.new.items (extra_line words.now.script.now extra)) }
 {
     match extra {

@@ -8,6 +8,3 @@ mod table;
 pub use constant_names::{constant_value, constants};
 pub use message_names::messages;
 pub use table::{NameTable, Repeat, Row};
-
-#[cfg(test)]
-mod tests;

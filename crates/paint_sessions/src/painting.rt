@@ -93,6 +93,3 @@ impl PaintSessions {
         keep_listed(&mut self.sessions, live);
     }
 }
-
-#[cfg(test)]
-mod tests;

@@ -3,7 +3,5 @@
 #![tactic(auto)]
 
 mod changes;
-#[cfg(test)]
-mod tests;
 
 pub use changes::{Meant, add_input, cursor_after, follow_inputs, inputs_after};

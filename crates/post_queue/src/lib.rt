@@ -10,6 +10,3 @@ mod steps;
 
 pub use posts::Posts;
 pub use steps::Steps;
-
-#[cfg(test)]
-mod tests;

@@ -26,6 +26,3 @@ pub fn told_bounds(region: &Region) -> Rect
 {
     region.bounds()
 }
-
-#[cfg(test)]
-mod tests;

@@ -73,6 +73,3 @@ impl Screen {
         Vec::from_slice(alloc, self.pixels.as_slice())
     }
 }
-
-#[cfg(test)]
-mod tests;

@@ -14,6 +14,3 @@ mod worker;
 pub use program::Program;
 pub use turn::Turn;
 pub use worker::Worker;
-
-#[cfg(test)]
-mod tests;

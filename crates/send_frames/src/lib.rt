@@ -9,8 +9,6 @@ mod row;
 mod sends;
 mod stack;
 mod table;
-#[cfg(test)]
-mod tests;
 
 pub use row::SendRow;
 pub use sends::Sends;

@@ -8,8 +8,6 @@
 mod state;
 mod story;
 mod tally;
-#[cfg(test)]
-mod tests;
 
 pub use send_frames::SendRow;
 pub use state::SendState;

@@ -6,8 +6,6 @@ mod lists;
 mod ready;
 mod slot;
 mod table;
-#[cfg(test)]
-mod tests;
 
 pub use lists::ReadyLists;
 pub use ready::Ready;

@@ -32,6 +32,3 @@ pub use parts::{
 pub use places::{field_places, statement_places};
 pub use split::SplitStatement;
 pub use statements::{split_statement, statement_name, statement_of_parts, statement_parts};
-
-#[cfg(test)]
-mod tests;

@@ -7,6 +7,3 @@ mod thread;
 
 pub use passing::{passes, passes_window};
 pub use thread::ThreadState;
-
-#[cfg(test)]
-mod tests;

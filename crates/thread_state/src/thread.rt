@@ -1,13 +1,14 @@
 //! What is kept of one thread.
 
-ghost use Rattle.std.specs.Prelude.{◌≡◌, ◌<◌, ◌==◌, ℕ, [], ◌∷◌, ◌++◌, All, Bool, true, filter, find, length, nat_lt, not, option_map, OnOk, OnErr};
+ghost use Rattle.std.specs.Prelude.{◌≡◌, ◌<◌, ◌==◌, ◌+◌, ℕ, [], ◌∷◌, ◌++◌, All, Bool, List, true, filter, find, length, nat_lt, not, option_map, OnOk, OnErr};
 ghost use Rattle.std.specs.List.{list_any};
-ghost use Rattle.post_queue.specs.Queue.{pair_of, post_of, queue, without_number};
+ghost use Rattle.post_queue.specs.Queue.{Posted, pair_of, post_of, queue, without_number};
 ghost use Rattle.win_num.specs.declared.message.Hwnd.{Hwnd};
-ghost use Rattle.thread_state.specs.Passing.{passes_here, passes_in};
+ghost use Rattle.thread_state.specs.Passing.{IsMissed, IsMissedBy, passes_here, passes_in, passes_number_here};
+ghost use Rattle.thread_state.specs.Reads.{reads};
 ghost use Rattle.thread_state.specs.Threads.{fresh_thread};
 
-use crate::passing::passes;
+use crate::passing::{passes, passes_number};
 use post_queue::{Posts, Steps};
 use std::alloc::{AllocError, Global};
 use std::marker::{Brand, Model};
@@ -26,14 +27,20 @@ pub struct ThreadState {
     ended: bool,
     /// The call of the last entry, where that waited.
     waiting: Option<Call>,
+    /// The filter of a retrieval that waits, while no posted message has a number that it lets pass: a question for
+    /// its first message then reads none.
+    missed: Option<Filter>,
 }
 
 impl Model for ThreadState {
+    ghost use Rattle.thread_state.specs.Passing.{IsMissedBy};
     ghost use Rattle.thread_state.specs.Threads.{ThreadView};
 
     ghost Value = { ThreadView };
 
     ghost view = { λ s. record { queue = s.posts; quit = s.quit; ended = s.ended; waiting = s.waiting } };
+
+    ghost invariant = { λ s. IsMissedBy s.missed s.posts.posted };
 }
 
 impl ThreadState {
@@ -46,6 +53,7 @@ impl ThreadState {
             quit: None,
             ended: false,
             waiting: None,
+            missed: None,
         }
     }
 
@@ -81,7 +89,27 @@ impl ThreadState {
     pub fn first(&self, tree: &Tree, filter: Filter) -> Option<(u32, Msg)>
         ensures { result ≡ option_map pair_of (find (passes_in tree.now.live filter) self.now.queue.posted) }
     {
-        first_in::<Brand>(Blank::new(1), &self.posts, tree, filter)
+        if misses(self.missed, filter) {
+            return None;
+        }
+        first_uncounted::<Brand>(Blank::new(1), self, tree, filter)
+    }
+
+    /// The same, in one step for each posted message that it reads: those up to the first that the filter lets pass, or all where it
+    /// lets none pass.
+    pub fn first_counted<L: Ledger>(
+        &self,
+        tree: &Tree,
+        filter: Filter,
+        steps: &mut Steps<L>,
+    ) -> Option<(u32, Msg)>
+        ensures found { result ≡ option_map pair_of (find (passes_in tree.now.live filter) self.now.queue.posted) }
+        ensures reads { steps.new ≡ steps.old + reads (passes_in tree.now.live filter) self.now.queue.posted }
+    {
+        let pass = |msg: &Msg| -> bool
+            ensures { result ≡ passes_here tree.entry.now.live filter msg.now }
+        { passes(tree, filter, msg) };
+        self.posts.first(pass, steps)
     }
 
     /// Whether a posted message stands with a number above this. No message is read.
@@ -99,7 +127,10 @@ impl ThreadState {
         ensures err { OnErr result (self.new ≡ self.old) }
     {
         match self.posts.post(number, msg) {
-            Ok(()) => Ok(()),
+            Ok(()) => {
+                self.missed = still_missed(self.missed, &msg);
+                Ok(())
+            }
             Err(Fault::Memory) => Err(AllocError),
             Err(Fault::Refused(_)) => unreachable!(),
         }
@@ -117,6 +148,7 @@ impl ThreadState {
         requires { F.IsAlwaysCallable goes }
         ensures { (test : ℕ → Bool) → ((w : Hwnd) (b : Bool) → F.post goes w b → b ≡ test w.0) → self.new ≡ record self.old { queue = queue self.old.queue.limit (filter (λ p. not (test p.msg.hwnd.0)) self.old.queue.posted) } }
     {
+        self.missed = None;
         self.posts.purge_each(goes);
     }
 
@@ -139,25 +171,65 @@ impl ThreadState {
     pub fn note(&mut self, waiting: Option<Call>)
         ensures { self.new ≡ record self.old { waiting = waiting } }
     {
+        self.missed = missed_by::<Brand>(Blank::new(1), &self.posts, waiting);
         self.waiting = waiting;
     }
 }
 
-/// The first message that a filter lets pass, with its number.
-fn first_in<L: Ledger>(
+/// Whether a filter takes the same numbers as the one that is kept.
+fn misses(missed: Option<Filter>, filter: Filter) -> bool
+    ensures { (ps : List Posted) → result ≡ true → IsMissedBy missed ps → IsMissed filter ps }
+{
+    match missed {
+        Some(kept) => kept.min == filter.min && kept.max == filter.max,
+        None => false,
+    }
+}
+
+/// The filter that is kept, unless it lets the number of one more message pass.
+fn still_missed(missed: Option<Filter>, msg: &Msg) -> Option<Filter>
+    ensures { (ps : List Posted) (number : ℕ) → IsMissedBy missed ps → IsMissedBy result (ps ++ post_of number msg.now ∷ []) }
+{
+    let kept = missed?;
+    if passes_number(kept, msg) {
+        return None;
+    }
+    Some(kept)
+}
+
+/// The filter of a retrieval that waits, where no posted message has a number that it lets pass.
+fn missed_by<L: Ledger>(blank: Blank, posts: &Posts, waiting: Option<Call>) -> Option<Filter>
+    requires name { blank.name ≡ L.name }
+    requires parts { blank.parts ≡ L.parts }
+    requires one { blank.parts ≡ 1 }
+    ensures { IsMissedBy result posts.now.posted }
+{
+    let Some(Call::Get(hwnd, min, max)) = waiting else {
+        return None;
+    };
+    let filter = Filter { hwnd, min, max };
+    let mut steps = Steps::<L>::new(blank);
+    let pass = |msg: &Msg| -> bool
+        ensures { result ≡ passes_number_here filter msg.now }
+    { passes_number(filter, msg) };
+    match posts.first(pass, &mut steps) {
+        Some(_) => None,
+        None => Some(filter),
+    }
+}
+
+/// The first posted message that a filter lets pass, with its number, in steps that nobody counts.
+fn first_uncounted<L: Ledger>(
     blank: Blank,
-    posts: &Posts,
+    thread: &ThreadState,
     tree: &Tree,
     filter: Filter,
 ) -> Option<(u32, Msg)>
     requires name { blank.name ≡ L.name }
     requires parts { blank.parts ≡ L.parts }
     requires one { blank.parts ≡ 1 }
-    ensures { result ≡ option_map pair_of (find (passes_in tree.now.live filter) posts.now.posted) }
+    ensures { result ≡ option_map pair_of (find (passes_in tree.now.live filter) thread.now.queue.posted) }
 {
     let mut steps = Steps::<L>::new(blank);
-    let pass = |msg: &Msg| -> bool
-        ensures { result ≡ passes_here tree.entry.now.live filter msg.now }
-    { passes(tree, filter, msg) };
-    posts.first(pass, &mut steps)
+    thread.first_counted(tree, filter, &mut steps)
 }

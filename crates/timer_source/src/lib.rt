@@ -4,8 +4,6 @@
 #![tactic(auto)]
 
 mod setting;
-#[cfg(test)]
-mod tests;
 mod timer;
 mod timers;
 

@@ -118,6 +118,3 @@ impl Update {
         &self.region
     }
 }
-
-#[cfg(test)]
-mod tests;

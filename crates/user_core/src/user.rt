@@ -1,9 +1,11 @@
 //! The machine.
 
-ghost use Rattle.std.specs.Prelude.{◌≡◌, [], IfOk, reverse};
+ghost use Rattle.std.specs.Prelude.{◌≡◌, [], IfOk, OnErr, OnOk, reverse, true};
+ghost use Rattle.core_deliver.specs.Groups.{is_retrieval};
 ghost use Rattle.user_model.specs.Stories.{send_story};
-ghost use Rattle.user_model.specs.Idle.{have_all_ended};
+ghost use Rattle.user_model.specs.Idle.{have_all_ended, reply};
 ghost use Rattle.user_model.specs.Legal.{IsLegal};
+ghost use Rattle.user_model.specs.Machines.{after};
 ghost use Rattle.user_model.specs.Setups.{IsSetup};
 
 use crate::actor::{Actor, actor_of};
@@ -14,8 +16,10 @@ use core_deliver::{
 use core_draw::draw;
 use core_state::CoreState;
 use core_window::window;
+use post_queue::Steps;
 use std::alloc::{AllocError, Global};
-use std::marker::Model;
+use std::marker::{Brand, Model};
+use std::sync::ledger::{Blank, Ledger};
 use user_model::{Answer, Call, Entry, Machine, SendCount, SendStory, Setup};
 use win_num::{SendId, Thread};
 
@@ -74,10 +78,10 @@ impl Machine for User {
 
     fn step(&mut self, who: Thread, call: Call) -> Result<Answer, AllocError> {
         if is_retrieval(call) {
-            return retrieve(&mut self.state, who, call);
+            return retrieve_uncounted::<Brand>(Blank::new(1), &mut self.state, who, call);
         }
         if let Call::Status(flags) = call {
-            return status(&mut self.state, who, flags);
+            return status_uncounted::<Brand>(Blank::new(1), &mut self.state, who, flags);
         }
         if is_delivery(call) {
             return deliver(&mut self.state, who, call);
@@ -114,4 +118,43 @@ impl Machine for User {
     fn send_count(&self) -> SendCount {
         self.state.send_count()
     }
+}
+
+/// Makes a get or a peek, in steps that nobody counts.
+fn retrieve_uncounted<L: Ledger>(
+    blank: Blank,
+    s: &mut CoreState,
+    who: Thread,
+    call: Call,
+) -> Result<Answer, AllocError>
+    requires name { blank.name ≡ L.name }
+    requires parts { blank.parts ≡ L.parts }
+    requires one { blank.parts ≡ 1 }
+    requires group { is_retrieval call ≡ true }
+    ensures answer { IfOk result (λ answer. answer ≡ reply s.old.setup s.old.past who.0 call) }
+    ensures entry { OnOk result (s.new.past ≡ after s.old.setup s.old.past who call) }
+    ensures err { OnErr result (s.new.past ≡ s.old.past) }
+    ensures setup { s.new.setup ≡ s.old.setup }
+{
+    let mut steps = Steps::<L>::new(blank);
+    retrieve(s, who, call, &mut steps)
+}
+
+/// Makes a status, in steps that nobody counts.
+fn status_uncounted<L: Ledger>(
+    blank: Blank,
+    s: &mut CoreState,
+    who: Thread,
+    flags: u64,
+) -> Result<Answer, AllocError>
+    requires name { blank.name ≡ L.name }
+    requires parts { blank.parts ≡ L.parts }
+    requires one { blank.parts ≡ 1 }
+    ensures answer { IfOk result (λ answer. answer ≡ reply s.old.setup s.old.past who.0 (Call.Status flags)) }
+    ensures entry { OnOk result (s.new.past ≡ after s.old.setup s.old.past who (Call.Status flags)) }
+    ensures err { OnErr result (s.new.past ≡ s.old.past) }
+    ensures setup { s.new.setup ≡ s.old.setup }
+{
+    let mut steps = Steps::<L>::new(blank);
+    status(s, who, flags, &mut steps)
 }

@@ -16,6 +16,3 @@ pub use reading::{ReadEnd, read_all};
 pub use standard::{StdSink, StdSource};
 pub use traits::{Put, Sink, Source, Took};
 pub use writing::{WriteFailed, write_all};
-
-#[cfg(test)]
-mod tests;

@@ -1,8 +1,8 @@
 -- Moves, and what is left of the order list.
-use Rattle.std.specs.Prelude.{if◌then◌else◌, ◌≡◌, ℕ, ◌+◌, ◌<◌, ◌≤◌, ◌==◌, Bool, true, false, List, ◌∷◌, length, drop, find, slice_get, Some}
+use Rattle.std.specs.Prelude.{if◌then◌else◌, ◌≡◌, ℕ, ◌+◌, ◌<◌, ◌≤◌, ◌==◌, ◌&&◌, nat_lt, Bool, true, false, List, ◌∷◌, length, drop, find, slice_get, Option, Some}
 use Rattle.user_model.specs.declared.entry.Entry.{Entry}
 use Rattle.user_model.specs.Past.{Past}
-use Rattle.user_model.specs.Threads.{is_thread}
+use Rattle.user_model.specs.Threads.{is_thread, lowest}
 use Rattle.user_model.specs.Idle.{is_idle}
 use Rattle.script_tree.specs.Tree.{Tree}
 use Rattle.log_text.specs.Ends.{setup_of, used}
@@ -31,3 +31,7 @@ pub record IsNextPlace (test : ℕ → Bool) (order : List ℕ) (from place : �
   pub within : place ≤ length order
   pub found : find test (drop from order) ≡ slice_get order place
   pub behind : behind_first test (drop from order) ≡ drop (place + 1) order
+
+-- the least thread above one number, and no higher than another, that can move
+abbrev pub first_between : Tree → Past → ℕ → ℕ → Option ℕ
+first_between s past low high = lowest (λ t. nat_lt low t && is_runnable s past t) high

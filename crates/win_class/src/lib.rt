@@ -4,6 +4,3 @@
 mod classes;
 
 pub use classes::{Class, Classes};
-
-#[cfg(test)]
-mod tests;

@@ -4,8 +4,6 @@
 
 mod kin;
 mod plan;
-#[cfg(test)]
-mod tests;
 mod tree;
 
 pub use tree::Tree;

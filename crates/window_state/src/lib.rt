@@ -20,6 +20,3 @@ pub use pixels::owner_at;
 pub use ranks::{leave, reorder};
 pub use tables::{doom, drop_window, make, name, unmake, unregister};
 pub use titles::titled;
-
-#[cfg(test)]
-mod tests;

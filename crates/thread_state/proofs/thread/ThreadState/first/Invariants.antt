@@ -1,4 +1,4 @@
 use Rattle.thread_state.proofs.thread.ThreadState.first.Given as goal
 
-abbrev pub ghosts-first_in : goal.ghosts-first_in
-ghosts-first_in a = record { name = a.blank.name; parts = a.blank.parts }
+abbrev pub ghosts-first_uncounted : goal.ghosts-first_uncounted
+ghosts-first_uncounted a = record { name = a.blank.name; parts = a.blank.parts }

@@ -1,4 +1,0 @@
-use Rattle.post_queue.proofs.tests.first_between.Given as goal
-
-abbrev pub ghosts-first_counted : goal.ghosts-first_counted
-ghosts-first_counted a = record { name = a.blank.name; parts = a.blank.parts }

@@ -1,0 +1,5 @@
+//! Worked examples of the programs of threads, with ample memory.
+#![tactic(auto)]
+
+#[cfg(test)]
+mod programs;
