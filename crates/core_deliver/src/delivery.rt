@@ -72,7 +72,7 @@ fn next_posted<L: Ledger>(
     requires some { 0 < who }
     requires known { who ≤ state.now.setup.threads }
     ensures answer { result ≡ next_posted state.now.past who filter }
-    ensures reads { steps.new ≡ steps.old + reads_for state.now.past who filter }
+    ensures reads { steps.new ≤ steps.old + reads_for state.now.past who filter }
 {
     match state.first_post_counted(who, filter, steps) {
         Some((number, msg)) => Some(Answer::Got {

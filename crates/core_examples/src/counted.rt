@@ -2,6 +2,7 @@
 
 ghost use Rattle.std.specs.Prelude.{◌≡◌, ◌≤◌, ◌+◌};
 
+use crate::told::tell;
 use core_deliver::{deliver, retrieve, status};
 use core_state::CoreState;
 use post_queue::Steps;
@@ -45,6 +46,30 @@ fn get_among_three<L: Ledger>(
     Ok(Some(answer))
 }
 
+/// A message of the thread's to itself, of this number.
+fn post(state: &mut CoreState, number: u64) -> Result<Answer, AllocError> {
+    deliver(state, SELF, Call::Post(0, number, 0, 0))
+}
+
+/// As many messages as a queue holds.
+fn fill(state: &mut CoreState) -> Result<(), AllocError> {
+    for _ in 0..QUEUE_LIMIT {
+        post(state, 1025)?;
+    }
+    Ok(())
+}
+
+/// One message more, a status and a retrieval.
+fn tell_calls<L: Ledger>(
+    rt: &impl Print,
+    state: &mut CoreState,
+    steps: &mut Steps<L>,
+) -> anyhow::Result<()> {
+    tell(rt, "one more", post(state, 1025)?)?;
+    tell(rt, "status", status_of_all(state, steps)?)?;
+    tell(rt, "get", get_any(state, steps)?)
+}
+
 /// A status and a retrieval with as many messages as a queue holds.
 pub fn tell_full<L: Ledger>(
     blank: Blank,
@@ -55,16 +80,15 @@ pub fn tell_full<L: Ledger>(
     requires parts { blank.parts ≡ L.parts }
     requires one { blank.parts ≡ 1 }
 {
-    for _ in 0..QUEUE_LIMIT {
-        deliver(state, SELF, Call::Post(0, 1025, 0, 0))?;
-    }
-    let mut steps = Steps::<L>::new(blank);
-    println!(rt;
-        "one more: {:?}",
-        deliver(state, SELF, Call::Post(0, 1025, 0, 0))?
-    )?;
-    println!(rt; "status: {:?}", status_of_all(state, &mut steps)?)?;
-    println!(rt; "get: {:?}", get_any(state, &mut steps)?)?;
+    fill(state)?;
+    tell_calls(rt, state, &mut Steps::<L>::new(blank))
+}
+
+/// Three messages, of the numbers 1025 to 1027.
+fn post_three(state: &mut CoreState) -> Result<(), AllocError> {
+    post(state, 1025)?;
+    post(state, 1026)?;
+    post(state, 1027)?;
     Ok(())
 }
 
@@ -78,10 +102,8 @@ pub fn tell_three<L: Ledger>(
     requires parts { blank.parts ≡ L.parts }
     requires one { blank.parts ≡ 1 }
 {
-    for number in [1025, 1026, 1027] {
-        deliver(state, SELF, Call::Post(0, number, 0, 0))?;
-    }
-    let mut steps = Steps::<L>::new(blank);
-    println!(rt; "get of 1027: {:?}", get_among_three(state, &mut steps)?)?;
+    post_three(state)?;
+    let answer = get_among_three(state, &mut Steps::<L>::new(blank))?;
+    println!(rt; "get of 1027: {answer:?}")?;
     Ok(())
 }

@@ -15,6 +15,7 @@ use Rattle.user_model.specs.declared.entry.Answer.TheVariants as answers
 use Rattle.user_model.specs.declared.entry.Entry.{Entry}
 use Rattle.user_model.specs.declared.entry.Setup.{Setup}
 use Rattle.user_model.specs.Past.{Past, is_full, place_after}
+use Rattle.user_model.specs.Deeds.{posting_of}
 use Rattle.user_model.specs.Keys.{is_shift_down}
 use Rattle.user_model.specs.Idle.{reply}
 use Rattle.user_model.specs.Legal.{IsLawful}
@@ -22,7 +23,7 @@ use Rattle.user_model.specs.Threads.{is_running}
 use Rattle.user_model.proofs.DeliveryReplies.{post_told}
 use Rattle.user_model.proofs.ReplyLaws.{by_row}
 use Rattle.thread_queues.specs.Changes.{Change, changed, noted, count_kept, time_kept}
-use Rattle.thread_queues.specs.Deliveries.{adding_in, change_of_post, effect_in, posting}
+use Rattle.thread_queues.specs.Deliveries.{adding_in, change_of_post, effect_in, posting_in}
 use Rattle.window_state.specs.Effects.{IsAddedBy, IsAffected, added_classes, affected_classes}
 use Rattle.window_state.specs.Needs.{FitsLooking, FitsNaming, FitsUnmaking}
 use Rattle.win_order.specs.Layers.{Layers}
@@ -78,7 +79,7 @@ use Rattle.dialog_state.proofs.Steps.{followed_stands}
 
 -- ---- what a change needs
 
-adding_by : (setup : Setup) (past : Past) (p : Parts) (shift : Bool) (who : Thread) (a : Answer) (call : Call) → Stands setup past p → (is_running setup past who.0 ≡ true → shift ≡ is_shift_down past who.0) → a ≡ reply setup past who.0 call → FitsAdding p.classes p.tree p.threads p.time p.cursor shift who.0 a call
+adding_by : (setup : Setup) (past : Past) (p : Parts) (shift : Bool) (who : Thread) (a : Answer) (call : Call) → Stands setup past p → (is_running setup past who.0 ≡ true → posting_of shift call ≡ posting_of (is_shift_down past who.0) call) → a ≡ reply setup past who.0 call → FitsAdding p.classes p.tree p.threads p.time p.cursor shift who.0 a call
 adding_by setup past p shift who (answers.Posted k) call st down right =
     let row = by_row setup past who.0 call (answers.Posted k) (sym right) refl in
     let post = post_told setup past who.0 call k row.is_row in
@@ -87,7 +88,7 @@ adding_by setup past p shift who (answers.Value n) call st down right = subst (�
 adding_by setup past p shift who (answers.Window w) call st down right = fits_making setup past p.tree who w call st.lawful st.tree (sym right)
 adding_by setup past p shift who _ call st down right = tt
 
-pub growth_fits : (setup : Setup) (past : Past) (p : Parts) (shift : Bool) (e : Entry) → Stands setup past p → (is_running setup past e.who.0 ≡ true → shift ≡ is_shift_down past e.who.0) → e.answer ≡ reply setup past e.who.0 e.call → FitsAdding p.classes p.tree p.threads p.time p.cursor shift e.who.0 e.answer e.call
+pub growth_fits : (setup : Setup) (past : Past) (p : Parts) (shift : Bool) (e : Entry) → Stands setup past p → (is_running setup past e.who.0 ≡ true → posting_of shift e.call ≡ posting_of (is_shift_down past e.who.0) e.call) → e.answer ≡ reply setup past e.who.0 e.call → FitsAdding p.classes p.tree p.threads p.time p.cursor shift e.who.0 e.answer e.call
 growth_fits setup past p shift e st down right = adding_by setup past p shift e.who e.answer e.call st down right
 
 -- what an entry injects fits
@@ -138,13 +139,13 @@ same_settling : (who : ℕ) (a : Answer) (call : Call) (old new : Windows) → I
 same_settling who (answers.Window w) call old new made = refl
 same_settling who a call old new made = ap (λ (t : Windows). effect_in t.live who a call) made
 
--- Shift counts where a post is made, and then the caller runs
-same_adding : (setup : Setup) (past : Past) (ws : List KeptWindow) (time : ℕ) (point : Point) (shift : Bool) (who : ℕ) (a : Answer) (call : Call) → (is_running setup past who ≡ true → shift ≡ is_shift_down past who) → a ≡ reply setup past who call → adding_in ws time point shift who a call ≡ adding_in ws time point (is_shift_down past who) who a call
-same_adding setup past ws time point shift who (answers.Posted k) call down right = ap (λ b. change_of_post k (posting ws time point b who call)) (down (by_row setup past who call (answers.Posted k) (sym right) refl).running)
+-- the same message is posted where a post is made, and then the caller runs
+same_adding : (setup : Setup) (past : Past) (ws : List KeptWindow) (time : ℕ) (point : Point) (shift : Bool) (who : ℕ) (a : Answer) (call : Call) → (is_running setup past who ≡ true → posting_of shift call ≡ posting_of (is_shift_down past who) call) → a ≡ reply setup past who call → adding_in ws time point shift who a call ≡ adding_in ws time point (is_shift_down past who) who a call
+same_adding setup past ws time point shift who (answers.Posted k) call down right = ap (λ o. change_of_post k (posting_in ws time point who o)) (down (by_row setup past who call (answers.Posted k) (sym right) refl).running)
 same_adding setup past ws time point shift who _ call down right = refl
 
 -- what is kept of a thread follows the past
-thread_step : (setup : Setup) (past : Past) (p : Parts) (shift : Bool) (e : Entry) (tree : Windows) (t : ℕ) → Stands setup past p → (is_running setup past e.who.0 ≡ true → shift ≡ is_shift_down past e.who.0) → e.answer ≡ reply setup past e.who.0 e.call → IsAddedBy e.who.0 e.answer e.call p.tree tree
+thread_step : (setup : Setup) (past : Past) (p : Parts) (shift : Bool) (e : Entry) (tree : Windows) (t : ℕ) → Stands setup past p → (is_running setup past e.who.0 ≡ true → posting_of shift e.call ≡ posting_of (is_shift_down past e.who.0) e.call) → e.answer ≡ reply setup past e.who.0 e.call → IsAddedBy e.who.0 e.answer e.call p.tree tree
     → noted t e (changed t (effect_in tree.live e.who.0 e.answer e.call) (changed t (adding_in p.tree.live p.time p.cursor shift e.who.0 e.answer e.call) (thread_at past t))) ≡ thread_at (e ∷ past) t
 thread_step setup past p shift e tree t st down right made =
     ap (λ (c : Change). noted t e (changed t c (changed t (adding_in p.tree.live p.time p.cursor shift e.who.0 e.answer e.call) (thread_at past t)))) (same_settling e.who.0 e.answer e.call p.tree tree made)
@@ -231,7 +232,7 @@ moment_step setup past p e progress sends2 place begun m st right went sends her
 
 -- the parts that were brought up to date stand for the past with the entry
 pub stands_step : (setup : Setup) (past : Past) (p : Parts) (shift : Bool) (meant : Meant) (e : Entry) (classes1 classes2 : ClassTable) (tree1 tree2 : Windows) (order1 order2 : Layers) (display2 : Shown) (threads1 threads2 threads3 : List ThreadView) (timers2 : List Setting) (groups2 : Kept) (inputs1 inputs2 : List KeptElement) (progress : Progress) (sends1 sends2 : SendParts) (first : Option Cause) (lost : ℕ) (tally : Tally) (stories1 stories2 stories3 : List SendStory) (looks2 : List LookView) (dialogs2 : List (ℕ × Dialog)) (place : ℕ)
-    → is_full past ≡ false → e.answer ≡ reply setup past e.who.0 e.call → Stands setup past p → (is_running setup past e.who.0 ≡ true → shift ≡ is_shift_down past e.who.0) → IsMeantBy setup past e.call meant
+    → is_full past ≡ false → e.answer ≡ reply setup past e.who.0 e.call → Stands setup past p → (is_running setup past e.who.0 ≡ true → posting_of shift e.call ≡ posting_of (is_shift_down past e.who.0) e.call) → IsMeantBy setup past e.call meant
     → classes1 ≡ added_classes e.answer e.call p.classes → classes2 ≡ affected_classes e.answer e.call classes1
     → IsAddedBy e.who.0 e.answer e.call p.tree tree1 → IsAffected e.who.0 e.answer e.call tree1 tree2
     → IsOrderAdded e.answer e.call p.tree tree1 p.order order1 → order2 ≡ affected_order e.answer e.call tree2 order1 → IsDisplayAt setup (e ∷ past) display2

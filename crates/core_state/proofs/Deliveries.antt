@@ -136,8 +136,8 @@ both_changes past ws time point shift t who a call v e now at down =
 -- ---- what a post needs
 
 -- the thread that a post goes to, and its message
-pub posting-is : (setup : Setup) (past : Past) (ws : List KeptWindow) (time : ℕ) (point : Point) (shift : Bool) (who k : ℕ) (call : Call) (p : IsPost setup past who call k) → map as_made ws ≡ live past → time ≡ clock past → point ≡ cursor past → shift ≡ is_shift_down past who → posting ws time point shift who call ≡ Some (p.to, message_of p)
-posting-is setup past ws time point shift who k call p e now at down = ap (λ (c : ℕ). posting ws c point shift who call) now ∙ ap (λ (c : Point). posting ws (clock past) c shift who call) at ∙ ap (λ (b : Bool). posting ws (clock past) (cursor past) b who call) down ∙ elim p.is_call [
+pub posting-is : (setup : Setup) (past : Past) (ws : List KeptWindow) (time : ℕ) (point : Point) (shift : Bool) (who k : ℕ) (call : Call) (p : IsPost setup past who call k) → map as_made ws ≡ live past → time ≡ clock past → point ≡ cursor past → posting_of shift call ≡ posting_of (is_shift_down past who) call → posting ws time point shift who call ≡ Some (p.to, message_of p)
+posting-is setup past ws time point shift who k call p e now at down = ap (λ (c : ℕ). posting ws c point shift who call) now ∙ ap (λ (c : Point). posting ws (clock past) c shift who call) at ∙ ap (posting_in ws (clock past) (cursor past) who) down ∙ elim p.is_call [
   | inl x ↦ ap (posting_in ws (clock past) (cursor past) who) x.0 ∙ ap (λ (t : ℕ). let y : ℕ × Msg = (t, message_of p) in Some y) (ap (λ (t : ℕ). cond (eqb p.hwnd 0) who t) (thread_in-is past ws p.hwnd e) ∙ sym x.1)
   | inr x ↦ ap (posting_in ws (clock past) (cursor past) who) x.0 ∙ ap (λ (w : ℕ). let y : ℕ × Msg = (p.to, message w p.number p.wparam p.lparam (clock past) (cursor past)) in Some y) (sym x.1)
 ]
@@ -162,7 +162,7 @@ post_has_room setup past threads who k call p lawful count each running =
     }
 
 -- the change of a post can be made
-pub fits_posting : (setup : Setup) (past : Past) (threads : List ThreadView) (ws : List KeptWindow) (time : ℕ) (point : Point) (shift : Bool) (who k : ℕ) (call : Call) (p : IsPost setup past who call k) → IsLawful setup past → length threads ≡ setup.threads → EachThread past threads → is_running setup past who ≡ true → map as_made ws ≡ live past → time ≡ clock past → point ≡ cursor past → shift ≡ is_shift_down past who → FitsPosting threads k (posting ws time point shift who call)
+pub fits_posting : (setup : Setup) (past : Past) (threads : List ThreadView) (ws : List KeptWindow) (time : ℕ) (point : Point) (shift : Bool) (who k : ℕ) (call : Call) (p : IsPost setup past who call k) → IsLawful setup past → length threads ≡ setup.threads → EachThread past threads → is_running setup past who ≡ true → map as_made ws ≡ live past → time ≡ clock past → point ≡ cursor past → posting_of shift call ≡ posting_of (is_shift_down past who) call → FitsPosting threads k (posting ws time point shift who call)
 fits_posting setup past threads ws time point shift who k call p lawful count each running e now at down =
     subst (FitsPosting threads k) (sym (posting-is setup past ws time point shift who k call p e now at down)) (post_has_room setup past threads who k call p lawful count each running)
 
@@ -173,8 +173,8 @@ window_fits : (past : Past) (ws : List KeptWindow) (w : ℕ) → map as_made ws 
 window_fits past ws w e h = ap (λ b. eqb w 0 || b) (is_live-is past ws w e) ∙ not_false (eqb w 0 || is_live past w) h
 
 -- the call of a post is a message's to a live window or to none
-pub fits_post : (setup : Setup) (past : Past) (ws : List KeptWindow) (shift : Bool) (who k : ℕ) (call : Call) (p : IsPost setup past who call k) → map as_made ws ≡ live past → shift ≡ is_shift_down past who → FitsPost ws shift call
+pub fits_post : (setup : Setup) (past : Past) (ws : List KeptWindow) (shift : Bool) (who k : ℕ) (call : Call) (p : IsPost setup past who call k) → map as_made ws ≡ live past → posting_of shift call ≡ posting_of (is_shift_down past who) call → FitsPost ws shift call
 fits_post setup past ws shift who k call p e down = elim p.is_call [
-  | inl x ↦ subst (FitsPostIn ws) (sym (ap (λ b. posting_of b call) down ∙ x.0)) (window_fits past ws p.hwnd e x.2, small_number p.number p.fits)
-  | inr x ↦ subst (FitsPostIn ws) (sym (ap (λ b. posting_of b call) down ∙ x.0)) (small_number p.number p.fits)
+  | inl x ↦ subst (FitsPostIn ws) (sym (down ∙ x.0)) (window_fits past ws p.hwnd e x.2, small_number p.number p.fits)
+  | inr x ↦ subst (FitsPostIn ws) (sym (down ∙ x.0)) (small_number p.number p.fits)
 ]

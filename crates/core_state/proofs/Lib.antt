@@ -20,6 +20,7 @@ pub mod TurnedDialogs
 pub mod Tops
 pub mod Owners
 pub mod PostReads
+pub mod QuietEntries
 pub mod Running
 pub mod SendNumbers
 pub mod Threads

@@ -42,3 +42,8 @@ FitsEffect classes tree threads who (Last v) call = FitsUnmaking tree call
 FitsEffect classes tree threads who (Got o n m) call = IsOne threads who
 FitsEffect classes tree threads who Ended call = IsOne threads who
 FitsEffect classes tree threads who _ call = Unit {0}
+
+-- what the answer to a get or a peek needs
+abbrev pub FitsReading : List ThreadView → ℕ → Answer → Type 0
+FitsReading threads who (Got o n m) = IsOne threads who
+FitsReading threads who _ = Unit {0}

@@ -45,6 +45,7 @@ ghost use Rattle.thread_state.specs.Reads.{reads};
 ghost use Rattle.thread_state.specs.Threads.{code_of, fresh_thread, told_post, waiting_call};
 ghost use Rattle.window_state.specs.Steps.{destruction_answer};
 
+use self::posts::{adds_post, reads_posts};
 use crate::change::{add_change, take_effect};
 use crate::progress::Progress;
 use crate::sendings::settle_sends;
@@ -76,6 +77,7 @@ use window_state::{
 };
 
 mod inputs;
+mod posts;
 mod status;
 
 /// The history so far, and parts that answer in short time what the definitions say of it.
@@ -251,8 +253,8 @@ impl CoreState {
         self.threads[usize::from(thread - 1)].first(&self.tree, filter)
     }
 
-    /// The same, in one step for each posted message that it reads: those up to the first that the filter lets pass, or all where it
-    /// lets none pass.
+    /// The same, in one step for each posted message that it reads: at most those up to the first that the filter lets pass, or all
+    /// where it lets none pass.
     pub fn first_post_counted<L: Ledger>(
         &self,
         thread: u8,
@@ -262,7 +264,7 @@ impl CoreState {
         requires some { 0 < thread }
         requires known { thread ≤ self.now.setup.threads }
         ensures first { result ≡ option_map told_post (first_post self.now.past thread filter) }
-        ensures reads { steps.new ≡ steps.old + reads (passes self.now.past filter) (posted self.now.past thread) }
+        ensures reads { steps.new ≤ steps.old + reads (passes self.now.past filter) (posted self.now.past thread) }
     {
         self.threads[usize::from(thread - 1)].first_counted(&self.tree, filter, steps)
     }
@@ -796,11 +798,27 @@ impl CoreState {
         ensures ok { OnOk result (self.new ≡ record { setup = self.old.setup; past = entry ∷ self.old.past }) }
         ensures err { OnErr result (self.new ≡ self.old) }
     {
+        if adds_post(&entry) {
+            return self.append_post(entry);
+        }
+        if reads_posts(&entry) {
+            return self.append_read(entry);
+        }
+        self.append_any(entry)
+    }
+
+    /// Adds an entry of any call, and brings all parts up to date. After want of memory nothing has changed.
+    fn append_any(&mut self, entry: Entry) -> Result<(), AllocError>
+        requires room { is_full self.old.past ≡ false }
+        requires answer { entry.answer ≡ reply self.old.setup self.old.past entry.who.0 entry.call }
+        ensures ok { OnOk result (self.new ≡ record { setup = self.old.setup; past = entry ∷ self.old.past }) }
+        ensures err { OnErr result (self.new ≡ self.old) }
+    {
         let stamp = Stamp {
             place: self.history.len() as u32,
             time: self.progress.time,
             cursor: self.progress.cursor,
-            shift: self.is_shift_down(entry.who.0),
+            shift: self.shift_for(entry),
         };
         let meant = self.meant_by(entry.call);
         let named = named_send(&self.sends, entry);
@@ -861,8 +879,19 @@ fn make_room(history: &mut Vec<Entry>, stories: &mut Vec<SendStory>) -> Result<(
     ensures entry { OnOk result (vec_len history.new + 1 ≤ vec_capacity history.new) }
     ensures story { OnOk result (vec_len stories.new + 1 ≤ vec_capacity stories.new) }
 {
-    history.reserve(1)?;
+    make_place(history)?;
     stories.reserve(1)
+}
+
+/// Takes the place of one entry, where there is none. Whatever comes of it, nothing else changes.
+fn make_place(history: &mut Vec<Entry>) -> Result<(), AllocError>
+    ensures entries { history.new.items ≡ history.old.items }
+    ensures room { OnOk result (vec_len history.new + 1 ≤ vec_capacity history.new) }
+{
+    if history.len() < history.capacity() {
+        return Ok(());
+    }
+    history.reserve(1)
 }
 
 /// What is kept of so many threads that have done nothing.

@@ -6,6 +6,10 @@ mod boxes;
 #[cfg(test)]
 mod clips;
 #[cfg(test)]
+mod facts;
+#[cfg(test)]
+mod owners;
+#[cfg(test)]
 mod paintings;
 #[cfg(test)]
 mod regions;

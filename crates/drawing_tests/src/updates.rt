@@ -1,5 +1,8 @@
+use crate::facts::hold;
 use band_region::Region;
 use std::alloc::{AllocError, Global};
+use std::process::Abort;
+use std::test::Fail;
 use update_region::Update;
 use win_num::rect;
 
@@ -10,25 +13,44 @@ fn of(alloc: Global, l: i32, t: i32, r: i32, b: i32) -> Result<Region, AllocErro
     }
 }
 
-#[test]
-fn one_pixel_stays_dirty(rt: HostRuntime) {
-    let mut update = Update::new(rt.alloc());
-    assert!(rt; update.is_empty());
-    let whole = of(rt.alloc(), 0, 0, 4, 1).expect(&rt, "memory");
-    let left = of(rt.alloc(), 0, 0, 2, 1).expect(&rt, "memory");
-    let owned = of(rt.alloc(), 0, 0, 3, 1).expect(&rt, "memory");
-    update
-        .invalidate(rt.alloc(), &whole, true)
-        .expect(&rt, "memory");
-    update.validate(rt.alloc(), &left).expect(&rt, "memory");
-    update.keep(rt.alloc(), &owned).expect(&rt, "memory");
-    let mut again = update.copy(rt.alloc()).expect(&rt, "memory");
-    assert!(rt; update.erase());
-    assert!(rt; update.dirty().kind() == 2);
-    let (region, erase) = again.take();
+fn invalidated(alloc: Global, update: &mut Update) -> Result<(), AllocError> {
+    let whole = of(alloc, 0, 0, 4, 1)?;
+    update.invalidate(alloc, &whole, true)
+}
+
+fn validated(alloc: Global, update: &mut Update) -> Result<(), AllocError> {
+    let left = of(alloc, 0, 0, 2, 1)?;
+    update.validate(alloc, &left)
+}
+
+fn kept(alloc: Global, update: &mut Update) -> Result<(), AllocError> {
+    let owned = of(alloc, 0, 0, 3, 1)?;
+    update.keep(alloc, &owned)
+}
+
+/// What is dirty, and the flag, are taken.
+fn taken(rt: &impl Abort, update: &mut Update) {
+    let (region, erase) = update.take();
     let around = region.bounds();
-    assert!(rt; (around.l(), around.t(), around.r(), around.b()) == (2, 0, 3, 1));
-    assert!(rt; erase);
-    assert!(rt; again.is_empty());
-    assert!(rt; !again.erase());
+    let facts = [
+        (around.l(), around.t(), around.r(), around.b()) == (2, 0, 3, 1),
+        erase,
+        update.is_empty(),
+        !update.erase(),
+    ];
+    hold(rt, &facts);
+}
+
+#[test]
+fn one_pixel_stays_dirty(rt: HostRuntime) -> Result<(), Fail> {
+    let alloc = rt.alloc();
+    let mut update = Update::new(alloc);
+    assert!(rt; update.is_empty());
+    invalidated(alloc, &mut update)?;
+    validated(alloc, &mut update)?;
+    kept(alloc, &mut update)?;
+    let mut again = update.copy(alloc)?;
+    hold(&rt, &[update.erase(), update.dirty().kind() == 2]);
+    taken(&rt, &mut again);
+    Ok(())
 }

@@ -1,19 +1,13 @@
 -- Lists of elements.
-use Rattle.std.proofs.Common.{◌≡◌, ℕ, ◌+◌, ◌<◌, ◌==◌, Bool, true, false, not, cond, List, [], ◌∷◌, ◌++◌, find, All, Option, Some, None, Result, Ok, Err, OnOk, OnErr, is_err, refl, ap, sym, subst, ◌∙◌, arith}
-use Rattle.std.specs.Prelude.{filter}
+use Rattle.std.proofs.Common.{◌≡◌, ℕ, ◌<◌, ◌==◌, Bool, true, false, not, cond, List, [], ◌∷◌, ◌++◌, find, All, Option, Some, None, Result, Ok, Err, OnOk, is_err, refl, ap, sym, subst, ◌∙◌, arith}
 use Rattle.std.specs.List.{AllByRecursion, take_while}
 use Rattle.std.proofs.lemmas.Bool.{ne_eqb}
-use Rattle.std.proofs.lemmas.List.Elements.{All-filter, All-push, All-weaker, filter-append, recursion_from_All}
+use Rattle.std.proofs.lemmas.List.Elements.{All-filter, filter-append, recursion_from_All}
 use Rattle.std.proofs.lemmas.List.Sums.{take_while-cons}
 use Rattle.win_num.specs.declared.message.Thread.{Thread}
 use Rattle.input_queue.specs.declared.element.Element.{Element}
 use Rattle.win_num.specs.declared.names.TheConstants.{WM_MOUSEMOVE}
-use Rattle.input_queue.specs.Elements.{is_in, is_move, move_number, of_group, without, last_of, without_replaced, with_element, replaced, replaced_in, first_takeable}
-
--- what stays beside a new element is below it
-pub below_kept : (number : Option ℕ) (e : Element) (elements : List Element) → All (λ x. x.number < e.number) elements → All (λ x. x.number < e.number) (without_replaced number elements)
-below_kept None e elements below = below
-below_kept (Some number) e elements below = All-filter (λ x. not (x.number == number)) (λ x. x.number < e.number) elements below
+use Rattle.input_queue.specs.Elements.{is_in, is_move, move_number, of_group, without, last_of, without_replaced, with_element, replaced_in, first_takeable}
 
 pub first_takeable-cons : (t : Thread) (target : Element → Thread) (test : Element → Bool) (x : Element) (elements : List Element) → first_takeable t target test (x ∷ elements) ≡ cond ((target x).0 == t.0) (cond (test x) (Some x) (first_takeable t target test elements)) None
 first_takeable-cons t target test x elements = ap (find test) (take_while-cons (λ y. (target y).0 == t.0) x elements) ∙ by_case ((target x).0 == t.0)
@@ -37,17 +31,6 @@ own_target answer target t differs same is not_so = let P : Thread → Type 0 = 
 -- a target that was found to differ
 pub other_target : (answer target t : Thread) (differs : Bool) → answer ≡ target → differs ≡ not (answer.0 == t.0) → differs ≡ true → (target.0 == t.0) ≡ false
 other_target answer target t differs same is so = let P : Thread → Type 0 = λ u. (u.0 == t.0) ≡ false in subst P same (false_from_not (answer.0 == t.0) (sym is ∙ so))
-
--- with a new element all are below the next number
-pub below_with : (e : Element) (group : ℕ) (elements : List Element) → All (λ x. x.number < e.number) elements → All (λ x. x.number < e.number + 1) (with_element e group elements)
-below_with e group elements below =
-    All-push (λ x. x.number < e.number + 1) (without_replaced (replaced e group elements) elements) e
-    (All-weaker (λ x. x.number < e.number) (λ x. x.number < e.number + 1) (λ x h. omega arith) _ (below_kept (replaced e group elements) e elements below)) (omega arith)
-
--- and so after an `add`, whatever it answers
-pub below_after : {A E : Type 0} (elements left : List Element) (e : Element) (group : ℕ) (answer : Result A E) → OnOk answer (left ≡ with_element e group elements) → OnErr answer (left ≡ elements) → All (λ x. x.number < e.number) elements → All (λ x. x.number < e.number + 1) left
-below_after elements left e group (Ok _) ok err below = rw ok (below_with e group elements below)
-below_after elements left e group (Err _) ok err below = rw err (All-weaker (λ x. x.number < e.number) (λ x. x.number < e.number + 1) (λ x h. omega arith) elements below)
 
 -- the number of the last one, if it is a move, is as low as all numbers
 last_all : (m : ℕ) (w : List Element) → AllByRecursion (λ x. x.number < m) w → (n : ℕ) → move_number (last_of w) ≡ Some n → n < m
@@ -81,11 +64,3 @@ replaced_after e group w o is below = by o is ∙ ap (λ p. without_replaced p w
 pub ok_holds : {A E : Type 0} (r : Result A E) (P : Type 0) → is_err r ≡ false → OnOk r P → P
 ok_holds (Ok _) P e h = h
 ok_holds (Err _) P e h = absurd cc
-
--- all are below the next number
-pub below_next : (number : ℕ) (elements : List Element) → All (λ x. x.number < number) elements → All (λ x. x.number < number + 1) elements
-below_next number elements below = All-weaker (λ x. x.number < number) (λ x. x.number < number + 1) (λ x h. omega arith) elements below
-
--- and those that pass are too
-pub below_left : (passes : Element → Bool) (number : ℕ) (elements : List Element) → All (λ x. x.number < number) elements → All (λ x. x.number < number + 1) (filter passes elements)
-below_left passes number elements below = All-filter passes (λ x. x.number < number + 1) elements (below_next number elements below)

@@ -11,8 +11,6 @@ mod row;
 mod rows;
 mod sealed;
 mod steps;
-#[cfg(test)]
-mod tests;
 
 pub use element::Element;
 pub use inputs::Inputs;

@@ -29,6 +29,3 @@ pub use laws::{one_log, one_refusal, run_is_its_log};
 pub use log::{Extra, Log, LogEntry};
 pub use reader::read_log;
 pub use script_text::{ReadFault, Reason, Refusal};
-
-#[cfg(test)]
-mod tests;

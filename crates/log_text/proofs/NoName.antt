@@ -1,5 +1,5 @@
 -- Numbers that are beyond all rows of a table.
-use Rattle.std.proofs.Common.{◌≡◌, ℕ, ◌≤◌, Bool, true, false, eqb, ltb, List, [], ◌∷◌, Some, None, refl, ap, ◌∙◌, arith, cond}
+use Rattle.std.proofs.Common.{◌≡◌, ℕ, ◌≤◌, ◌<◌, ◌||◌, Bool, true, false, eqb, ltb, List, [], ◌∷◌, Some, None, refl, ap, ◌∙◌, arith, cond}
 use Rattle.std.specs.Prelude.{find, ◌==◌, option_map}
 use Rattle.std.proofs.lemmas.Bool.{false≢true}
 use Rattle.std.proofs.lemmas.Bool.Decides.{nat_tests}
@@ -25,3 +25,24 @@ all_below (r ∷ rows) n h above =
 -- no message has so large a number
 pub no_message : (n : ℕ) → 65536 ≤ n → name_in message_rows n ≡ None
 no_message n above = ap (option_map (λ (r : Named). r.name)) (all_below message_rows n refl above)
+
+apart : (low high rest : Bool) → cond low rest (cond high rest false) ≡ true → ((low || high) ≡ true) × (rest ≡ true)
+apart true high rest h = (refl, h)
+apart false true rest h = (refl, h)
+apart false false rest h = absurd (false≢true h)
+
+-- whether all rows have numbers up to 1024 or from 32768 on
+abbrev are_outside : List Named → Bool
+are_outside [] = true
+are_outside (r ∷ rows) = cond (ltb r.number 1025) (are_outside rows) (cond (ltb 32767 r.number) (are_outside rows) false)
+
+all_outside : (rows : List Named) (n : ℕ) → are_outside rows ≡ true → 1024 < n → n < 32768 → find (λ r. r.number == n) rows ≡ None
+all_outside [] n h above below = refl
+all_outside (r ∷ rows) n h above below =
+    let parts = apart (ltb r.number 1025) (ltb 32767 r.number) (are_outside rows) h in
+    let miss : eqb r.number n ≡ false = grind (arith, nat_tests, parts.0) in
+    ap (λ b. cond b (Some r) (find (λ x. x.number == n) rows)) miss ∙ all_outside rows n parts.1 above below
+
+-- no message between WM_USER and WM_APP has one
+pub no_user_message : (n : ℕ) → 1024 < n → n < 32768 → name_in message_rows n ≡ None
+no_user_message n above below = ap (option_map (λ (r : Named). r.name)) (all_outside message_rows n refl above below)

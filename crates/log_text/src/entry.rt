@@ -28,7 +28,7 @@ pub fn put_counted(out: &mut Vec<u8>, word: &[u8], number: u64) -> Result<(), Al
 fn put_word(out: &mut Vec<u8>, word: &[u8]) -> Result<(), AllocError>
     ensures { OnOk result (Adds out.old.items out.new.items (32 ∷ word.now)) }
 {
-    put_text(out, b" ")?;
+    out.push(b' ')?;
     put_text(out, word)?;
     Ok(())
 }
@@ -102,10 +102,10 @@ pub fn put_entry(out: &mut Vec<u8>, words: &Words, entry: Entry) -> Result<(), A
     ensures { OnOk result (Adds out.old.items out.new.items (entry_line words.now.script.now entry)) }
 {
     put_number(out, u64::from(entry.who.0))?;
-    put_text(out, b" ")?;
+    out.push(b' ')?;
     put_call(out, words, entry.call)?;
     put_text(out, b" = ")?;
     put_answer(out, words, entry.answer)?;
-    put_text(out, b"\n")?;
+    out.push(b'\n')?;
     Ok(())
 }

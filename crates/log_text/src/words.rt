@@ -11,6 +11,12 @@ use script_tree::Script;
 use std::alloc::AllocError;
 use user_io::text::{put_number, put_text};
 
+/// The number of WM_USER.
+const WM_USER: u64 = 1024;
+
+/// The number of WM_APP, which is the next one that has a name.
+const WM_APP: u64 = 32768;
+
 /// The names of messages, which are those of Windows (Microsoft, About Messages and Message Queues),
 /// and the names of a script.
 #[derive(Drop)]
@@ -31,10 +37,17 @@ impl<'s> Words<'s> {
         }
     }
 
-    /// The name of a message, where it has one.
+    /// The name of a message, where it has one. Most messages of programs are WM_USER and those behind it, for
+    /// which the table isn't asked.
     fn message(&self, number: u64) -> Option<&'static [u8]>
         ensures { option_map (λ s. s.now) result ≡ name_in message_rows number }
     {
+        if number == WM_USER {
+            return Some(b"WM_USER");
+        }
+        if WM_USER < number && number < WM_APP {
+            return None;
+        }
         match u32::try_from(number) {
             Ok(number) => self.messages.name_of(number),
             Err(_) => None,
@@ -45,7 +58,7 @@ impl<'s> Words<'s> {
     pub fn put_message(&self, out: &mut Vec<u8>, number: u64) -> Result<(), AllocError>
         ensures { OnOk result (Adds out.old.items out.new.items (message_text number)) }
     {
-        put_text(out, b" ")?;
+        out.push(b' ')?;
         match self.message(number) {
             Some(name) => put_text(out, name)?,
             None => put_number(out, number)?,
@@ -57,7 +70,7 @@ impl<'s> Words<'s> {
     pub fn put_name(&self, out: &mut Vec<u8>, name: u32) -> Result<(), AllocError>
         ensures { OnOk result (Adds out.old.items out.new.items (name_text self.now.script.now name)) }
     {
-        put_text(out, b" ")?;
+        out.push(b' ')?;
         match self.script.names().get(name as usize) {
             Some(name) => put_text(out, name.text())?,
             None => put_number(out, u64::from(name))?,
@@ -69,7 +82,7 @@ impl<'s> Words<'s> {
     pub fn put_procedure(&self, out: &mut Vec<u8>, procedure: u32) -> Result<(), AllocError>
         ensures { OnOk result (Adds out.old.items out.new.items (procedure_text self.now.script.now procedure)) }
     {
-        put_text(out, b" ")?;
+        out.push(b' ')?;
         match self.script.procedures().get(procedure as usize) {
             Some(procedure) => put_text(out, procedure.name().text())?,
             None => put_number(out, u64::from(procedure))?,

@@ -8,6 +8,3 @@ mod state;
 pub use laws::loops_begin_as_their_statements;
 pub use state::LoopState;
 pub use win_calls::{Got, Next, may_follow};
-
-#[cfg(test)]
-mod tests;

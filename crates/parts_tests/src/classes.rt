@@ -1,6 +1,7 @@
 //! Worked examples of classes and registered messages.
 
 use crate::facts::hold;
+use std::process::Abort;
 use win_class::*;
 use win_num::{Code, Fault};
 
@@ -53,26 +54,42 @@ fn the_table_tells_its_counts(rt: HostRuntime) {
     hold(&rt, &facts);
 }
 
-#[test]
-fn limits_are_exact(rt: HostRuntime) {
-    let mut classes = Classes::new(rt.alloc());
+const FULL: Fault = Fault::Refused(Code::Full);
+
+/// The names 0 to 63 become the classes 1 to 64.
+fn fill_classes(rt: &impl Abort, classes: &mut Classes) {
     for name in 0..64u32 {
         assert!(rt; classes.register(name, 0, 0) == Ok(name + 1), "at {name}");
     }
-    let full = Err(Fault::Refused(Code::Full));
+}
+
+#[test]
+fn limit_of_classes_is_exact(rt: HostRuntime) {
+    let mut classes = Classes::new(rt.alloc());
+    fill_classes(&rt, &mut classes);
     let facts = [
-        classes.register(64, 0, 0) == full,
+        classes.register(64, 0, 0) == Err(FULL),
         classes.register(63, 0, 0) == Err(Fault::Refused(Code::Win(1410))),
     ];
     hold(&rt, &facts);
+}
+
+/// The names 0 to 16383 become the messages 49152 to 65535.
+fn fill_messages(rt: &impl Abort, classes: &mut Classes) {
     for name in 0..16384u32 {
         assert!(rt;
             classes.message_number(name) == Ok(49152 + name),
             "at {name}"
         );
     }
+}
+
+#[test]
+fn limit_of_messages_is_exact(rt: HostRuntime) {
+    let mut classes = Classes::new(rt.alloc());
+    fill_messages(&rt, &mut classes);
     let facts = [
-        classes.message_number(16384) == full,
+        classes.message_number(16384) == Err(FULL),
         classes.message_number(16383) == Ok(65535),
     ];
     hold(&rt, &facts);

@@ -10,9 +10,13 @@ mod frames;
 #[cfg(test)]
 mod input_states;
 #[cfg(test)]
+mod inputs;
+#[cfg(test)]
 mod posts;
 #[cfg(test)]
 mod ready_threads;
+#[cfg(test)]
+mod statuses;
 #[cfg(test)]
 mod timers;
 #[cfg(test)]

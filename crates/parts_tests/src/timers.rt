@@ -1,4 +1,5 @@
 use crate::facts::hold;
+use std::process::Abort;
 use timer_source::{Timer, Timers};
 use win_num::{Code, Fault, Hwnd, Thread};
 
@@ -33,46 +34,71 @@ fn due(id: u64, due: u64) -> Option<Timer> {
     })
 }
 
-#[test]
-fn due_by_time_then_by_setting(rt: HostRuntime) {
-    let mut timers = Timers::new(rt.alloc());
-    let (thread, window) = (Thread(1), Hwnd(16));
-    let set = [
-        timers.set(thread, window, 1, 3, 0) == Ok(()),
-        timers.set(thread, window, 2, 10, 0) == Ok(()),
+const THREAD: Thread = Thread(1);
+
+const WINDOW: Hwnd = Hwnd(16);
+
+/// Thread 1 sets the timers 1 and 2, thread 2 sets 3.
+fn set_three(rt: &impl Abort, timers: &mut Timers) {
+    let facts = [
+        timers.set(THREAD, WINDOW, 1, 3, 0) == Ok(()),
+        timers.set(THREAD, WINDOW, 2, 10, 0) == Ok(()),
         timers.set(Thread(2), Hwnd(17), 3, 10, 0) == Ok(()),
     ];
-    hold(&rt, &set);
+    hold(rt, &facts);
+}
+
+fn due_in_order(rt: &impl Abort, timers: &mut Timers) {
     let facts = [
-        timers.first_due(thread, |_| true, 9) == None,
-        timers.first_due(thread, |_| true, 10) == due(1, 10),
-        timers.first_due(thread, |timer| timer.id != 1, 10) == due(2, 10),
-        timers.next_due(thread, |_| true) == Some(10),
-        timers.set(thread, window, 1, 10, 0) == Ok(()),
+        timers.first_due(THREAD, |_| true, 9) == None,
+        timers.first_due(THREAD, |_| true, 10) == due(1, 10),
+        timers.first_due(THREAD, |timer| timer.id != 1, 10) == due(2, 10),
+        timers.next_due(THREAD, |_| true) == Some(10),
+        timers.set(THREAD, WINDOW, 1, 10, 0) == Ok(()),
         // 1 was set anew
-        timers.first_due(thread, |_| true, 10) == due(2, 10),
+        timers.first_due(THREAD, |_| true, 10) == due(2, 10),
     ];
-    hold(&rt, &facts);
-    timers.restart(window, 2, 35);
+    hold(rt, &facts);
+}
+
+fn restarted_and_killed(rt: &impl Abort, timers: &mut Timers) {
+    timers.restart(WINDOW, 2, 35);
     let facts = [
-        timers.next_due(thread, |timer| timer.id == 2) == Some(45),
-        timers.kill(window, 1) == Ok(()),
-        timers.kill(window, 1) == Err(Code::Win(87)),
+        timers.next_due(THREAD, |timer| timer.id == 2) == Some(45),
+        timers.kill(WINDOW, 1) == Ok(()),
+        timers.kill(WINDOW, 1) == Err(Code::Win(87)),
     ];
-    hold(&rt, &facts);
+    hold(rt, &facts);
+}
+
+/// Those of one window go, and those of windows that pass.
+fn purged(rt: &impl Abort, timers: &mut Timers) {
     timers.purge(Hwnd(17));
     let facts = [
         timers.next_due(Thread(2), |_| true) == None,
-        timers.next_due(thread, |_| true) == Some(45),
+        timers.next_due(THREAD, |_| true) == Some(45),
     ];
-    hold(&rt, &facts);
-    timers.purge_those(|w: Hwnd| -> bool { w == window });
+    hold(rt, &facts);
+    timers.purge_those(|w: Hwnd| -> bool { w == WINDOW });
+    hold(rt, &[timers.next_due(THREAD, |_| true) == None]);
+}
+
+fn ended(rt: &impl Abort, timers: &mut Timers) {
     let facts = [
-        timers.next_due(thread, |_| true) == None,
         timers.set(Thread(2), Hwnd(17), 3, 10, 0) == Ok(()),
         timers.next_due(Thread(2), |_| true) == Some(10),
     ];
-    hold(&rt, &facts);
+    hold(rt, &facts);
     timers.end(Thread(2));
-    hold(&rt, &[!timers.has(Hwnd(17), 3), !timers.is_full(Thread(2))]);
+    hold(rt, &[!timers.has(Hwnd(17), 3), !timers.is_full(Thread(2))]);
+}
+
+#[test]
+fn due_by_time_then_by_setting(rt: HostRuntime) {
+    let mut timers = Timers::new(rt.alloc());
+    set_three(&rt, &mut timers);
+    due_in_order(&rt, &mut timers);
+    restarted_and_killed(&rt, &mut timers);
+    purged(&rt, &mut timers);
+    ended(&rt, &mut timers);
 }

@@ -31,28 +31,39 @@ enum Told {
     Step(Unmade),
 }
 
-fn number(w: u32) -> Told {
-    Told::Number(Ok(Hwnd(w)))
+/// The window of this number was added.
+macro_rules! number {
+    ($w:expr) => {
+        Told::Number(Ok(Hwnd($w)))
+    };
 }
 
-fn unmade(code: u16) -> Told {
-    Told::Number(Err(Fault::Refused(Code::Win(code))))
+/// None was added, for this error of Windows.
+macro_rules! unmade {
+    ($code:expr) => {
+        Told::Number(Err(Fault::Refused(Code::Win($code))))
+    };
 }
 
-fn done() -> Told {
-    Told::Done(Ok(()))
+const DONE: Told = Told::Done(Ok(()));
+
+/// It was refused with this error of Windows.
+macro_rules! refused {
+    ($code:expr) => {
+        Told::Done(Err(Code::Win($code)))
+    };
 }
 
-fn refused(code: u16) -> Told {
-    Told::Done(Err(Code::Win(code)))
+macro_rules! tell {
+    ($w:expr) => {
+        Told::Step(Unmade::Tell(Hwnd($w)))
+    };
 }
 
-fn tell(w: u32) -> Told {
-    Told::Step(Unmade::Tell(Hwnd(w)))
-}
-
-fn last(w: u32) -> Told {
-    Told::Step(Unmade::Last(Hwnd(w)))
+macro_rules! last {
+    ($w:expr) => {
+        Told::Step(Unmade::Last(Hwnd($w)))
+    };
 }
 
 fn row(style: u32, parent: u32, owner: u32) -> Result<WindowRow, Fail> {
@@ -93,57 +104,73 @@ fn lists(rt: &impl Abort, tree: &Tree, wanted: &[Hwnd]) {
     assert_eq!(rt; tree.windows(), wanted);
 }
 
+static FAMILY: [(Step, Told); 5] = [
+    (Step::Add(0, 0, 0), number!(16)),
+    (Step::Add(CHILD, 16, 0), number!(17)),
+    (Step::Add(CHILD, 17, 0), number!(18)),
+    (Step::Add(0, 0, 18), number!(19)),
+    (Step::Add(0, 0, 0), number!(20)),
+];
+
 /// 16 with the child 17, whose child is 18; 16 owns 19; 20 stands alone.
 fn family(rt: &impl Abort, alloc: Global) -> Result<Tree, Fail> {
     let mut tree = Tree::new(alloc);
-    let steps = [
-        (Step::Add(0, 0, 0), number(16)),
-        (Step::Add(CHILD, 16, 0), number(17)),
-        (Step::Add(CHILD, 17, 0), number(18)),
-        (Step::Add(0, 0, 18), number(19)),
-        (Step::Add(0, 0, 0), number(20)),
-    ];
-    goes(rt, &mut tree, &steps)?;
+    goes(rt, &mut tree, &FAMILY)?;
     Ok(tree)
 }
+
+static TWO_WINDOWS: [(Step, Told); 2] = [
+    (Step::Add(0, 0, 0), number!(16)),
+    (Step::Add(CHILD, 16, 0), number!(17)),
+];
+
+static NUMBERS_AND_REFUSALS: [(Step, Told); 10] = [
+    (Step::Add(CHILD, 0, 9), unmade!(1400)),
+    (Step::Add(CHILD, 0, 0), unmade!(1406)),
+    (Step::Doom(17), DONE),
+    (Step::Doom(17), refused!(1400)),
+    (Step::Add(CHILD, 17, 0), unmade!(1400)),
+    (Step::Drop(17), refused!(87)),
+    (Step::Unmake(17), tell!(17)),
+    (Step::Unmake(17), last!(17)),
+    (Step::Drop(17), DONE),
+    (Step::Drop(17), refused!(1400)),
+];
 
 #[test]
 fn numbers_rise_and_are_refused_in_order(rt: HostRuntime) -> Result<(), Fail> {
     let mut tree = Tree::new(rt.alloc());
-    let two = [
-        (Step::Add(0, 0, 0), number(16)),
-        (Step::Add(CHILD, 16, 0), number(17)),
-    ];
-    goes(&rt, &mut tree, &two)?;
+    goes(&rt, &mut tree, &TWO_WINDOWS)?;
     lists(&rt, &tree, &[Hwnd(16), Hwnd(17)]);
-    let steps = [
-        (Step::Add(CHILD, 0, 9), unmade(1400)),
-        (Step::Add(CHILD, 0, 0), unmade(1406)),
-        (Step::Doom(17), done()),
-        (Step::Doom(17), refused(1400)),
-        (Step::Add(CHILD, 17, 0), unmade(1400)),
-        (Step::Drop(17), refused(87)),
-        (Step::Unmake(17), tell(17)),
-        (Step::Unmake(17), last(17)),
-        (Step::Drop(17), done()),
-        (Step::Drop(17), refused(1400)),
-    ];
-    goes(&rt, &mut tree, &steps)?;
+    goes(&rt, &mut tree, &NUMBERS_AND_REFUSALS)?;
     let copy = tree.copy()?;
     lists(&rt, &copy, tree.windows());
     assert_eq!(rt; copy.last(), 17);
-    goes(&rt, &mut tree, &[(Step::Add(0, 0, 0), number(18))])
+    goes(&rt, &mut tree, &[(Step::Add(0, 0, 0), number!(18))])
 }
+
+static DOOMED_FAMILY: [(Step, Told); 2] = [
+    (Step::Unmake(16), Told::Step(Unmade::NotDoomed)),
+    (Step::Doom(16), DONE),
+];
+
+static DESTROYED_FAMILY: [(Step, Told); 9] = [
+    (Step::Unmake(16), tell!(19)),
+    (Step::Unmake(16), last!(19)),
+    (Step::Unmake(16), tell!(16)),
+    (Step::Unmake(16), tell!(17)),
+    (Step::Unmake(16), tell!(18)),
+    (Step::Unmake(16), last!(18)),
+    (Step::Unmake(16), last!(17)),
+    (Step::Unmake(16), last!(16)),
+    (Step::Unmake(16), last!(16)),
+];
 
 #[test]
 fn a_family_is_destroyed_in_order(rt: HostRuntime) -> Result<(), Fail> {
     let mut tree = family(&rt, rt.alloc())?;
     let owner = tree.row(Hwnd(19)).map(|r| r.owner);
-    let first = [
-        (Step::Unmake(16), Told::Step(Unmade::NotDoomed)),
-        (Step::Doom(16), done()),
-    ];
-    goes(&rt, &mut tree, &first)?;
+    goes(&rt, &mut tree, &DOOMED_FAMILY)?;
     let marked = [
         owner == Some(Hwnd(16)),
         tree.marked(Hwnd(18)),
@@ -151,20 +178,9 @@ fn a_family_is_destroyed_in_order(rt: HostRuntime) -> Result<(), Fail> {
         !tree.marked(Hwnd(20)),
     ];
     hold(&rt, &marked);
-    let steps = [
-        (Step::Unmake(16), tell(19)),
-        (Step::Unmake(16), last(19)),
-        (Step::Unmake(16), tell(16)),
-        (Step::Unmake(16), tell(17)),
-        (Step::Unmake(16), tell(18)),
-        (Step::Unmake(16), last(18)),
-        (Step::Unmake(16), last(17)),
-        (Step::Unmake(16), last(16)),
-        (Step::Unmake(16), last(16)),
-    ];
-    goes(&rt, &mut tree, &steps)?;
+    goes(&rt, &mut tree, &DESTROYED_FAMILY)?;
     hold(&rt, &[tree.last_given(Hwnd(17))]);
-    goes(&rt, &mut tree, &[(Step::Drop(16), done())])?;
+    goes(&rt, &mut tree, &[(Step::Drop(16), DONE)])?;
     lists(&rt, &tree, &[Hwnd(20)]);
     goes(
         &rt,
@@ -173,25 +189,26 @@ fn a_family_is_destroyed_in_order(rt: HostRuntime) -> Result<(), Fail> {
     )
 }
 
+static MEANWHILE: [(Step, Told); 13] = [
+    (Step::Doom(16), DONE),
+    (Step::Unmake(16), tell!(19)),
+    (Step::Add(0, 0, 0), number!(21)),
+    (Step::Unmake(16), last!(19)),
+    (Step::Unmake(17), tell!(17)),
+    (Step::Next(16), tell!(16)),
+    (Step::Drop(19), DONE),
+    (Step::Unmake(16), tell!(16)),
+    (Step::Unmake(16), tell!(18)),
+    (Step::Unmake(16), last!(18)),
+    (Step::Unmake(16), last!(17)),
+    (Step::Unmake(16), last!(16)),
+    (Step::Unmake(17), last!(17)),
+];
+
 #[test]
 fn other_windows_come_and_go_meanwhile(rt: HostRuntime) -> Result<(), Fail> {
     let mut tree = family(&rt, rt.alloc())?;
-    let steps = [
-        (Step::Doom(16), done()),
-        (Step::Unmake(16), tell(19)),
-        (Step::Add(0, 0, 0), number(21)),
-        (Step::Unmake(16), last(19)),
-        (Step::Unmake(17), tell(17)),
-        (Step::Next(16), tell(16)),
-        (Step::Drop(19), done()),
-        (Step::Unmake(16), tell(16)),
-        (Step::Unmake(16), tell(18)),
-        (Step::Unmake(16), last(18)),
-        (Step::Unmake(16), last(17)),
-        (Step::Unmake(16), last(16)),
-        (Step::Unmake(17), last(17)),
-    ];
-    goes(&rt, &mut tree, &steps)
+    goes(&rt, &mut tree, &MEANWHILE)
 }
 
 /// Gives a window the style 5, where it is live.
@@ -255,18 +272,18 @@ fn a_thousand_windows(rt: HostRuntime) -> Result<(), Fail> {
     let mut tree = Tree::new(rt.alloc());
     let new = Step::Add(0, 0, 0);
     for w in 16..1040u32 {
-        goes(&rt, &mut tree, &[(new, number(w))])?;
+        goes(&rt, &mut tree, &[(new, number!(w))])?;
     }
     let full = Told::Number(Err(Fault::Refused(Code::Full)));
     goes(&rt, &mut tree, &[(new, full)])?;
     for w in 16..1040u32 {
         let steps = [
-            (Step::Doom(w), done()),
-            (Step::Unmake(w), tell(w)),
-            (Step::Unmake(w), last(w)),
-            (Step::Drop(w), done()),
+            (Step::Doom(w), DONE),
+            (Step::Unmake(w), tell!(w)),
+            (Step::Unmake(w), last!(w)),
+            (Step::Drop(w), DONE),
         ];
         goes(&rt, &mut tree, &steps)?;
     }
-    goes(&rt, &mut tree, &[(new, number(1040))])
+    goes(&rt, &mut tree, &[(new, number!(1040))])
 }

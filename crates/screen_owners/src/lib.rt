@@ -19,6 +19,3 @@ mod shares;
 pub use changes::changed_part;
 pub use owners::{Owned, Owners, owned_regions, owned_regions_again};
 pub use screen::{Part, Screen};
-
-#[cfg(test)]
-mod tests;

@@ -1,6 +1,6 @@
 //! Lines from their words.
 
-ghost use Rattle.std.specs.Prelude.{◌≡◌, ◌≤◌, length, IfOk, IfSome, map, option_map};
+ghost use Rattle.std.specs.Prelude.{◌≡◌, ◌≤◌, length, OnOk, IfOk, IfSome, map, option_map};
 ghost use Rattle.std.specs.List.{AllByRecursion};
 ghost use Rattle.script_lines.specs.LineLimits.{IsPart, IsLine};
 ghost use Rattle.script_lines.specs.LineReading.{word_at, split_at, texts_of, part_at, parts_from, line_at, lines_at};
@@ -24,6 +24,14 @@ pub fn split_at<'a>(alloc: Global, text: &'a [u8], byte: u8) -> Result<Vec<&'a [
     ensures { IfOk result (λ v. map (λ w. w.now) v.items ≡ split_at byte text.now) }
 {
     text.split(|b| *b == byte).collect(alloc)
+}
+
+/// Puts the words of a line in place of those that were there, in the same room.
+fn words_into<'a>(words: &mut Vec<&'a [u8]>, text: &'a [u8]) -> Result<(), AllocError>
+    ensures { OnOk result (map (λ w. w.now) words.new.items ≡ split_at 32 text.now) }
+{
+    words.clear();
+    words.extend(text.split(|b| *b == b' '))
 }
 
 /// The word at a place, empty where there is none.
@@ -130,8 +138,9 @@ pub fn lines_at(
     ensures fits { IfOk result (λ found. IfSome found (λ ls. AllByRecursion IsLine ls.items)) }
 {
     let mut lines = Vec::new(alloc);
+    let mut words = Vec::new(alloc);
     for text in texts {
-        let words = split_at(alloc, text, b' ')?;
+        words_into(&mut words, text)?;
         let Some(line) = line_at(alloc, tables, known, &words)? else {
             return Ok(None);
         };

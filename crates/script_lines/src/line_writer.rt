@@ -14,7 +14,7 @@ use crate::operands::NameTables;
 use crate::rows::command_word;
 use crate::words::{comparison_word, letter_word, operator_word, variable_word};
 use script_tree::{Name, Operand, Procedure, Script};
-use statement_table::Part;
+use statement_table::{Part, split_statement};
 use std::alloc::AllocError;
 use user_io::text::{put_number, put_operand as put_decimal, put_text};
 
@@ -23,7 +23,7 @@ use user_io::text::{put_number, put_operand as put_decimal, put_text};
 pub fn put_word(out: &mut Vec<u8>, word: &[u8]) -> Result<(), AllocError>
     ensures { OnOk result (Adds out.old.items out.new.items (blank_word word.now)) }
 {
-    put_text(out, b" ")?;
+    out.push(b' ')?;
     put_text(out, word)?;
     Ok(())
 }
@@ -132,7 +132,7 @@ fn put_words(
 {
     put_text(out, command_word(command))?;
     put_parts(out, tables, script, parts)?;
-    put_text(out, b"\n")?;
+    out.push(b'\n')?;
     Ok(())
 }
 
@@ -145,5 +145,11 @@ pub fn put_line(
 ) -> Result<(), AllocError>
     ensures { OnOk result (Adds out.old.items out.new.items (line_text (line_words (known_of script.now) line))) }
 {
-    put_words(out, tables, script, line_command(line), &line_parts(line))
+    match line {
+        Line::Call(call) => {
+            let split = split_statement(call);
+            put_words(out, tables, script, Command::Call(split.name), &split.parts)
+        }
+        _ => put_words(out, tables, script, line_command(line), &line_parts(line)),
+    }
 }

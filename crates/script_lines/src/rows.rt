@@ -7,7 +7,7 @@ ghost use Rattle.script_lines.specs.Rows.{command_word, command_places, own_comm
 
 use crate::line::Command;
 use arrayvec::ArrayVec;
-use call_table::{CallName, WindowCall, call_form, call_named};
+use call_table::{CallName, DeliveryCall, SendCall, WindowCall, call_form, call_named};
 use statement_table::{
     CompoundName, Place, Places, compound_places, compound_word, field_places, statement_places,
 };
@@ -102,12 +102,20 @@ pub fn command_places(command: Command) -> Places
     }
 }
 
+/// Whether a line begins with this word. Most words differ in length alone.
+fn has_word(command: Command, word: &[u8]) -> bool
+    ensures { result ≡ bytes_eq (command_word command) word.now }
+{
+    let first = command_word(command);
+    first.len() == word.len() && first == word
+}
+
 /// The first of these lines that has the word.
 fn command_in(all: &[Command], word: &[u8]) -> Option<Command>
     ensures { result ≡ find (λ v. bytes_eq (command_word v) word.now) all.now }
 {
     for v in all {
-        if command_word(*v) == word {
+        if has_word(*v, word) {
             return Some(*v);
         }
     }
@@ -116,12 +124,28 @@ fn command_in(all: &[Command], word: &[u8]) -> Option<Command>
 
 /// The line that begins with this word: one that makes no one call, else a statement of a call.
 #[tactic(auto, unfolding(crate::specs::Rows::own_command))]
-fn first_command(word: &[u8]) -> Option<Command>
+fn listed_command(word: &[u8]) -> Option<Command>
     ensures { result ≡ first_command word.now }
 {
     match command_in(&OWN_COMMANDS, word) {
         Some(command) => Some(command),
         None => call_named(word).map(Command::Call),
+    }
+}
+
+/// The same. The words of which long scripts mostly consist are told at once.
+#[tactic(auto, using(std::proofs::lemmas::Slice::Eq::text_from_reads), unfolding(crate::specs::Rows::own_command, call_table::specs::Calls::call_named))]
+fn first_command(word: &[u8]) -> Option<Command>
+    ensures { result ≡ first_command word.now }
+{
+    match word {
+        b"let" => Some(Command::Let),
+        b"end" => Some(Command::End),
+        b"get" => Some(Command::Call(CallName::Delivery(DeliveryCall::Get))),
+        b"post" => Some(Command::Call(CallName::Delivery(DeliveryCall::Post))),
+        b"post_thread" => Some(Command::Call(CallName::Delivery(DeliveryCall::PostThread))),
+        b"send" => Some(Command::Call(CallName::Send(SendCall::Send))),
+        _ => listed_command(word),
     }
 }
 

@@ -6,7 +6,8 @@ use Rattle.user_model.specs.declared.entry.Answer.{Answer}
 use Rattle.user_model.specs.declared.entry.Answer.TheVariants.{Wait, Enter, Callback, Inside, Called, Begun}
 use Rattle.user_model.specs.Stacks.{waits}
 use Rattle.script_tree.specs.Pieces.{Piece}
-use Rattle.script_tree.specs.Steps.{follows, is_last}
+use Rattle.script_tree.specs.declared.variables.Variables.{Variables}
+use Rattle.script_tree.specs.Steps.{follows, is_last, given, answered}
 use Rattle.script_proc.specs.Items.{hands_on}
 
 last_one : (b : Bool) (ps : List Piece) → b ≡ true → [] ≡ (if b then [] else ps)
@@ -31,3 +32,26 @@ nothing_follows call (Inside s proc_no) h = last_one (is_last call) _ h
 nothing_follows call (Called proc_no) h = last_one (is_last call) _ h
 nothing_follows call (Begun s) h = begun_one (is_last call) (waits call) _ h
 nothing_follows call a h = either_way (is_last call) []
+
+then_one : {A : Type 0} (b : Bool) (x y : A) → b ≡ true → (if b then x else y) ≡ x
+then_one true x y h = refl
+then_one false x y h = absurd cc
+
+begun_given : {A : Type 0} (b w : Bool) (x y : A) → (if b then true else not w) ≡ true → (if b then x else (if w then y else x)) ≡ x
+begun_given true w x y h = refl
+begun_given false true x y h = absurd cc
+begun_given false false x y h = refl
+
+same_given : {A : Type 0} (b : Bool) (x : A) → (if b then x else x) ≡ x
+same_given true x = refl
+same_given false x = refl
+
+-- the state then
+pub given_on : (call : Call) (a : Answer) (v : Variables) → hands_on call a ≡ true → answered call a v ≡ given v a
+given_on call Wait v h = absurd cc
+given_on call (Enter s proc_no w number wparam lparam) v h = then_one (is_last call) _ _ h
+given_on call (Callback s proc_no w number extra result) v h = then_one (is_last call) _ _ h
+given_on call (Inside s proc_no) v h = then_one (is_last call) _ _ h
+given_on call (Called proc_no) v h = then_one (is_last call) _ _ h
+given_on call (Begun s) v h = begun_given (is_last call) (waits call) _ _ h
+given_on call a v h = same_given (is_last call) _

@@ -3,14 +3,15 @@ use Rattle.std.proofs.Common.{◌≡◌, ℕ, zero, suc, ◌+◌, ◌-◌, ◌*�
 use Rattle.std.specs.Prelude.{◌⊎◌, slice_get, if◌then◌else◌, unwrap_or, max}
 use Rattle.user_model.specs.declared.call.Call.{Call}
 use Rattle.user_model.specs.declared.call.Call.TheVariants.{Yield}
+use Rattle.user_model.specs.declared.entry.Answer.{Answer}
 use Rattle.script_tree.specs.declared.operand.Test.{Test}
 use Rattle.script_tree.specs.declared.statement.Statement.{Statement, items-the_row-Statement}
 use Rattle.script_tree.specs.declared.statement.Statement.TheVariants as tree
 use Rattle.script_tree.specs.declared.variables.Variables.{Variables}
 use Rattle.script_tree.specs.declared.frame.Run.{Run}
 use Rattle.script_tree.specs.Tree.{Tree, procedure_of}
-use Rattle.script_tree.specs.Values.{holds, inside_of}
-use Rattle.script_tree.specs.Pieces.{Piece, Lines, One, PassEnd, Making, Quiet, Running as RunningPiece, Leaving as LeavingPiece, Restore as RestorePiece, State, Going, Returning, Given, Becomes}
+use Rattle.script_tree.specs.Values.{holds, inside_of, settled}
+use Rattle.script_tree.specs.Pieces.{Piece, Lines, One, PassEnd, Making, Settle as SettlePiece, Quiet, Running as RunningPiece, Leaving as LeavingPiece, Restore as RestorePiece, State, Going, Returning, Given, Becomes}
 use Rattle.script_tree.specs.Steps.{step, passes, statement}
 use Rattle.script_tree.specs.Weights.{weight, lines_weight, costs, steps_left}
 use Rattle.script_tree.proofs.Falls.{falls}
@@ -18,11 +19,11 @@ use Rattle.script_proc.specs.declared.program.Line.{Line}
 use Rattle.script_proc.specs.declared.program.Line.TheVariants.{If, Else, While, End}
 use Rattle.script_proc.specs.declared.program.Program.{Program}
 use Rattle.script_proc.specs.declared.item.Item.{Item}
-use Rattle.script_proc.specs.declared.item.Item.TheVariants.{At, Once, PassEnd as PassEndItem, Making as MakingItem, Settle, Quiet as QuietItem, Running, Leaving, Restore}
+use Rattle.script_proc.specs.declared.item.Item.TheVariants.{At, Once, PassEnd as PassEndItem, Making as MakingItem, Stating, Settle, Quiet as QuietItem, Running, Leaving, Restore}
 use Rattle.script_proc.specs.declared.item.Mode.{Mode}
 use Rattle.script_proc.specs.declared.item.Mode.TheVariants.{Going as GoingMode, Returning as ReturningMode, Given as GivenMode}
 use Rattle.script_proc.specs.Programs.{Says, Stands, lines_at}
-use Rattle.script_proc.specs.Items.{piece, Covers, AllCover, IsLoop, loops, above, state_of, Keeps, IsPlain, ArePlain, IsSettling, IsPlaceless, ArePlaceless}
+use Rattle.script_proc.specs.Items.{piece, Covers, AllCover, IsLoop, loops, above, state_of, Keeps, IsSilent, IsPlain, ArePlain, IsSettling, IsPlaceless, ArePlaceless}
 use Rattle.script_proc.specs.Works.{statements, no_tree, as_long, all_long, Moves, Steps}
 use Rattle.script_proc.proofs.StandLaws.{drop_here, drop_past, within, drop_behind, IsSimple, says, said_weight, nothing_stands, are_lines, keeps_on, by_step, lines_pass, alone_goes, else_goes, end_goes, then_goes, otherwise_goes, IsWhile, is_while, while_comes}
 
@@ -31,20 +32,23 @@ piece_covers : (p : Program) (item : Item) → IsPlaceless item → Covers p ite
 piece_covers p (At at) h = absurd h
 piece_covers p (Once at) h = absurd h
 piece_covers p (PassEndItem at began) h = absurd h
+piece_covers p (Stating call) h = absurd h
 piece_covers p item h = refl
 
 cover_is : (p : Program) (item : Item) (qs : List Piece) → IsPlain item → Covers p item qs → qs ≡ piece item ∷ []
 cover_is p (At at) qs h c = absurd h
 cover_is p (Once at) qs h c = absurd h
 cover_is p (PassEndItem at began) qs h c = absurd h
+cover_is p (Stating call) qs h c = absurd h
 cover_is p item qs h c = c
 
-pub is_plain : (item : Item) → ((at : ℕ) → item ≡ At at → ⊥) → ((at : ℕ) → item ≡ Once at → ⊥) → ((at began : ℕ) → item ≡ PassEndItem at began → ⊥) → ((run : Run) → item ≡ Running run → ⊥) → IsPlain item
-is_plain (At at) a b c d = a at refl
-is_plain (Once at) a b c d = b at refl
-is_plain (PassEndItem at began) a b c d = c at began refl
-is_plain (Running run) a b c d = d run refl
-is_plain item a b c d = tt
+pub is_plain : (item : Item) → ((at : ℕ) → item ≡ At at → ⊥) → ((at : ℕ) → item ≡ Once at → ⊥) → ((at began : ℕ) → item ≡ PassEndItem at began → ⊥) → ((run : Run) → item ≡ Running run → ⊥) → ((call : Call) → item ≡ Stating call → ⊥) → IsPlain item
+is_plain (At at) a b c d e = a at refl
+is_plain (Once at) a b c d e = b at refl
+is_plain (PassEndItem at began) a b c d e = c at began refl
+is_plain (Running run) a b c d e = d run refl
+is_plain (Stating call) a b c d e = e call refl
+is_plain item a b c d e = tt
 
 pub settling_plain : (item : Item) → IsSettling item → IsPlain item
 settling_plain (Settle call) h = tt
@@ -67,6 +71,7 @@ is_placeless : (item : Item) → IsPlain item → IsPlaceless item
 is_placeless (At at) h = absurd h
 is_placeless (Once at) h = absurd h
 is_placeless (PassEndItem at began) h = absurd h
+is_placeless (Stating call) h = absurd h
 is_placeless item h = tt
 
 are_placeless : (few : List Item) → ArePlain few → ArePlaceless few
@@ -91,6 +96,7 @@ module _ (size n : ℕ) where
   plain_long (Once at) h = absurd h
   plain_long (PassEndItem at began) h = absurd h
   plain_long (Running run) h = absurd h
+  plain_long (Stating call) h = absurd h
   plain_long item h = refl
 
   few_long : (few : List Item) → ArePlain few → all_long size n few ≡ above few
@@ -166,6 +172,33 @@ module _ (p : Program) (n : ℕ) where
     fewer = λ left.
         let line' = says line i in
         simple_falls (length p.lines.items) n line'.0 at few left v st (said_weight line line'.0 line'.1) (within p.lines.items at line h) f (e line'.0 n line'.1);
+  })
+
+  -- a statement that makes a call
+  pub call_moves : (at : ℕ) (line : Line) (call : Call) (v : Variables) → slice_get p.lines.items at ≡ Some line → IsSimple line → ((line' : Statement) (k : ℕ) → Says line line' → Becomes (Making call ∷ SettlePiece call ∷ []) (Going v) ≡ statement line' v k) → Moves p n (At at) (Going v) (At (at + 1) ∷ Stating call ∷ []) (Going v)
+  call_moves at line call v h i e = record {
+    keeps = λ s of qs left c.
+        let r = alone_goes s n left v i (here at line qs h c) in
+        let rs = r.2.0 in (
+          Making call ∷ SettlePiece call ∷ rs,
+          (Making call ∷ SettlePiece call ∷ [], rs, refl, r.2.1, ([], Making call ∷ SettlePiece call ∷ [], refl, refl, refl)),
+          keeps_on s n _ _ _ _ _ _ r.2.2 (by_step s n (One r.0) (rs ++ left) (Going v) (Making call ∷ SettlePiece call ∷ []) (Going v) (sym (e r.0 n r.1))),
+        );
+    fewer = λ left. let size = length p.lines.items in omega (arith, weighs (size - (at + 1)), weighs (size - at), within p.lines.items at line h);
+  }
+
+  -- the end of such a statement
+  pub stating_moves : (call : Call) (mode : Mode) (v : Variables) (st : State) → (mode ≡ GoingMode → ⊥) → IsSilent (Stating call) mode → ((a : Answer) (x : ℕ) → mode ≡ GivenMode a x → st ≡ Going (settled v call a x)) → Moves p n (Stating call) (state_of v mode) [] st
+  stating_moves call GoingMode v st h i e = absurd (h refl)
+  stating_moves call (ReturningMode x) v st h i e = absurd i
+  stating_moves call (GivenMode a x) v st h i e = subst (λ y. Moves p n (Stating call) (Given v a x) [] y) (sym (e a x refl)) (record {
+    keeps = λ s of qs left c. (
+      [],
+      refl,
+      subst (λ ps. Keeps s (ps ++ left) (Given v a x) left (Going (settled v call a x)) n) (sym c)
+          (keeps_on s n _ _ _ _ _ _ (by_step s n (Making call) (SettlePiece call ∷ left) (Given v a x) [] (Given v a x) refl) (by_step s n (SettlePiece call) left (Given v a x) [] (Going (settled v call a x)) refl)),
+    );
+    fewer = λ left. omega arith;
   })
 
   -- what comes next stands for these pieces

@@ -29,7 +29,7 @@ pub record IsWorkerOf (s : Tree) (p : Program) (t : ℕ) (tr : Trace) (w : Worke
 -- the worker stands at this call, or its program has ended; and it has room for what follows an answer
 pub record IsAt (w : Worker) (next : Option Call) : Type 0 where
   pub ready : IsReady w.items.items w.mode next
-  pub room : vec_len w.items + 4 ≤ vec_capacity w.items
+  pub room : vec_len w.items + 5 ≤ vec_capacity w.items
 
 -- how a trace ends that has this next call
 abbrev pub end_of : Option Call → End

@@ -15,6 +15,8 @@ pub enum Item {
     PassEnd(usize, u32),
     /// A call, made until its answer is that of no attempt.
     Making(Call),
+    /// A statement makes this call, and then sets `r` and `err`.
+    Stating(Call),
     /// The same call once more, after the procedure of an attempt.
     Again(Call),
     /// The answer is given, with the result of the procedure that ran for it, or without one.
@@ -48,6 +50,17 @@ pub enum Mode {
     Returning(u64),
     /// The answer to a call, and its result.
     Given(Answer, u64),
+}
+
+/// What a thread does next.
+#[derive(Clone, Copy)]
+pub enum Next {
+    /// The last item.
+    Top,
+    /// The lines of the program from a place on, above the items.
+    Line(usize),
+    /// The `while` at a place once more, above the items.
+    Loop(usize),
 }
 
 /// A few items, the next one last.

@@ -3,6 +3,7 @@
 ghost use Rattle.std.specs.Prelude.{◌≡◌, ◌≢◌, ℕ, [], ◌∷◌, ◌++◌};
 ghost use Rattle.script_tree.specs.Tree.{Tree};
 ghost use Rattle.script_tree.specs.declared.statement.Statement.{Statement};
+ghost use Rattle.script_tree.specs.Values.{settled as settled_of};
 ghost use Rattle.script_tree.specs.Pieces.{Settle, Left, Leaving, Going, Becomes};
 ghost use Rattle.script_tree.specs.Compounds.{default_result};
 ghost use Rattle.script_tree.specs.Steps.{statement as statement_of, step, begins, returns_to, takes, goes_on, sleeps as sleeps_of, default_pieces, is_callback as is_callback_of};
@@ -126,10 +127,7 @@ pub fn statement(line: &Line, variables: &Variables) -> Few
 fn is_callback(frame: Frame) -> bool
     ensures { result ≡ is_callback_of frame }
 {
-    match frame {
-        Frame::CallbackRun => true,
-        _ => false,
-    }
+    matches!(frame, Frame::CallbackRun)
 }
 
 /// The `leave` of a procedure with its result.
@@ -249,6 +247,16 @@ fn given(item: &Item, variables: &mut Variables, mode: &mut Mode, answer: Answer
             Few::Nothing
         }
         _ => Few::Nothing,
+    }
+}
+
+/// The statement that made this call is over, where it is given an answer.
+pub fn settle_statement(call: &Call, variables: &mut Variables, mode: &mut Mode)
+    ensures { (answer : Answer) (x : ℕ) → mode.old ≡ Mode.Given answer x → state_of variables.new mode.new ≡ Going (settled_of variables.old call.now answer x) }
+{
+    if let Mode::Given(answer, value) = mode {
+        variables.settle(call, answer, *value);
+        *mode = Mode::Going;
     }
 }
 

@@ -6,13 +6,13 @@ ghost use Rattle.script_tree.specs.Pieces.{Going};
 ghost use Rattle.script_tree.specs.declared.variables.Variables.{Variables};
 ghost use Rattle.script_proc.specs.declared.program.Program.{Program};
 ghost use Rattle.script_proc.specs.declared.item.Item.{Item};
-ghost use Rattle.script_proc.specs.Items.{state_of, few_items, IsAtMostFour, IsPlain, IsSilent, SettlesNothing};
+ghost use Rattle.script_proc.specs.Items.{state_of, few_items, with_next, FitsNext, IsInMode, IsAtMostFour, IsPlain, IsSilent, SettlesNothing};
 ghost use Rattle.script_proc.specs.Works.{Last, Puts, Steps};
 
-use crate::item::{Few, Item, Mode};
-use crate::moves::{called, plain, quiet, settled, statement};
+use crate::item::{Few, Item, Mode, Next};
+use crate::moves::{called, plain, quiet, settle_statement, settled, statement};
 use crate::program::{Line, Program};
-use crate::top::{drop_last, put_one, put_three, put_two, set_last};
+use crate::top::{drop_last, set_last};
 use script_tree::{Run, Test, Variables};
 use user_model::Call;
 
@@ -47,118 +47,153 @@ fn while_at(
     passed: usize,
     variables: &Variables,
     used: u32,
-)
-    requires room { vec_len items.old + 4 ≤ vec_capacity items.old }
-    requires some { items.old.items ≢ [] }
+) -> Next
+    requires room { vec_len items.old + 5 ≤ vec_capacity items.old }
     requires short { at < 2 ^ 64 - 1 }
-    ensures { (below : List Item) (item : Item) → items.old.items ≡ below ++ item ∷ [] → items.new.items ≡ below ++ (if holds_of test.now variables.now then Item.PassEnd at used ∷ Item.At (at + 1) ∷ [] else Item.At (min (at + 1 + passed) (2 ^ 64 - 1)) ∷ []) }
+    ensures items { with_next items.new.items result ≡ items.old.items ++ (if holds_of test.now variables.now then Item.PassEnd at used ∷ Item.At (at + 1) ∷ [] else Item.At (min (at + 1 + passed) (2 ^ 64 - 1)) ∷ []) }
+    ensures fits { FitsNext result (vec_len items.new) (vec_capacity items.new) }
 {
     if test.holds(variables) {
-        put_two(items, Item::PassEnd(at, used), Item::At(at + 1));
+        items.push_reserved(Item::PassEnd(at, used));
+        Next::Line(at + 1)
     } else {
-        put_one(items, Item::At(behind(at, passed)));
+        Next::Line(behind(at, passed))
     }
 }
 
 /// A statement that begins a compound or a `sleep`, over the place behind it.
+#[inline(never)]
 fn begins(items: &mut Vec<Item>, at: usize, line: &Line, variables: &Variables)
-    requires room { vec_len items.old + 4 ≤ vec_capacity items.old }
-    requires some { items.old.items ≢ [] }
+    requires room { vec_len items.old + 5 ≤ vec_capacity items.old }
     requires short { at < 2 ^ 64 - 1 }
-    ensures { (below : List Item) (item : Item) → items.old.items ≡ below ++ item ∷ [] → Puts line.now at variables.now below items.new.items }
+    ensures { Puts line.now at variables.now items.old.items items.new.items }
 {
-    let few = on_top_of(Item::At(at + 1), statement(line, variables));
+    let behind = Item::At(at + 1);
+    items.push_reserved(behind);
+    let few = on_top_of(behind, statement(line, variables));
     set_last(items, &few);
 }
 
 /// A statement that makes one call, over the place behind it.
 fn calls(items: &mut Vec<Item>, at: usize, call: Call)
-    requires room { vec_len items.old + 4 ≤ vec_capacity items.old }
-    requires some { items.old.items ≢ [] }
+    requires room { vec_len items.old + 5 ≤ vec_capacity items.old }
     requires short { at < 2 ^ 64 - 1 }
-    ensures { (below : List Item) (item : Item) → items.old.items ≡ below ++ item ∷ [] → items.new.items ≡ below ++ Item.At (at + 1) ∷ Item.Settle call ∷ Item.Making call ∷ [] }
+    ensures { items.new.items ≡ items.old.items ++ Item.At (at + 1) ∷ Item.Stating call ∷ [] }
 {
-    put_three(
-        items,
-        Item::At(at + 1),
-        Item::Settle(call),
-        Item::Making(call),
-    );
+    items.push_reserved(Item::At(at + 1));
+    items.push_reserved(Item::Stating(call));
 }
 
-/// The line at a place of the program.
-fn line_at(
+/// What comes behind a statement without a call: a `return` is handed on by the last item.
+fn behind_quiet(items: &mut Vec<Item>, at: usize, mode: &Mode) -> Next
+    requires room { vec_len items.old + 5 ≤ vec_capacity items.old }
+    requires short { at < 2 ^ 64 - 1 }
+    ensures items { with_next items.new.items result ≡ items.old.items ++ Item.At (at + 1) ∷ [] }
+    ensures fits { FitsNext result (vec_len items.new) (vec_capacity items.new) }
+    ensures mode { IsInMode result mode.now }
+{
+    match mode {
+        Mode::Going => Next::Line(at + 1),
+        _ => {
+            items.push_reserved(Item::At(at + 1));
+            Next::Top
+        }
+    }
+}
+
+/// The line at a place of the program, above the items.
+pub fn line_at(
     program: &Program,
     items: &mut Vec<Item>,
     at: usize,
     variables: &mut Variables,
     mode: &mut Mode,
     used: u32,
-)
+) -> Next
     requires going { mode.old ≡ Mode.Going }
-    requires room { vec_len items.old + 4 ≤ vec_capacity items.old }
-    requires some { items.old.items ≢ [] }
-    ensures { (below : List Item) → items.old.items ≡ below ++ Item.At at ∷ [] → Steps program.now used items.old.items (Going variables.old) items.new.items (state_of variables.new mode.new) }
+    requires room { vec_len items.old + 5 ≤ vec_capacity items.old }
+    ensures steps { Steps program.now used (items.old.items ++ Item.At at ∷ []) (Going variables.old) (with_next items.new.items result) (state_of variables.new mode.new) }
+    ensures fits { FitsNext result (vec_len items.new) (vec_capacity items.new) }
+    ensures mode { IsInMode result mode.new }
 {
     let Some(line) = program.lines().get(at) else {
-        drop_last(items);
-        return;
+        return Next::Top;
     };
     match line {
         Line::If(test, passed) => {
             if test.holds(variables) {
-                put_one(items, Item::At(at + 1));
+                Next::Line(at + 1)
             } else {
-                put_one(items, Item::At(behind(at, *passed)));
+                Next::Line(behind(at, *passed))
             }
         }
-        Line::Else(passed) => put_one(items, Item::At(behind(at, *passed))),
+        Line::Else(passed) => Next::Line(behind(at, *passed)),
         Line::While(test, passed) => while_at(items, at, test, *passed, variables, used),
-        Line::End => drop_last(items),
-        Line::Call(statement) => calls(items, at, called(statement, variables)),
+        Line::End => Next::Top,
+        Line::Call(statement) => {
+            calls(items, at, called(statement, variables));
+            Next::Top
+        }
         Line::Let(_, _) | Line::Compute(_, _, _, _) | Line::Return(_) => {
             quiet(line, variables, mode);
-            put_one(items, Item::At(at + 1));
+            behind_quiet(items, at, mode)
         }
-        _ => begins(items, at, line, variables),
+        _ => {
+            begins(items, at, line, variables);
+            Next::Top
+        }
     }
 }
 
-/// The `while` at a place once more.
-fn once(program: &Program, items: &mut Vec<Item>, at: usize, variables: &Variables, used: u32)
-    requires room { vec_len items.old + 4 ≤ vec_capacity items.old }
-    requires some { items.old.items ≢ [] }
-    ensures { (below : List Item) → items.old.items ≡ below ++ Item.Once at ∷ [] → Steps program.now used items.old.items (Going variables.now) items.new.items (Going variables.now) }
+/// The `while` at a place once more, above the items.
+pub fn once(
+    program: &Program,
+    items: &mut Vec<Item>,
+    at: usize,
+    variables: &Variables,
+    used: u32,
+) -> Next
+    requires room { vec_len items.old + 5 ≤ vec_capacity items.old }
+    ensures steps { Steps program.now used (items.old.items ++ Item.Once at ∷ []) (Going variables.now) (with_next items.new.items result) (Going variables.now) }
+    ensures fits { FitsNext result (vec_len items.new) (vec_capacity items.new) }
 {
     let Some(line) = program.lines().get(at) else {
-        drop_last(items);
-        return;
+        return Next::Top;
     };
     match line {
         Line::While(test, passed) => while_at(items, at, test, *passed, variables, used),
-        _ => drop_last(items),
+        _ => Next::Top,
     }
+}
+
+/// A pass without an entry in it ends: a `yield` comes, and then the test again.
+#[inline(never)]
+fn yields(items: &mut Vec<Item>, at: usize)
+    requires { vec_len items.old + 3 ≤ vec_capacity items.old }
+    ensures { items.new.items ≡ items.old.items ++ Item.Once at ∷ Item.Quiet ∷ Item.Making Call.Yield ∷ [] }
+{
+    items.push_reserved(Item::Once(at));
+    items.push_reserved(Item::Quiet);
+    items.push_reserved(Item::Making(Call::Yield));
 }
 
 /// The end of a pass: without an entry in it comes a `yield`, and then the test again.
-fn pass_end(items: &mut Vec<Item>, at: usize, began: u32, used: u32)
-    requires room { vec_len items.old + 4 ≤ vec_capacity items.old }
+fn pass_end(items: &mut Vec<Item>, at: usize, began: u32, used: u32) -> Next
+    requires room { vec_len items.old + 5 ≤ vec_capacity items.old }
     requires some { items.old.items ≢ [] }
-    ensures { (below : List Item) (p : Program) (v : Variables) → items.old.items ≡ below ++ Item.PassEnd at began ∷ [] → Steps p used items.old.items (Going v) items.new.items (Going v) }
+    ensures steps { (below : List Item) (p : Program) (v : Variables) → items.old.items ≡ below ++ Item.PassEnd at began ∷ [] → Steps p used items.old.items (Going v) (with_next items.new.items result) (Going v) }
+    ensures fits { FitsNext result (vec_len items.new) (vec_capacity items.new) }
 {
+    drop_last(items);
     if used == began {
-        put_three(
-            items,
-            Item::Once(at),
-            Item::Quiet,
-            Item::Making(Call::Yield),
-        );
-    } else {
-        put_one(items, Item::Once(at));
+        yields(items, at);
+        return Next::Top;
     }
+    Next::Loop(at)
 }
 
 /// A procedure begins to run.
+#[inline(never)]
 fn running(program: &Program, items: &mut Vec<Item>, run: Run, variables: &mut Variables)
     requires room { vec_len items.old + 4 ≤ vec_capacity items.old }
     requires some { items.old.items ≢ [] }
@@ -167,10 +202,12 @@ fn running(program: &Program, items: &mut Vec<Item>, run: Run, variables: &mut V
     let restore = Item::Restore(variables.parameters);
     variables.parameters = run.parameters;
     let body = Item::At(program.procedure(run.procedure));
-    put_three(items, restore, Item::Leaving(run), body);
+    let few = Few::Three(restore, Item::Leaving(run), body);
+    set_last(items, &few);
 }
 
 /// The step of the last item, which has no place in the program and settles nothing.
+#[inline(never)]
 fn placeless(items: &mut Vec<Item>, variables: &mut Variables, mode: &mut Mode)
     requires room { vec_len items.old + 4 ≤ vec_capacity items.old }
     requires some { items.old.items ≢ [] }
@@ -193,35 +230,43 @@ fn going(
     variables: &mut Variables,
     mode: &mut Mode,
     used: u32,
-)
+) -> Next
     requires going { mode.old ≡ Mode.Going }
-    requires room { vec_len items.old + 4 ≤ vec_capacity items.old }
+    requires room { vec_len items.old + 5 ≤ vec_capacity items.old }
     requires some { items.old.items ≢ [] }
     requires silent { Last items.old.items (λ item. IsSilent item mode.old) }
-    ensures { Steps program.now used items.old.items (Going variables.old) items.new.items (state_of variables.new mode.new) }
+    ensures steps { Steps program.now used items.old.items (Going variables.old) (with_next items.new.items result) (state_of variables.new mode.new) }
+    ensures fits { FitsNext result (vec_len items.new) (vec_capacity items.new) }
+    ensures mode { IsInMode result mode.new }
 {
     let Some(item) = items.last() else {
-        return;
+        return Next::Top;
     };
     match item {
         Item::At(at) => {
             let at = *at;
-            line_at(program, items, at, variables, mode, used);
+            drop_last(items);
+            line_at(program, items, at, variables, mode, used)
         }
         Item::Once(at) => {
             let at = *at;
-            once(program, items, at, variables, used);
+            drop_last(items);
+            once(program, items, at, variables, used)
         }
         Item::PassEnd(at, began) => {
             let at = *at;
             let began = *began;
-            pass_end(items, at, began, used);
+            pass_end(items, at, began, used)
         }
         Item::Running(run) => {
             let run = *run;
             running(program, items, run, variables);
+            Next::Top
         }
-        _ => placeless(items, variables, mode),
+        _ => {
+            placeless(items, variables, mode);
+            Next::Top
+        }
     }
 }
 
@@ -237,6 +282,10 @@ fn handed(items: &mut Vec<Item>, variables: &mut Variables, mode: &mut Mode)
         return;
     };
     match item {
+        Item::Stating(call) => {
+            settle_statement(call, variables, mode);
+            drop_last(items);
+        }
         Item::Settle(_) | Item::Quiet => {
             settled(item, variables, mode);
             drop_last(items);
@@ -246,21 +295,26 @@ fn handed(items: &mut Vec<Item>, variables: &mut Variables, mode: &mut Mode)
     }
 }
 
-/// The step of the last item, which makes no call now: a few others come in its place.
+/// The step of the last item, which makes no call now.
 pub fn step(
     program: &Program,
     items: &mut Vec<Item>,
     variables: &mut Variables,
     mode: &mut Mode,
     used: u32,
-)
-    requires room { vec_len items.old + 4 ≤ vec_capacity items.old }
+) -> Next
+    requires room { vec_len items.old + 5 ≤ vec_capacity items.old }
     requires some { items.old.items ≢ [] }
     requires silent { Last items.old.items (λ item. IsSilent item mode.old) }
-    ensures { Steps program.now used items.old.items (state_of variables.old mode.old) items.new.items (state_of variables.new mode.new) }
+    ensures steps { Steps program.now used items.old.items (state_of variables.old mode.old) (with_next items.new.items result) (state_of variables.new mode.new) }
+    ensures fits { FitsNext result (vec_len items.new) (vec_capacity items.new) }
+    ensures mode { IsInMode result mode.new }
 {
     match mode {
         Mode::Going => going(program, items, variables, mode, used),
-        _ => handed(items, variables, mode),
+        _ => {
+            handed(items, variables, mode);
+            Next::Top
+        }
     }
 }

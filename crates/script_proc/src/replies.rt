@@ -1,51 +1,54 @@
 //! What follows a call and its answer.
 
-ghost use Rattle.std.specs.Prelude.{◌≡◌, ◌≢◌, ◌+◌, ◌≤◌, [], ◌∷◌, ◌++◌, List, false, IfNone, IfSome, Some, vec_len, vec_capacity};
-ghost use Rattle.script_tree.specs.Steps.{follows, answered, given as given_of, is_last as is_last_of, parameters_of, parameters_from};
+ghost use Rattle.std.specs.Prelude.{◌≡◌, ◌≢◌, ◌+◌, ◌≤◌, [], ◌∷◌, ◌++◌, List, true, false, IsTrue, IsSome, Some, vec_len, vec_capacity};
+ghost use Rattle.script_tree.specs.Steps.{result_of as result_of_answer, follows, answered, given as given_of, is_last as is_last_of, parameters_of, parameters_from};
 ghost use Rattle.user_model.specs.Stacks.{leaves as leaves_of, waits as waits_of};
+ghost use Rattle.script_tree.specs.Values.{received, settled};
+ghost use Rattle.script_tree.specs.Pieces.{Going};
+ghost use Rattle.script_proc.specs.Works.{Last};
 ghost use Rattle.script_proc.specs.declared.item.Item.{Item};
-ghost use Rattle.script_proc.specs.Items.{told as told_by, above, few_items, state_of, asks, hands_on as hands_on_of, IsSilent, ArePlaceless};
+ghost use Rattle.script_proc.specs.Items.{told as told_by, apart, IsStating, above, few_items, state_of, asks, hands_on as hands_on_of, IsSilent, ArePlaceless};
 
 use crate::item::{Few, Item, Mode};
-use crate::top::{drop_last, set_last};
+use crate::top::{drop_last, put_one, set_last};
 use script_tree::{Parameters, Run, Variables, result_of};
 use user_model::{Answer, Call};
 use win_num::Frame;
 
-/// The call that an item asks for.
-pub fn asked(item: &Item, mode: &Mode) -> Option<Call>
-    ensures none { IfNone result (IsSilent item.now mode.now) }
-    ensures some { IfSome result (λ call. asks item.now mode.now ≡ Some call) }
+/// Whether an item makes a call now.
+pub fn is_asking(item: &Item, mode: &Mode) -> bool
+    ensures silent { result ≡ false → IsSilent item.now mode.now }
+    ensures asking { IsTrue result → IsSome (asks item.now mode.now) }
 {
     match item {
-        Item::Making(call) => match mode {
-            Mode::Given(_, _) => None,
-            _ => Some(*call),
-        },
-        Item::Leaves(_, value) => match mode {
-            Mode::Going => Some(Call::Leave(*value)),
-            _ => None,
-        },
-        _ => None,
+        Item::Making(_) | Item::Stating(_) => !matches!(mode, Mode::Given(_, _)),
+        Item::Leaves(_, _) => matches!(mode, Mode::Going),
+        _ => false,
+    }
+}
+
+/// The call that an item makes now.
+pub fn asked(item: &Item, mode: &Mode) -> Call
+    requires { IsSome (asks item.now mode.now) }
+    ensures { asks item.now mode.now ≡ Some result }
+{
+    match item {
+        Item::Making(call) | Item::Stating(call) => *call,
+        Item::Leaves(_, value) => Call::Leave(*value),
+        _ => unreachable!(),
     }
 }
 
 fn is_last(call: &Call) -> bool
     ensures { result ≡ is_last_of call.now }
 {
-    match call {
-        Call::EndThread => true,
-        _ => false,
-    }
+    matches!(call, Call::EndThread)
 }
 
 fn leaves(call: &Call) -> bool
     ensures { result ≡ leaves_of call.now }
 {
-    match call {
-        Call::Leave(_) => true,
-        _ => false,
-    }
+    matches!(call, Call::Leave(_))
 }
 
 fn waits(call: &Call) -> bool
@@ -185,6 +188,48 @@ fn goes_on(items: &mut Vec<Item>, call: &Call, answer: &Answer)
 {
     let few = following(*call, *answer);
     set_last(items, &few);
+}
+
+/// Whether the last item is a statement's call, and the answer is handed on to the statement.
+pub fn ends_statement(items: &[Item], call: &Call, answer: &Answer) -> bool
+    ensures { IsTrue result → Last items.now IsStating × (hands_on_of call.now answer.now ≡ true) }
+{
+    match items.last() {
+        Some(Item::Stating(_)) => hands_on(call, answer),
+        _ => false,
+    }
+}
+
+/// The statement whose call was answered is over.
+pub fn end_statement(
+    items: &mut Vec<Item>,
+    call: &Call,
+    answer: &Answer,
+    variables: &mut Variables,
+    mode: &mut Mode,
+)
+    requires { items.old.items ≢ [] }
+    ensures items { (below : List Item) (item : Item) → items.old.items ≡ below ++ item ∷ [] → items.new.items ≡ below }
+    ensures state { state_of variables.new mode.new ≡ Going (settled (received variables.old answer.now) call.now answer.now (result_of_answer answer.now)) }
+{
+    variables.receive(answer);
+    variables.settle(call, answer, result_of(answer));
+    *mode = Mode::Going;
+    drop_last(items);
+}
+
+/// A statement's call stands apart from what it sets.
+pub fn separate(items: &mut Vec<Item>)
+    requires room { vec_len items.old + 5 ≤ vec_capacity items.old }
+    ensures room { vec_len items.new + 4 ≤ vec_capacity items.new }
+    ensures items { (below : List Item) (item : Item) → items.old.items ≡ below ++ item ∷ [] → items.new.items ≡ below ++ apart item }
+{
+    let Some(Item::Stating(call)) = items.last() else {
+        return;
+    };
+    let call = *call;
+    put_one(items, Item::Settle(call));
+    items.push_reserved(Item::Making(call));
 }
 
 /// What follows a call and its answer, in the place of the item that made the call.

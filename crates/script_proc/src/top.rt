@@ -1,16 +1,17 @@
-//! The last of a list of items.
+//! The last of a list of items, and what is next above them.
 
 ghost use Rattle.std.specs.Prelude.{◌≡◌, ◌≢◌, ◌+◌, ◌≤◌, [], ◌∷◌, ◌++◌, List, vec_len, vec_capacity, IsOk, OnOk, OnErr};
 ghost use Rattle.script_proc.specs.declared.item.Item.{Item};
-ghost use Rattle.script_proc.specs.Items.{few_items};
+ghost use Rattle.script_proc.specs.Items.{few_items, with_next, FitsNext};
 
-use crate::item::{Few, Item};
+use crate::item::{Few, Item, Next};
 use std::alloc::AllocError;
 
 /// Takes the last item away.
 pub fn drop_last(items: &mut Vec<Item>)
     requires { items.old.items ≢ [] }
-    ensures { (below : List Item) (item : Item) → items.old.items ≡ below ++ item ∷ [] → items.new.items ≡ below }
+    ensures room { (vec_len items.new + 1 ≡ vec_len items.old) × (vec_capacity items.new ≡ vec_capacity items.old) }
+    ensures items { (below : List Item) (item : Item) → items.old.items ≡ below ++ item ∷ [] → items.new.items ≡ below }
 {
     items.pop();
 }
@@ -25,24 +26,44 @@ pub fn put_one(items: &mut Vec<Item>, first: Item)
     items[last] = first;
 }
 
-/// Puts two items in the place of the last, the second on top, where there is room.
-pub fn put_two(items: &mut Vec<Item>, first: Item, second: Item)
-    requires room { vec_len items.old + 4 ≤ vec_capacity items.old }
-    requires some { items.old.items ≢ [] }
-    ensures { (below : List Item) (item : Item) → items.old.items ≡ below ++ item ∷ [] → items.new.items ≡ below ++ first ∷ second ∷ [] }
+/// Puts what is next above the items.
+fn put_back(items: &mut Vec<Item>, next: Next)
+    requires fits { FitsNext next (vec_len items.old) (vec_capacity items.old) }
+    ensures { items.new.items ≡ with_next items.old.items next }
 {
-    put_one(items, first);
-    let _ = items.extend_from_slice(&[second]);
+    match next {
+        Next::Top => {}
+        Next::Line(at) => items.push_reserved(Item::At(at)),
+        Next::Loop(at) => items.push_reserved(Item::Once(at)),
+    }
 }
 
-/// Puts three items in the place of the last, the third on top, where there is room.
-pub fn put_three(items: &mut Vec<Item>, first: Item, second: Item, third: Item)
-    requires room { vec_len items.old + 4 ≤ vec_capacity items.old }
-    requires some { items.old.items ≢ [] }
-    ensures { (below : List Item) (item : Item) → items.old.items ≡ below ++ item ∷ [] → items.new.items ≡ below ++ first ∷ second ∷ third ∷ [] }
+/// Takes room for five items more, or puts what is next above the items.
+pub fn take_room(items: &mut Vec<Item>, next: Next) -> Result<(), AllocError>
+    requires fits { FitsNext next (vec_len items.old) (vec_capacity items.old) }
+    ensures room { OnOk result (vec_len items.new + 5 ≤ vec_capacity items.new) }
+    ensures ok { OnOk result (items.new.items ≡ items.old.items) }
+    ensures err { OnErr result (items.new.items ≡ with_next items.old.items next) }
 {
-    put_one(items, first);
-    let _ = items.extend_from_slice(&[second, third]);
+    if items.capacity() - items.len() >= 5 {
+        return Ok(());
+    }
+    make_room(items, next)
+}
+
+/// The same where there is no such room yet.
+#[inline(never)]
+fn make_room(items: &mut Vec<Item>, next: Next) -> Result<(), AllocError>
+    requires fits { FitsNext next (vec_len items.old) (vec_capacity items.old) }
+    ensures room { OnOk result (vec_len items.new + 5 ≤ vec_capacity items.new) }
+    ensures ok { OnOk result (items.new.items ≡ items.old.items) }
+    ensures err { OnErr result (items.new.items ≡ with_next items.old.items next) }
+{
+    if items.reserve(5).is_err() {
+        put_back(items, next);
+        return Err(AllocError);
+    }
+    Ok(())
 }
 
 /// Puts a few items in the place of the last.

@@ -8,10 +8,11 @@ ghost use Rattle.script_proc.specs.declared.program.Program.{Program};
 ghost use Rattle.script_proc.specs.Programs.{IsProgramOf};
 ghost use Rattle.script_proc.specs.Items.{state_of, IsReady, KeepsAll};
 
-use crate::item::{Item, Mode};
-use crate::places::step;
+use crate::item::{Item, Mode, Next};
+use crate::places::{line_at, once, step};
 use crate::program::Program;
-use crate::replies::{asked, follow};
+use crate::replies::{asked, end_statement, ends_statement, follow, is_asking, separate};
+use crate::top::take_room;
 use script_tree::Variables;
 use std::alloc::{AllocError, Global};
 use user_model::{Answer, Call};
@@ -90,6 +91,17 @@ impl Worker {
         ensures thread { thread_of self.new ≡ thread_of self.old }
     {
         self.used += 1;
+        if ends_statement(&self.items, &call, &answer) {
+            end_statement(
+                &mut self.items,
+                &call,
+                &answer,
+                &mut self.variables,
+                &mut self.mode,
+            );
+            return;
+        }
+        separate(&mut self.items);
         follow(
             &mut self.items,
             &call,
@@ -111,16 +123,23 @@ fn settle(
 ) -> Result<Option<Call>, AllocError>
     ensures kept { (s : Tree) → IsProgramOf s program.now → KeepsAll s program.now used items.old.items (state_of variables.old mode.old) items.new.items (state_of variables.new mode.new) }
     ensures ready { IfOk result (IsReady items.new.items mode.new) }
-    ensures room { OnOk result (vec_len items.new + 4 ≤ vec_capacity items.new) }
+    ensures room { OnOk result (vec_len items.new + 5 ≤ vec_capacity items.new) }
 {
+    let mut next = Next::Top;
     'steps: loop {
-        items.reserve(4)?;
-        let Some(item) = items.last() else {
-            return Ok(None);
-        };
-        if let Some(call) = asked(item, mode) {
-            return Ok(Some(call));
+        take_room(items, next)?;
+        match next {
+            Next::Line(at) => next = line_at(program, items, at, variables, mode, used),
+            Next::Loop(at) => next = once(program, items, at, variables, used),
+            Next::Top => {
+                let Some(item) = items.last() else {
+                    return Ok(None);
+                };
+                if is_asking(item, mode) {
+                    return Ok(Some(asked(item, mode)));
+                }
+                next = step(program, items, variables, mode, used);
+            }
         }
-        step(program, items, variables, mode, used);
     }
 }

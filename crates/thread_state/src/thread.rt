@@ -1,6 +1,6 @@
 //! What is kept of one thread.
 
-ghost use Rattle.std.specs.Prelude.{◌≡◌, ◌<◌, ◌==◌, ◌+◌, ℕ, [], ◌∷◌, ◌++◌, All, Bool, List, true, filter, find, length, nat_lt, not, option_map, OnOk, OnErr};
+ghost use Rattle.std.specs.Prelude.{◌≡◌, ◌<◌, ◌≤◌, ◌==◌, ◌+◌, ℕ, [], ◌∷◌, ◌++◌, All, Bool, List, true, filter, find, length, nat_lt, not, option_map, OnOk, OnErr};
 ghost use Rattle.std.specs.List.{list_any};
 ghost use Rattle.post_queue.specs.Queue.{Posted, pair_of, post_of, queue, without_number};
 ghost use Rattle.win_num.specs.declared.message.Hwnd.{Hwnd};
@@ -89,14 +89,12 @@ impl ThreadState {
     pub fn first(&self, tree: &Tree, filter: Filter) -> Option<(u32, Msg)>
         ensures { result ≡ option_map pair_of (find (passes_in tree.now.live filter) self.now.queue.posted) }
     {
-        if misses(self.missed, filter) {
-            return None;
-        }
         first_uncounted::<Brand>(Blank::new(1), self, tree, filter)
     }
 
-    /// The same, in one step for each posted message that it reads: those up to the first that the filter lets pass, or all where it
-    /// lets none pass.
+    /// The same, in one step for each posted message that it reads: at most those up to the first that the filter lets pass, or all
+    /// where it lets none pass. None is read where the thread waits with a filter of the same range of numbers, and no posted message
+    /// has a number that it lets pass.
     pub fn first_counted<L: Ledger>(
         &self,
         tree: &Tree,
@@ -104,8 +102,11 @@ impl ThreadState {
         steps: &mut Steps<L>,
     ) -> Option<(u32, Msg)>
         ensures found { result ≡ option_map pair_of (find (passes_in tree.now.live filter) self.now.queue.posted) }
-        ensures reads { steps.new ≡ steps.old + reads (passes_in tree.now.live filter) self.now.queue.posted }
+        ensures reads { steps.new ≤ steps.old + reads (passes_in tree.now.live filter) self.now.queue.posted }
     {
+        if misses(self.missed, filter) {
+            return None;
+        }
         let pass = |msg: &Msg| -> bool
             ensures { result ≡ passes_here tree.entry.now.live filter msg.now }
         { passes(tree, filter, msg) };

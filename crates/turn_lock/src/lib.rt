@@ -11,8 +11,6 @@ mod journaled;
 mod lock;
 mod plays;
 mod seat;
-#[cfg(test)]
-mod tests;
 mod turn;
 mod view;
 

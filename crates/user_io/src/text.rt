@@ -16,9 +16,14 @@ pub fn put_text(out: &mut Vec<u8>, text: &[u8]) -> Result<(), AllocError>
 }
 
 /// Adds a number in decimal.
+#[tactic(auto, using(std::proofs::lemmas::Fmt::decimal_digit))]
 pub fn put_number(out: &mut Vec<u8>, number: u64) -> Result<(), AllocError>
     ensures { OnOk result (Adds out.old.items out.new.items (decimal number)) }
 {
+    if number < 10 {
+        out.push(b'0' + number as u8)?;
+        return Ok(());
+    }
     let mut buffer = Buffer::new();
     put_text(out, buffer.format(number).as_bytes())
 }
@@ -28,7 +33,7 @@ pub fn put_number(out: &mut Vec<u8>, number: u64) -> Result<(), AllocError>
 pub fn put_operand(out: &mut Vec<u8>, number: u64) -> Result<(), AllocError>
     ensures { OnOk result (Adds out.old.items out.new.items (operand number)) }
 {
-    put_text(out, b" ")?;
+    out.push(b' ')?;
     put_number(out, number)?;
     Ok(())
 }
@@ -39,7 +44,7 @@ pub fn put_signed(out: &mut Vec<u8>, number: i64) -> Result<(), AllocError>
     ensures { OnOk result (Adds out.old.items out.new.items (32 ∷ signed_decimal number)) }
 {
     let mut buffer = Buffer::new();
-    put_text(out, b" ")?;
+    out.push(b' ')?;
     put_text(out, buffer.format(number).as_bytes())?;
     Ok(())
 }

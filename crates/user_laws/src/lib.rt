@@ -43,6 +43,3 @@ pub use words::{
     each_of_is_added, ever_is_done, first_of_is_said_first, last_of_is_said_last,
     standing_is_added_for_good,
 };
-
-#[cfg(test)]
-mod tests;

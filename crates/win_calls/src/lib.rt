@@ -13,6 +13,3 @@ pub use compound::{Compound, Got, Next};
 pub use laws::{begins_as_its_statement, can_be_handed, one_next};
 pub use state::CompoundState;
 pub use turns::may_follow;
-
-#[cfg(test)]
-mod tests;

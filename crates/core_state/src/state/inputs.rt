@@ -11,6 +11,7 @@ ghost use Rattle.user_model.specs.Past.{is_full};
 ghost use Rattle.user_model.specs.Filters.{passes_window};
 ghost use Rattle.user_model.specs.Focus.{capture, foreground, if_of_group, value_of};
 ghost use Rattle.user_model.specs.Inputs.{Injection, home_of, injection, message_in, of_key, of_mouse, untaken};
+ghost use Rattle.user_model.specs.Deeds.{posting_of};
 ghost use Rattle.user_model.specs.Keys.{is_key_down, is_shift_down};
 ghost use Rattle.user_model.specs.Pixels.{origin, owner, point, screen};
 ghost use Rattle.user_model.specs.ReplyInput.{has_no_place, next_input_number};
@@ -23,7 +24,7 @@ use group_state::Slot;
 use input_queue::{Element, Inputs};
 use pending_state::Meant;
 use thread_state::passes_window;
-use user_model::Call;
+use user_model::{Call, Entry};
 use win_num::{Filter, Hwnd, Msg, Point, Thread};
 use window_state::{enabled_at, origin_of, thread_of};
 
@@ -48,8 +49,19 @@ impl CoreState {
         self.groups.is_key_down(Thread(thread), key)
     }
 
+    /// Whether Shift is down for the caller of an entry, as far as that decides on what the call posts: on the character of a key. No other
+    /// call asks for it.
+    pub(super) fn shift_for(&self, entry: Entry) -> bool
+        ensures { is_running self.now.setup self.now.past entry.who.0 ≡ true → posting_of result entry.call ≡ posting_of (is_shift_down self.now.past entry.who.0) entry.call }
+    {
+        match entry.call {
+            Call::Translate(..) => self.is_shift_down(entry.who.0),
+            _ => false,
+        }
+    }
+
     /// Whether Shift is down for the group of a thread that runs.
-    pub(super) fn is_shift_down(&self, thread: u8) -> bool
+    fn is_shift_down(&self, thread: u8) -> bool
         ensures { is_running self.now.setup self.now.past thread ≡ true → result ≡ is_shift_down self.now.past thread }
     {
         if !self.is_thread(thread) {

@@ -8,7 +8,7 @@ loop-text-preserved c =
     let found = rw c.in-Some.is at c.in_ok-line.ensures.found in
     let fits = rw c.in-Some.is at c.in_ok-line.ensures.fits in
     record {
-      so_far = lines_more (λ w. w.now) c.args.texts.now c.loop-text.text-index _ c.loop-text.lines.items c.push.new.self.items c.loop-text.known c.line_at.new.known c.in-Some.line c.in_ok-words.words.items c.deref.result.now _ c.loop-text-test.true c.deref.ensures.value c.in_ok-words.ensures found c.loop-text.invariant.so_far c.in_ok-push.ensures.items;
+      so_far = lines_more (λ w. w.now) c.args.texts.now c.loop-text.text-index _ c.loop-text.lines.items c.push.new.self.items c.loop-text.known c.line_at.new.known c.in-Some.line c.words_into.new.words.items c.deref.result.now _ c.loop-text-test.true c.deref.ensures.value c.in_ok-words_into.ensures found c.loop-text.invariant.so_far c.in_ok-push.ensures.items;
       kept = c.line_at.ensures.kept;
       fits = rw c.in_ok-push.ensures.items (all_push IsLine _ _ c.loop-text.invariant.fits fits);
     }
@@ -16,7 +16,7 @@ loop-text-preserved c =
 pub returns-in_default-clause-found : goal.returns-in_default-clause-found
 returns-in_default-clause-found c =
     let found = rw c.in_default.is at c.in_ok-line.ensures.found in
-    sym (lines_none (λ w. w.now) c.args.texts.now c.loop-text.text-index _ c.loop-text.lines.items c.loop-text.known c.in_ok-words.words.items c.deref.result.now _ c.loop-text-test.true c.deref.ensures.value c.in_ok-words.ensures found c.loop-text.invariant.so_far)
+    sym (lines_none (λ w. w.now) c.args.texts.now c.loop-text.text-index _ c.loop-text.lines.items c.loop-text.known c.words_into.new.words.items c.deref.result.now _ c.loop-text-test.true c.deref.ensures.value c.in_ok-words_into.ensures found c.loop-text.invariant.so_far)
 
 pub returns-clause-found : goal.returns-clause-found
 returns-clause-found c = sym (lines_over (λ w. w.now) c.args.texts.now c.loop-text.text-index c.loop-text.lines.items c.loop-text.known _ c.loop-text-test.false c.loop-text.invariant.so_far)

@@ -11,4 +11,4 @@ use Rattle.script_lines.proofs.line_writer.put_words.Goals as goal
 pub returns : goal.returns
 returns c =
     adds_along _ _ _ _ (ap (λ (l : List ℕ). l ++ (flat_map (λ p. blank_word (part_word (known_of c.args.script.now) p)) c.args.parts.now ++ 10 ∷ [])) c.command_word.ensures ∙ words_text (command_word c.args.command) (known_of c.args.script.now) c.args.parts.now)
-    (two c.in_ok-put_text.ensures (two c.in_ok-put_parts.ensures c.in_ok-put_text-2.ensures))
+    (two c.in_ok-put_text.ensures (two c.in_ok-put_parts.ensures (record { is = c.in_ok-push.ensures.items })))

@@ -6,8 +6,9 @@ use Rattle.script_proc.specs.declared.item.Item.TheVariants.{At, Once, PassEnd}
 use Rattle.script_proc.proofs.ItemLaws.{once_moves, no_loop_moves, same_line}
 use Rattle.script_proc.proofs.places.once.Goals as goal
 
-pub returns-in_default : goal.returns-in_default
-returns-in_default c below e =
+pub returns-in_default-clause-steps : goal.returns-in_default-clause-steps
+returns-in_default-clause-steps c =
+    let below = c.args.items.now.items in
     let p = c.args.program.now in
     let n = c.args.used in
     let v = c.args.variables.now in
@@ -17,13 +18,14 @@ returns-in_default c below e =
       below = below;
       item = Once at;
       few = [];
-      last = e;
-      put = c.drop_last.ensures below (Once at) e ∙ sym (append-nil below);
+      last = refl;
+      put = sym (append-nil below);
       moves = no_loop_moves p n at v (λ t k e. absurd (let g = sym found ∙ e in cc));
     }
 
-pub returns-in-While : goal.returns-in-While
-returns-in-While c below e =
+pub returns-in-While-clause-steps : goal.returns-in-While-clause-steps
+returns-in-While-clause-steps c =
+    let below = c.args.items.now.items in
     let p = c.args.program.now in
     let n = c.args.used in
     let v = c.args.variables.now in
@@ -37,13 +39,14 @@ returns-in-While c below e =
       below = below;
       item = Once at;
       few = few;
-      last = e;
-      put = c.while_at.ensures below (Once at) e;
+      last = refl;
+      put = c.while_at.ensures.items;
       moves = once_moves p n at c.in-While.test c.in-While.passed (2 ^ 64 - 1) next v found short refl;
     }
 
-pub returns-in_default-line : goal.returns-in_default-line
-returns-in_default-line c below e =
+pub returns-in_default-line-clause-steps : goal.returns-in_default-line-clause-steps
+returns-in_default-line-clause-steps c =
+    let below = c.args.items.now.items in
     let p = c.args.program.now in
     let n = c.args.used in
     let v = c.args.variables.now in
@@ -54,7 +57,7 @@ returns-in_default-line c below e =
       below = below;
       item = Once at;
       few = [];
-      last = e;
-      put = c.drop_last-in_default-line.ensures below (Once at) e ∙ sym (append-nil below);
+      last = refl;
+      put = sym (append-nil below);
       moves = no_loop_moves p n at v (λ t k e. c.in_default-line.not-While t k (same_line (sym found ∙ e)));
     }

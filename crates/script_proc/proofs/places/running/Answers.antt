@@ -10,6 +10,6 @@ returns c below n e =
       item = Running c.args.run;
       few = Restore c.args.variables.now.parameters ∷ Leaving c.args.run ∷ At c.procedure.result ∷ [];
       last = e;
-      put = c.put_three.ensures below (Running c.args.run) e;
+      put = c.set_last.ensures below (Running c.args.run) e;
       moves = running_moves c.args.program.now n c.args.run c.procedure.result c.args.variables.now c.procedure.ensures;
     }

@@ -34,7 +34,8 @@ returns-clause-reads g c =
     let within : c.from.result < length s.threads.items = omega (arith, known, c.requires.some, c.from.ensures, c.self.invariant.count) in
     let place : c.from.result + 1 ≡ t = omega (arith, c.requires.some, c.from.ensures) in
     let kept : c.index.result.now ≡ thread_at past t = c.index.ensures ∙ c.self.invariant.each.at c.from.result c.index.result.now within ∙ ap (thread_at past) place in
-    c.first_counted.ensures.reads
-    ∙ ap (λ (v : ThreadView). c.args.steps.now + reads (passes_in s.tree.live c.args.filter) v.queue.posted) kept
-    ∙ ap (λ n. c.args.steps.now + n) (reads_kept past s.tree.live t c.args.filter c.self.invariant.tree.windows)
-    ∙ ap (λ (v : Seen). c.args.steps.now + reads (passes v.past c.args.filter) (posted v.past t)) c.self.view_is
+    let most : reads (passes_in s.tree.live c.args.filter) c.index.result.now.queue.posted ≡ reads (passes c.args.self.now.past c.args.filter) (posted c.args.self.now.past t) =
+    ap (λ (v : ThreadView). reads (passes_in s.tree.live c.args.filter) v.queue.posted) kept
+    ∙ reads_kept past s.tree.live t c.args.filter c.self.invariant.tree.windows
+    ∙ ap (λ (v : Seen). reads (passes v.past c.args.filter) (posted v.past t)) c.self.view_is in
+    subst (λ n. c.first_counted.new.steps ≤ c.args.steps.now + n) most c.first_counted.ensures.reads

@@ -1,0 +1,46 @@
+use Rattle.std.proofs.Common.{rules, ◌≡◌, false, ◌∷◌, [], ◌++◌, reverse, length, refl, sym, ap, ◌∙◌, subst}
+use Rattle.std.proofs.lemmas.List.{length-reverse}
+use Rattle.user_model.specs.Past.{Past, is_full, place_after}
+use Rattle.user_model.specs.Keys.{is_shift_down}
+use Rattle.user_model.specs.Idle.{reply}
+use Rattle.user_model.proofs.ClockLaws.{past_more}
+use Rattle.look_state.specs.Looks.{AreLooksAt, seen_of}
+use Rattle.look_state.proofs.LookSteps.{looks_step}
+use Rattle.screen_state.specs.Screens.{Kept as Screen}
+use Rattle.core_state.specs.States.{Parts, Seen, Stands, parts}
+use Rattle.core_state.proofs.Appended.{settling_fits}
+use Rattle.core_state.proofs.QuietEntries.{come, quiet_moment, quiet_step, read_added, read_calm, read_counts, read_fits, read_idle}
+use Rattle.core_state.proofs.state.CoreState.append_read.Goals as goal
+
+pub take_post-requires-clause-fits : goal.take_post-requires-clause-fits
+take_post-requires-clause-fits c =
+    let e = c.args.entry in
+    let s = c.self.inside in
+    let past : Past = reverse s.history.items in
+    let kept : Parts = parts s.tree s.order s.display s.classes s.threads.items s.timers s.groups s.inputs s.progress s.sends s.tally s.stories.items s.looks s.dialogs in
+    let right : e.answer ≡ reply s.setup past e.who.0 e.call = subst (λ (v : Seen). e.answer ≡ reply v.setup v.past e.who.0 e.call) (sym c.self.view_is) c.requires.answer in
+    let calm = read_calm e.answer e.call c.requires.reads in
+    read_fits s.classes s.tree s.threads.items e.who.0 e.answer e.call (settling_fits s.setup past kept e s.classes s.tree s.threads.items c.self.invariant right (calm.classes e.call s.classes) (calm.tree e.who.0 e.call s.tree) refl)
+
+pub invariant_of-self-2 : goal.invariant_of-self-2
+invariant_of-self-2 c =
+    let e = c.args.entry in
+    let s = c.self.inside in
+    let past : Past = reverse s.history.items in
+    let kept : Parts = parts s.tree s.order s.display s.classes s.threads.items s.timers s.groups s.inputs s.progress s.sends s.tally s.stories.items s.looks s.dialogs in
+    let st = c.self.invariant in
+    let reads = c.requires.reads in
+    let calm = read_calm e.answer e.call reads in
+    let idle = read_idle e.answer e.call reads in
+    let went = ap (λ n. come n s.progress.inputs s.progress.time s.progress.cursor) (read_counts e.answer e.call s.progress.posts reads) in
+    let room : is_full past ≡ false = subst (λ (v : Seen). is_full v.past ≡ false) (sym c.self.view_is) c.requires.room in
+    let right : e.answer ≡ reply s.setup past e.who.0 e.call = subst (λ (v : Seen). e.answer ≡ reply v.setup v.past e.who.0 e.call) (sym c.self.view_is) c.requires.answer in
+    let pushed : c.push.new.self.items ≡ s.history.items ++ e ∷ [] = search rules in
+    let newest : e ∷ past ≡ reverse c.push.new.self.items = sym (ap reverse pushed ∙ past_more s.history.items e) in
+    let long : c.len-place.result ≡ length s.history.items = search rules in
+    let here : c.len-place.result ≡ place_after past = long ∙ sym (length-reverse s.history.items) in
+    let first = read_added s.tree.live s.progress.time s.progress.cursor (is_shift_down past e.who.0) e.who.0 e.answer e.call s.threads.items reads in
+    let after = quiet_moment s.setup past kept e calm idle room right st c.len-place.result c.begun.result c.moment-after.result s.progress went here c.begun.ensures c.moment-after.ensures in
+    let looked : AreLooksAt s.setup (e ∷ past) c.follow.new.self = looks_step s.setup past e s.tree s.order s.display.screen c.moment-after.result c.in_ok-seen.seen.items s.looks c.follow.new.self (st.lawful, right) st.tree st.order st.display.screen st.looks after (λ is. c.in_ok-seen.ensures is ∙ ap (seen_of s.tree.live e.who.0) (c.dirty.ensures.value ∙ ap (λ (k : Screen). k.dirty) c.screen.ensures)) c.follow.ensures in
+    let now = quiet_step s.setup past kept e calm idle room right st s.threads.items c.take_post.new.threads.items c.note_wait.new.threads.items s.progress c.follow.new.self first (c.take_post.ensures s.tree.live) c.note_wait.ensures went looked in
+    subst (λ (h : Past). Stands s.setup h (parts s.tree s.order s.display s.classes c.note_wait.new.threads.items s.timers s.groups s.inputs s.progress s.sends s.tally s.stories.items c.follow.new.self s.dialogs)) newest now

@@ -1,0 +1,5 @@
+//! Worked examples of what laws tell of a machine.
+#![tactic(auto)]
+
+#[cfg(test)]
+mod sends;

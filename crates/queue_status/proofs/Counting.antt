@@ -1,0 +1,120 @@
+-- What a holder of counts relies on: the count of a list follows what comes and goes, and tells whether there is one.
+use Rattle.std.proofs.Common.{◌≡◌, ◌∙◌, ℕ, zero, suc, ◌+◌, ◌-◌, ◌≤◌, Bool, true, false, cond, List, [], ◌∷◌, ◌++◌, length, length-append, zero-add, refl, sym, ap, arith}
+use Rattle.std.specs.Prelude.{◌||◌, filter, nat_lt, not}
+use Rattle.std.specs.List.{AllByRecursion, count_by, list_any}
+use Rattle.std.proofs.lemmas.Bool.Decides.{nat_tests}
+use Rattle.std.proofs.lemmas.List.Sums.{count_by-le-length, sum_by-append}
+use Rattle.win_num.specs.declared.names.TheConstants.{QS_POSTMESSAGE, QS_SENDMESSAGE}
+use Rattle.queue_status.specs.declared.count.Count.{Count}
+use Rattle.queue_status.specs.Counting.{both, counted}
+use Rattle.queue_status.specs.Counts.{MayGo, bit_where, bits_where, is_fresh, is_there, no_counts, none_fresh, none_there, one_less, one_more}
+
+-- ---- counts of lists
+
+abbrev one : Bool → ℕ
+one b = cond b 1 0
+
+count_joined : {A : Type 0} (p : A → Bool) (us vs : List A) → count_by p (us ++ vs) ≡ count_by p us + count_by p vs
+count_joined p us vs = sum_by-append (λ x. one (p x)) us vs
+
+count_first : {A : Type 0} (p : A → Bool) (x : A) (xs : List A) → count_by p (x ∷ xs) ≡ one (p x) + count_by p xs
+count_first p x xs = count_joined p (x ∷ []) xs ∙ ap (λ n. n + count_by p xs) (zero-add (one (p x)))
+
+same_count : (m m' n n' : ℕ) → m ≡ m' → n ≡ n' → (let c : Count = record { there = m; fresh = n } in c) ≡ record { there = m'; fresh = n' }
+same_count m m' n n' e f = ap (λ k. let c : Count = record { there = k; fresh = n } in c) e ∙ ap (λ k. let c : Count = record { there = m'; fresh = k } in c) f
+
+-- ---- whether there is one
+
+above : (n : ℕ) → nat_lt 0 (suc n) ≡ true
+above n = grind (arith, nat_tests)
+
+or_above : (m n : ℕ) → nat_lt 0 (m + n) ≡ (nat_lt 0 m || nat_lt 0 n)
+or_above zero n = ap (nat_lt 0) (zero-add n)
+or_above (suc m) n = let some : nat_lt 0 (suc m + n) ≡ true = grind (arith, nat_tests) in some ∙ sym (ap (λ b. b || nat_lt 0 n) (above m))
+
+one_or : (b : Bool) (n : ℕ) (c : Bool) → nat_lt 0 n ≡ c → nat_lt 0 (one b + n) ≡ (b || c)
+one_or true n c e = or_above 1 n
+one_or false n c e = or_above 0 n ∙ e
+
+-- one of a list is there exactly where the list has one
+pub there_told : {A : Type 0} (is_new : A → Bool) (xs : List A) → is_there (counted is_new xs) ≡ list_any (λ x. true) xs
+there_told is_new [] = refl
+there_told is_new (x ∷ xs) = above (length xs)
+
+-- one of them is fresh exactly where one came since the look
+pub fresh_told : {A : Type 0} (is_new : A → Bool) (xs : List A) → is_fresh (counted is_new xs) ≡ list_any is_new xs
+fresh_told is_new [] = refl
+fresh_told is_new (x ∷ xs) = ap (nat_lt 0) (count_first is_new x xs) ∙ one_or (is_new x) (count_by is_new xs) (list_any is_new xs) (fresh_told is_new xs)
+
+pub both_there : (a b : Count) → is_there (both a b) ≡ (is_there a || is_there b)
+both_there a b = or_above a.there b.there
+
+pub both_fresh : (a b : Count) → is_fresh (both a b) ≡ (is_fresh a || is_fresh b)
+both_fresh a b = or_above a.fresh b.fresh
+
+-- ---- what comes and goes
+
+-- one that came since the look comes last
+pub comes : {A : Type 0} (is_new : A → Bool) (xs : List A) (x : A) → is_new x ≡ true → counted is_new (xs ++ x ∷ []) ≡ one_more (counted is_new xs)
+comes is_new xs x e =
+    let m : length (xs ++ x ∷ []) ≡ length xs + 1 = length-append xs (x ∷ []) in
+    let n : count_by is_new (xs ++ x ∷ []) ≡ count_by is_new xs + 1 = count_joined is_new xs (x ∷ []) ∙ ap (λ b. count_by is_new xs + (0 + one b)) e in
+    same_count (length (xs ++ x ∷ [])) (length xs + 1) (count_by is_new (xs ++ x ∷ [])) (count_by is_new xs + 1) m n
+
+less_by : (b : Bool) (m k n l : ℕ) → m ≡ k + 1 → n ≡ one b + l → one_less b (record { there = m; fresh = n }) ≡ record { there = k; fresh = l }
+less_by true m k n l e f = same_count (m - 1) k (n - 1) l (omega (arith, e)) (omega (arith, f))
+less_by false m k n l e f = same_count (m - 1) k n l (omega (arith, e)) (f ∙ zero-add l)
+
+may_by : (b : Bool) (m k n l : ℕ) → m ≡ k + 1 → n ≡ one b + l → l ≤ k → MayGo b (record { there = m; fresh = n })
+may_by true m k n l e f h = omega (arith, f)
+may_by false m k n l e f h = omega (arith, e, f, h)
+
+more_by_one : {A : Type 0} (us vs : List A) (x : A) → length (us ++ x ∷ vs) ≡ length (us ++ vs) + 1
+more_by_one us vs x = omega (arith, length-append us (x ∷ vs), length-append us vs)
+
+fresh_by_one : {A : Type 0} (p : A → Bool) (us vs : List A) (x : A) → count_by p (us ++ x ∷ vs) ≡ one (p x) + count_by p (us ++ vs)
+fresh_by_one p us vs x = omega (arith, count_joined p us (x ∷ vs), count_first p x vs, count_joined p us vs)
+
+-- one goes from its place
+pub goes : {A : Type 0} (is_new : A → Bool) (us vs : List A) (x : A) → one_less (is_new x) (counted is_new (us ++ x ∷ vs)) ≡ counted is_new (us ++ vs)
+goes is_new us vs x = less_by (is_new x) (length (us ++ x ∷ vs)) (length (us ++ vs)) (count_by is_new (us ++ x ∷ vs)) (count_by is_new (us ++ vs)) (more_by_one us vs x) (fresh_by_one is_new us vs x)
+
+fewer : {A : Type 0} (p : A → Bool) (xs : List A) → count_by p xs ≤ length xs
+fewer p xs = count_by-le-length p xs
+
+-- one that is in the list may go
+pub may_go : {A : Type 0} (is_new : A → Bool) (us vs : List A) (x : A) → MayGo (is_new x) (counted is_new (us ++ x ∷ vs))
+may_go is_new us vs x = may_by (is_new x) (length (us ++ x ∷ vs)) (length (us ++ vs)) (count_by is_new (us ++ x ∷ vs)) (count_by is_new (us ++ vs)) (more_by_one us vs x) (fresh_by_one is_new us vs x) (fewer is_new (us ++ vs))
+
+parted_lengths : {A : Type 0} (leaves : A → Bool) (xs : List A) → length xs ≡ length (filter (λ x. not (leaves x)) xs) + length (filter leaves xs)
+parted_lengths leaves [] = refl
+parted_lengths {A = A} leaves (x ∷ xs) = pick (leaves x) (filter (λ x. not (leaves x)) xs) (filter leaves xs) (parted_lengths leaves xs)
+  where
+    pick : (b : Bool) (us vs : List A) → length xs ≡ length us + length vs → suc (length xs) ≡ length (cond (not b) (x ∷ us) us) + length (cond b (x ∷ vs) vs)
+    pick true us vs h = omega (arith, h)
+    pick false us vs h = omega (arith, h)
+
+parted_news : {A : Type 0} (p leaves : A → Bool) (xs : List A) → count_by p xs ≡ count_by p (filter (λ x. not (leaves x)) xs) + count_by p (filter leaves xs)
+parted_news p leaves [] = refl
+parted_news {A = A} p leaves (x ∷ xs) = pick (leaves x) (filter (λ x. not (leaves x)) xs) (filter leaves xs) (parted_news p leaves xs)
+  where
+    pick : (b : Bool) (us vs : List A) → count_by p xs ≡ count_by p us + count_by p vs → count_by p (x ∷ xs) ≡ count_by p (cond (not b) (x ∷ us) us) + count_by p (cond b (x ∷ vs) vs)
+    pick true us vs h = omega (arith, h, count_first p x xs, count_first p x vs)
+    pick false us vs h = omega (arith, h, count_first p x xs, count_first p x us)
+
+-- several go at once: the count of the list is that of those that stay and that of those that go
+pub parted : {A : Type 0} (is_new leaves : A → Bool) (xs : List A) → counted is_new xs ≡ both (counted is_new (filter (λ x. not (leaves x)) xs)) (counted is_new (filter leaves xs))
+parted is_new leaves xs = same_count (length xs) (length (filter (λ x. not (leaves x)) xs) + length (filter leaves xs)) (count_by is_new xs) (count_by is_new (filter (λ x. not (leaves x)) xs) + count_by is_new (filter leaves xs)) (parted_lengths leaves xs) (parted_news is_new leaves xs)
+
+none_new : {A : Type 0} (p : A → Bool) (xs : List A) → AllByRecursion (λ x. p x ≡ false) xs → count_by p xs ≡ 0
+none_new p [] h = refl
+none_new p (x ∷ xs) h = count_first p x xs ∙ ap (λ b. one b + count_by p xs) h.0 ∙ zero-add (count_by p xs) ∙ none_new p xs h.1
+
+-- at a look none of them came since
+pub looks : {A : Type 0} (is_new was_new : A → Bool) (xs : List A) → AllByRecursion (λ x. is_new x ≡ false) xs → counted is_new xs ≡ none_fresh (counted was_new xs)
+looks is_new was_new xs h = same_count (length xs) (length xs) (count_by is_new xs) 0 refl (none_new is_new xs h)
+
+-- ---- the bits of two kinds
+
+pub two_bits : (test : Count → Bool) (a b : Count) → test none_there ≡ false → bits_where test (record no_counts { posted = a; sent = b }) ≡ bit_where (test a) QS_POSTMESSAGE + bit_where (test b) QS_SENDMESSAGE
+two_bits test a b none = rw none (omega arith)
