@@ -28,6 +28,7 @@ pub struct Counter {
 }
 
 impl Counter {
+    /// A counter without entries, which is full at so many. It takes no memory.
     pub fn new(alloc: Global, limit: u64) -> Counter
         ensures { (result.limit ≡ limit) × (result.journal.items ≡ []) }
     {

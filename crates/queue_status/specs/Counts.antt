@@ -25,9 +25,11 @@ abbrev pub MayGo : Bool → Count → Type 0
 MayGo true c = 0 < c.fresh
 MayGo false c = c.fresh < c.there
 
+-- whether one is there
 abbrev pub is_there : Count → Bool
 is_there c = nat_lt 0 c.there
 
+-- whether one came since the last look
 abbrev pub is_fresh : Count → Bool
 is_fresh c = nat_lt 0 c.fresh
 
