@@ -43,8 +43,12 @@ fn tell_turns(
 ) -> anyhow::Result<()> {
     let mut worker = Worker::new(alloc, program, 1)?;
     let machine = User::new(alloc, Setup::new(2, 8, 4))?;
-    let machine = Wanting { machine, left };
-    tell_three(rt, program, &mut worker, &mut Alone { machine })
+    let mut teller = Alone {
+        machine: Wanting { machine, left },
+    };
+    let told = tell_three(rt, program, &mut worker, &mut teller);
+    drop(teller);
+    told
 }
 
 /// Turns of the first thread of a script, with memory and where it is wanted once.

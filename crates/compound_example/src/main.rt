@@ -80,5 +80,7 @@ fn run_all(rt: &impl Print, machine: &mut User) -> anyhow::Result<()> {
 
 fn main(rt: HostRuntime) -> anyhow::Result<()> {
     let mut machine = User::new(rt.alloc(), Setup::new(1, 8, 4))?;
-    run_all(&rt, &mut machine)
+    let told = run_all(&rt, &mut machine);
+    drop(machine);
+    told
 }

@@ -1,6 +1,6 @@
 //! What posts and retrievals answer.
 
-ghost use Rattle.std.specs.Prelude.{◌≡◌, ◌<◌, ◌≤◌, ◌+◌, false};
+ghost use Rattle.std.specs.Prelude.{◌≡◌, ◌<◌, ◌≤◌, ◌+◌, IfSome, false};
 ghost use Rattle.core_deliver.specs.Reads.{reads_for};
 ghost use Rattle.user_model.specs.Past.{is_full};
 ghost use Rattle.user_model.specs.Filters.{is_no_filter_window};
@@ -62,7 +62,7 @@ fn next<L: Ledger>(
     next_timer(state, who, filter)
 }
 
-/// The first posted message that passes, in one step for each that is read.
+/// The first posted message that passes, in one step for each that is read: those up to it, and where none passes at most all.
 fn next_posted<L: Ledger>(
     state: &CoreState,
     who: u8,
@@ -72,7 +72,8 @@ fn next_posted<L: Ledger>(
     requires some { 0 < who }
     requires known { who ≤ state.now.setup.threads }
     ensures answer { result ≡ next_posted state.now.past who filter }
-    ensures reads { steps.new ≤ steps.old + reads_for state.now.past who filter }
+    ensures reads { IfSome result (λ answer. steps.new ≡ steps.old + reads_for state.now.past who filter) }
+    ensures most { steps.new ≤ steps.old + reads_for state.now.past who filter }
 {
     match state.first_post_counted(who, filter, steps) {
         Some((number, msg)) => Some(Answer::Got {

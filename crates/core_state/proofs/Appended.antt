@@ -22,7 +22,7 @@ use Rattle.user_model.specs.Legal.{IsLawful}
 use Rattle.user_model.specs.Threads.{is_running}
 use Rattle.user_model.proofs.DeliveryReplies.{post_told}
 use Rattle.user_model.proofs.ReplyLaws.{by_row}
-use Rattle.thread_queues.specs.Changes.{Change, changed, noted, count_kept, time_kept}
+use Rattle.thread_queues.specs.Changes.{Change, changed, marked, noted, count_kept, time_kept}
 use Rattle.thread_queues.specs.Deliveries.{adding_in, change_of_post, effect_in, posting_in}
 use Rattle.window_state.specs.Effects.{IsAddedBy, IsAffected, added_classes, affected_classes}
 use Rattle.window_state.specs.Needs.{FitsLooking, FitsNaming, FitsUnmaking}
@@ -33,7 +33,7 @@ use Rattle.window_state.proofs.OrderSteps.{order_after}
 use Rattle.core_state.specs.Needs.{FitsCarrying, FitsAdding, FitsEffect}
 use Rattle.thread_state.specs.Threads.{ThreadView, thread_at}
 use Rattle.send_state.specs.Parts.{SendParts}
-use Rattle.send_state.specs.Standing.{PartsStand}
+use Rattle.send_state.specs.Standing.{MarksStand, PartsStand}
 use Rattle.send_state.specs.Stories.{EachStory, noted_answer, with_begun}
 use Rattle.send_state.specs.Tallies.{FitsTally, first_cause, named_send, tallied}
 use Rattle.user_model.specs.declared.story.SendStory.{SendStory}
@@ -145,11 +145,14 @@ same_adding setup past ws time point shift who (answers.Posted k) call down righ
 same_adding setup past ws time point shift who _ call down right = refl
 
 -- what is kept of a thread follows the past
-thread_step : (setup : Setup) (past : Past) (p : Parts) (shift : Bool) (e : Entry) (tree : Windows) (t : ℕ) → Stands setup past p → (is_running setup past e.who.0 ≡ true → posting_of shift e.call ≡ posting_of (is_shift_down past e.who.0) e.call) → e.answer ≡ reply setup past e.who.0 e.call → IsAddedBy e.who.0 e.answer e.call p.tree tree
-    → noted t e (changed t (effect_in tree.live e.who.0 e.answer e.call) (changed t (adding_in p.tree.live p.time p.cursor shift e.who.0 e.answer e.call) (thread_at past t))) ≡ thread_at (e ∷ past) t
-thread_step setup past p shift e tree t st down right made =
+thread_step : (setup : Setup) (past : Past) (p : Parts) (shift : Bool) (e : Entry) (tree : Windows) (t count : ℕ) → Stands setup past p → (is_running setup past e.who.0 ≡ true → posting_of shift e.call ≡ posting_of (is_shift_down past e.who.0) e.call) → e.answer ≡ reply setup past e.who.0 e.call → IsAddedBy e.who.0 e.answer e.call p.tree tree → count ≡ length (posts (e ∷ past))
+    → marked t e count (noted t e (changed t (effect_in tree.live e.who.0 e.answer e.call) (changed t (adding_in p.tree.live p.time p.cursor shift e.who.0 e.answer e.call) (thread_at past t)))) ≡ thread_at (e ∷ past) t
+thread_step setup past p shift e tree t count st down right made counted =
+    ap (λ n. marked t e n (noted t e (changed t (effect_in tree.live e.who.0 e.answer e.call) (changed t (adding_in p.tree.live p.time p.cursor shift e.who.0 e.answer e.call) (thread_at past t))))) counted
+    ∙ ap (marked t e (length (posts (e ∷ past)))) (
     ap (λ (c : Change). noted t e (changed t c (changed t (adding_in p.tree.live p.time p.cursor shift e.who.0 e.answer e.call) (thread_at past t)))) (same_settling e.who.0 e.answer e.call p.tree tree made)
     ∙ ap (noted t e) (both_changes past p.tree.live p.time p.cursor shift t e.who.0 e.answer e.call (thread_at past t) st.tree.windows st.clock st.cursor (same_adding setup past p.tree.live p.time p.cursor shift e.who.0 e.answer e.call down right))
+    )
     ∙ thread-next setup past t e st.lawful right
 
 -- the untaken input follows it too
@@ -216,40 +219,38 @@ pub moment_step : (setup : Setup) (past : Past) (p : Parts) (e : Entry) (progres
     → PartsStand setup (e ∷ past) sends2 → place ≡ place_after past → begun ≡ sends2.book.begun → m ≡ moment_of (place + 1) begun progress → m ≡ moment_at (e ∷ past)
 moment_step setup past p e progress sends2 place begun m st right went sends here counted is =
     let entries : place + 1 ≡ length (e ∷ past) = omega (arith, here) in
-    let posted : progress.posts ≡ length (posts (e ∷ past)) = ap (λ (q : Progress). q.posts) went ∙ ap (count_kept e.answer) st.posts ∙ count_kept-next setup past e right in
     let injected : progress.inputs ≡ length (inputs (e ∷ past)) = ap (λ (q : Progress). q.inputs) went ∙ ap (counted_with e.answer) st.injected ∙ counted_with-next setup past e right in
     let time : progress.time ≡ clock (e ∷ past) = ap (λ (q : Progress). q.time) went ∙ ap (time_kept e) st.clock ∙ time_kept-next e past in
     let sent : begun ≡ length (sends_of (e ∷ past)) = counted ∙ sends.book.begun in
     is
-    ∙ ap (λ n. made n progress.posts progress.inputs begun progress.time) entries
-    ∙ ap (λ n. made (length (e ∷ past)) n progress.inputs begun progress.time) posted
-    ∙ ap (λ n. made (length (e ∷ past)) (length (posts (e ∷ past))) n begun progress.time) injected
-    ∙ ap (λ n. made (length (e ∷ past)) (length (posts (e ∷ past))) (length (inputs (e ∷ past))) n progress.time) sent
-    ∙ ap (λ n. made (length (e ∷ past)) (length (posts (e ∷ past))) (length (inputs (e ∷ past))) (length (sends_of (e ∷ past))) n) time
+    ∙ ap (λ n. made n progress.inputs begun progress.time) entries
+    ∙ ap (λ n. made (length (e ∷ past)) n begun progress.time) injected
+    ∙ ap (λ n. made (length (e ∷ past)) (length (inputs (e ∷ past))) n progress.time) sent
+    ∙ ap (λ n. made (length (e ∷ past)) (length (inputs (e ∷ past))) (length (sends_of (e ∷ past))) n) time
   where
-    made : ℕ → ℕ → ℕ → ℕ → ℕ → Moment
-    made entries posts inputs sends time = record { entries = entries; posts = posts; inputs = inputs; sends = sends; time = time }
+    made : ℕ → ℕ → ℕ → ℕ → Moment
+    made entries inputs sends time = record { entries = entries; inputs = inputs; sends = sends; time = time }
 
 -- the parts that were brought up to date stand for the past with the entry
-pub stands_step : (setup : Setup) (past : Past) (p : Parts) (shift : Bool) (meant : Meant) (e : Entry) (classes1 classes2 : ClassTable) (tree1 tree2 : Windows) (order1 order2 : Layers) (display2 : Shown) (threads1 threads2 threads3 : List ThreadView) (timers2 : List Setting) (groups2 : Kept) (inputs1 inputs2 : List KeptElement) (progress : Progress) (sends1 sends2 : SendParts) (first : Option Cause) (lost : ℕ) (tally : Tally) (stories1 stories2 stories3 : List SendStory) (looks2 : List LookView) (dialogs2 : List (ℕ × Dialog)) (place : ℕ)
+pub stands_step : (setup : Setup) (past : Past) (p : Parts) (shift : Bool) (meant : Meant) (e : Entry) (classes1 classes2 : ClassTable) (tree1 tree2 : Windows) (order1 order2 : Layers) (display2 : Shown) (threads1 threads2 threads3 threads4 : List ThreadView) (timers2 : List Setting) (groups2 : Kept) (inputs1 inputs2 : List KeptElement) (progress : Progress) (sends1 sends2 : SendParts) (first : Option Cause) (lost : ℕ) (tally : Tally) (stories1 stories2 stories3 : List SendStory) (looks2 : List LookView) (dialogs2 : List (ℕ × Dialog)) (place : ℕ)
     → is_full past ≡ false → e.answer ≡ reply setup past e.who.0 e.call → Stands setup past p → (is_running setup past e.who.0 ≡ true → posting_of shift e.call ≡ posting_of (is_shift_down past e.who.0) e.call) → IsMeantBy setup past e.call meant
     → classes1 ≡ added_classes e.answer e.call p.classes → classes2 ≡ affected_classes e.answer e.call classes1
     → IsAddedBy e.who.0 e.answer e.call p.tree tree1 → IsAffected e.who.0 e.answer e.call tree1 tree2
     → IsOrderAdded e.answer e.call p.tree tree1 p.order order1 → order2 ≡ affected_order e.answer e.call tree2 order1 → IsDisplayAt setup (e ∷ past) display2
     → EachBy (λ t. changed t (adding_in p.tree.live p.time p.cursor shift e.who.0 e.answer e.call)) p.threads threads1
     → EachBy (λ t. changed t (effect_in tree1.live e.who.0 e.answer e.call)) threads1 threads2
-    → EachBy (λ t. noted t e) threads2 threads3
+    → EachBy (λ t. noted t e) threads2 threads3 → EachBy (λ t. marked t e progress.posts) threads3 threads4
     → timers2 ≡ timers_at (e ∷ past)
     → IsGroupsAt setup (e ∷ past) groups2
     → inputs1 ≡ added_by meant e.answer e.call p.inputs → inputs2 ≡ left_by e.who e.answer e.call inputs1
     → progress ≡ record { posts = count_kept e.answer p.post_count; inputs = counted_with e.answer p.input_count; time = time_kept e p.time; cursor = cursor_with e.answer e.call p.cursor }
-    → sends1 ≡ added_sends p.tree.live p.time place e.who e.answer e.call p.sends → sends2 ≡ affected_sends tree1.live place e.who.0 e.answer e.call sends1 → place ≡ place_after past
+    → sends1 ≡ added_sends p.tree.live p.time place e.who e.answer e.call p.sends → PartsStand setup (e ∷ past) sends2 → MarksStand setup (e ∷ past) sends2.marks → place ≡ place_after past
     → first ≡ first_cause p.sends e.who.0 e.answer e.call → lost ≡ losses_by tree1.live place e.who.0 e.answer e.call sends1 → tally ≡ tallied e.answer first lost p.tally
     → stories1 ≡ with_begun e.answer p.stories → EachStory (noted_losses tree1.live place e.who.0 e.answer e.call sends1) stories1 stories2 → EachStory (noted_answer e.answer (named_send p.sends e.who.0 e.answer e.call) place) stories2 stories3
     → AreLooksAt setup (e ∷ past) looks2
     → Follows e.answer e.call p.dialogs dialogs2
-    → Stands setup (e ∷ past) (parts tree2 order2 display2 classes2 threads3 timers2 groups2 inputs2 progress sends2 tally stories3 looks2 dialogs2)
-stands_step setup past p shift meant e classes1 classes2 tree1 tree2 order1 order2 display2 threads1 threads2 threads3 timers2 groups2 inputs1 inputs2 progress sends1 sends2 cause lost tally stories1 stories2 stories3 looks2 dialogs2 place room right st down m grown settled made given ranked left_order seen first second note timed grouped put taken went begun left here named counted noted_tally story_more story_losses story_answers looked turned = record {
+    → Stands setup (e ∷ past) (parts tree2 order2 display2 classes2 threads4 timers2 groups2 inputs2 progress sends2 tally stories3 looks2 dialogs2)
+stands_step setup past p shift meant e classes1 classes2 tree1 tree2 order1 order2 display2 threads1 threads2 threads3 threads4 timers2 groups2 inputs1 inputs2 progress sends1 sends2 cause lost tally stories1 stories2 stories3 looks2 dialogs2 place room right st down m grown settled made given ranked left_order seen first second note mark timed grouped put taken went begun stay stood here named counted noted_tally story_more story_losses story_answers looked turned = record {
   ready = st.ready;
   lawful = (st.lawful, right);
   short = grind (arith, nat_tests, room);
@@ -257,15 +258,16 @@ stands_step setup past p shift meant e classes1 classes2 tree1 tree2 order1 orde
   order = order_after setup past e p.tree tree1 tree2 p.order order1 order2 st.lawful st.tree (tree_after setup past e p.tree tree1 tree2 st.lawful st.tree right made given) st.order right made ranked left_order;
   display = seen;
   classes = settled ∙ ap (affected_classes e.answer e.call) (grown ∙ ap (added_classes e.answer e.call) st.classes) ∙ sym (classes_after setup past e right);
-  count = note.same_length ∙ second.same_length ∙ first.same_length ∙ st.count;
+  count = mark.same_length ∙ note.same_length ∙ second.same_length ∙ first.same_length ∙ st.count;
   each = record {
     at = λ i d lt.
-        let lt2 : i < length threads2 = omega (arith, lt, note.same_length) in
+        let lt3 : i < length threads3 = omega (arith, lt, mark.same_length) in
+        let lt2 : i < length threads2 = omega (arith, lt3, note.same_length) in
         let lt1 : i < length threads1 = omega (arith, lt2, second.same_length) in
         let lt0 : i < length p.threads = omega (arith, lt1, first.same_length) in
-        note.at i d lt2
-        ∙ ap (noted (i + 1) e) (second.at i d lt1 ∙ ap (changed (i + 1) (effect_in tree1.live e.who.0 e.answer e.call)) (first.at i d lt0 ∙ ap (changed (i + 1) (adding_in p.tree.live p.time p.cursor shift e.who.0 e.answer e.call)) (st.each.at i d lt0)))
-        ∙ thread_step setup past p shift e tree1 (i + 1) st down right made;
+        mark.at i d lt3
+        ∙ ap (marked (i + 1) e progress.posts) (note.at i d lt2 ∙ ap (noted (i + 1) e) (second.at i d lt1 ∙ ap (changed (i + 1) (effect_in tree1.live e.who.0 e.answer e.call)) (first.at i d lt0 ∙ ap (changed (i + 1) (adding_in p.tree.live p.time p.cursor shift e.who.0 e.answer e.call)) (st.each.at i d lt0))))
+        ∙ thread_step setup past p shift e tree1 (i + 1) progress.posts st down right made (ap (λ (q : Progress). q.posts) went ∙ ap (count_kept e.answer) st.posts ∙ count_kept-next setup past e right);
   };
   timers = timed;
   groups = grouped;
@@ -274,7 +276,8 @@ stands_step setup past p shift meant e classes1 classes2 tree1 tree2 order1 orde
   injected = ap (λ (q : Progress). q.inputs) went ∙ ap (counted_with e.answer) st.injected ∙ counted_with-next setup past e right;
   clock = ap (λ (q : Progress). q.time) went ∙ ap (time_kept e) st.clock ∙ time_kept-next e past;
   cursor = ap (λ (q : Progress). q.cursor) went ∙ ap (cursor_with e.answer e.call) st.cursor ∙ cursor_with-next e past;
-  sends = sends_step setup past p e tree1 sends1 sends2 place st right made begun left here;
+  sends = stay;
+  marks = stood;
   tally = noted_tally ∙ ap (λ (c : Option Cause). tallied e.answer c lost p.tally) named ∙ ap (λ n. tallied e.answer (first_cause p.sends e.who.0 e.answer e.call) n p.tally) (counted ∙ losses_now p e place tree1 sends1 made begun ∙ ap (λ n. losses_by p.tree.live n e.who.0 e.answer e.call p.sends) here)
       ∙ ap (tallied e.answer (first_cause p.sends e.who.0 e.answer e.call) (losses_by p.tree.live (place_after past) e.who.0 e.answer e.call p.sends)) st.tally
       ∙ sym (counts_after setup past e p.sends p.tree.live (st.lawful, right) st.sends st.tree.windows);

@@ -1,5 +1,5 @@
 -- The parts of a machine without entries stand for the past without entries.
-use Rattle.std.proofs.Common.{◌≡◌, ℕ, List, [], All, length, reverse, refl, ap, sym, subst, arith}
+use Rattle.std.proofs.Common.{◌≡◌, ℕ, List, [], All, length, reverse, ap, sym, subst, arith}
 use Rattle.user_model.specs.declared.entry.Entry.{Entry}
 use Rattle.user_model.specs.declared.entry.Setup.{Setup}
 use Rattle.user_model.specs.declared.story.SendStory.{SendStory}
@@ -11,8 +11,9 @@ use Rattle.core_state.specs.States.{Stands, parts}
 use Rattle.win_rows.specs.Windows.{Windows, no_windows}
 use Rattle.win_class.specs.ClassTable.{ClassTable, no_classes}
 use Rattle.send_state.specs.Parts.{SendParts, no_parts}
-use Rattle.send_state.specs.Standing.{PartsStand}
+use Rattle.send_state.specs.Standing.{MarksStand, PartsStand}
 use Rattle.send_state.specs.Tallies.{tally_at}
+use Rattle.send_state.proofs.Marks.{marks-fresh}
 use Rattle.send_state.specs.declared.tally.Tally.{Tally}
 use Rattle.timer_source.specs.declared.setting.Setting.{Setting}
 use Rattle.thread_state.specs.Threads.{ThreadView, fresh_thread}
@@ -47,6 +48,7 @@ fresh_stands setup history tree order display classes threads timers groups inpu
       clock = ap (λ (p : Progress). p.time) is_progress;
       cursor = ap (λ (p : Progress). p.cursor) is_progress;
       sends = subst (PartsStand setup []) (sym is_sends) (no_parts_stand setup ready);
+      marks = subst (λ (p : SendParts). MarksStand setup [] p.marks) (sym is_sends) (marks-fresh setup);
       tally = is_tally;
       stories = no_stories stories is_stories;
       looks = looked;

@@ -11,6 +11,7 @@ pub mod SendCounts
 pub mod StoryChanges
 pub mod StoryReads
 pub mod SendLosses
+pub mod SendMarks
 pub mod SendNeeds
 pub mod SendStacks
 pub mod SendSteps

@@ -40,11 +40,12 @@ use Rattle.screen_owners.specs.declared.owners.Owned.{Owned}
 use Rattle.screen_state.specs.Screens.{draws, is_none_dirty, keeps_screen}
 use Rattle.screen_state.specs.Shown.{changes_owners, shows}
 use Rattle.screen_state.proofs.Screens.{stays_follow}
+use Rattle.send_state.specs.Standing.{MarksStand, PartsStand}
 use Rattle.send_state.specs.Parts.{SendParts}
 use Rattle.send_state.specs.Stories.{EachStory, noted_answer, with_begun}
 use Rattle.send_state.specs.Tallies.{enters_one, first_of, named_send, one_if, tallied}
 use Rattle.send_state.specs.declared.tally.Tally.{Tally}
-use Rattle.thread_queues.specs.Changes.{changed, count_kept, noted, time_told_to}
+use Rattle.thread_queues.specs.Changes.{changed, count_kept, marked, noted, time_told_to}
 use Rattle.thread_queues.specs.Deliveries.{FitsPost, adding_in, change_of_post, effect_in, posting}
 use Rattle.thread_queues.specs.Queues.{EachBy}
 use Rattle.thread_state.specs.Threads.{ThreadView, waiting_with}
@@ -204,7 +205,21 @@ post_looks e looks m h = record { same_length = refl; at = λ i d lt. same e.who
     same who (answers.Posted n) (calls.PostThread to number wparam lparam) t k h = refl
     same who _ _ t k h = absurd (false≢true h)
 
+-- what posts marks no look
+pub post_unmarked : (e : Entry) (count : ℕ) (threads : List ThreadView) → adds_post e.answer e.call ≡ true → EachBy (λ t. marked t e count) threads threads
+post_unmarked e count threads h = record { same_length = refl; at = λ i d lt. same e.who e.answer e.call (i + 1) (slice_index_or threads i d) h }
+  where
+    same : (who : Thread) (a : Answer) (call : Call) (t : ℕ) (v : ThreadView) → adds_post a call ≡ true → v ≡ marked t (record { who = who; call = call; answer = a }) count v
+    same who (answers.Posted n) (calls.Post w number wparam lparam) t v h = refl
+    same who (answers.Posted n) (calls.PostThread to number wparam lparam) t v h = refl
+    same who _ _ t v h = absurd (false≢true h)
+
 -- it is no look
+pub post_is_no_look : (a : Answer) (call : Call) → adds_post a call ≡ true → is_look call ≡ false
+post_is_no_look (answers.Posted n) (calls.Post w number wparam lparam) h = refl
+post_is_no_look (answers.Posted n) (calls.PostThread to number wparam lparam) h = refl
+post_is_no_look _ _ h = absurd (false≢true h)
+
 pub post_no_look : (a : Answer) (call : Call) → adds_post a call ≡ true → is_look call ≡ true → ⊥
 post_no_look (answers.Posted n) (calls.Post w number wparam lparam) h is = false≢true is
 post_no_look (answers.Posted n) (calls.PostThread to number wparam lparam) h is = false≢true is
@@ -254,21 +269,25 @@ module _ (setup : Setup) (past : Past) (p : Parts) (e : Entry) (calm : IsCalm e.
       ∙ ap (λ n. come (count_kept e.answer p.post_count) (counted_with e.answer p.input_count) n p.cursor) (calm.time e.who.0 p.time)
       ∙ ap (λ q. come (count_kept e.answer p.post_count) (counted_with e.answer p.input_count) (time_told_to e.who.0 e.answer p.time) q) (idle.cursor p.cursor ∙ calm.cursor e.call p.cursor)
 
+  -- the sends stay
+  pub quiet_sends : PartsStand setup (e ∷ past) p.sends
+  quiet_sends = sends_step setup past p e p.tree p.sends p.sends (length past) st right (calm.tree e.who.0 e.call p.tree) (calm.sends p.tree.live p.time (length past) e.who e.call p.sends) (calm.sends_later p.tree.live (length past) e.who.0 e.call p.sends) refl
+
   -- how far the past with the entry comes
   pub quiet_moment : (place begun : ℕ) (m : Moment) (progress : Progress) → progress ≡ come (count_kept e.answer p.post_count) p.input_count p.time p.cursor → place ≡ length past → begun ≡ p.sends.book.begun → m ≡ moment_of (place + 1) begun progress → m ≡ moment_at (e ∷ past)
   quiet_moment place begun m progress went here counted is =
-      let stay = sends_step setup past p e p.tree p.sends p.sends (length past) st right (calm.tree e.who.0 e.call p.tree) (calm.sends p.tree.live p.time (length past) e.who e.call p.sends) (calm.sends_later p.tree.live (length past) e.who.0 e.call p.sends) refl in
-      moment_step setup past p e progress p.sends place begun m st right (gone_on progress went) stay here counted is
+      moment_step setup past p e progress p.sends place begun m st right (gone_on progress went) quiet_sends here counted is
 
-  -- the parts with the threads and looks after the entry
-  pub quiet_step : (threads1 threads2 threads3 : List ThreadView) (progress : Progress) (looks2 : List LookView)
+  -- the parts with the threads, marks and looks after the entry
+  pub quiet_step : (threads1 threads2 threads3 threads4 : List ThreadView) (progress : Progress) (sends2 : SendParts) (looks2 : List LookView)
       → EachBy (λ t. changed t (adding_in p.tree.live p.time p.cursor (is_shift_down past e.who.0) e.who.0 e.answer e.call)) p.threads threads1
       → EachBy (λ t. changed t (effect_in p.tree.live e.who.0 e.answer e.call)) threads1 threads2
-      → EachBy (λ t. noted t e) threads2 threads3
+      → EachBy (λ t. noted t e) threads2 threads3 → EachBy (λ t. marked t e progress.posts) threads3 threads4
       → progress ≡ come (count_kept e.answer p.post_count) p.input_count p.time p.cursor
+      → PartsStand setup (e ∷ past) sends2 → MarksStand setup (e ∷ past) sends2.marks
       → AreLooksAt setup (e ∷ past) looks2
-      → Stands setup (e ∷ past) (parts p.tree p.order p.display p.classes threads3 p.timers p.groups p.inputs progress p.sends p.tally p.stories looks2 p.dialogs)
-  quiet_step threads1 threads2 threads3 progress looks2 first second note went looked =
+      → Stands setup (e ∷ past) (parts p.tree p.order p.display p.classes threads4 p.timers p.groups p.inputs progress sends2 p.tally p.stories looks2 p.dialogs)
+  quiet_step threads1 threads2 threads3 threads4 progress sends2 looks2 first second note mark went stay stood looked =
       let a = e.answer in
       let call = e.call in
       let who = e.who.0 in
@@ -276,15 +295,15 @@ module _ (setup : Setup) (past : Past) (p : Parts) (e : Entry) (calm : IsCalm e.
       let place = length past in
       let cause : None ≡ first_of p.sends (named_send p.sends who a call) = ap (first_of p.sends) (sym (idle.unnamed p.sends who a)) in
       let told : EachStory (noted_answer a (named_send p.sends who a call) place) p.stories p.stories = subst (λ q. EachStory (noted_answer a q place) p.stories p.stories) (sym (idle.unnamed p.sends who a)) (record { same_length = refl; at = λ i d lt. calm.stories_told place (i + 1) (slice_index_or p.stories i d) }) in
-      stands_step setup past p (is_shift_down past who) meant e p.classes p.classes p.tree p.tree p.order p.order p.display threads1 threads2 threads3 p.timers p.groups p.inputs p.inputs progress p.sends p.sends None 0 p.tally p.stories p.stories p.stories looks2 p.dialogs place
+      stands_step setup past p (is_shift_down past who) meant e p.classes p.classes p.tree p.tree p.order p.order p.display threads1 threads2 threads3 threads4 p.timers p.groups p.inputs p.inputs progress p.sends sends2 None 0 p.tally p.stories p.stories p.stories looks2 p.dialogs place
       room right st (λ runs. refl) (λ i is home. absurd (idle.uninjected i is))
       (calm.classes call p.classes) (calm.classes_later call p.classes)
       (calm.tree who call p.tree) (calm.tree_later who call p.tree)
       (calm.order call p.tree p.order) (calm.order_later call p.tree p.order) shown
-      first second note timed grouped
+      first second note mark timed grouped
       (calm.inputs meant call p.inputs) (calm.inputs_later e.who call p.inputs)
       (gone_on progress went)
-      (calm.sends ws p.time place e.who call p.sends) (calm.sends_later ws place who call p.sends) refl
+      (calm.sends ws p.time place e.who call p.sends) stay stood refl
       cause (calm.losses ws place who call p.sends) (nothing_counted p.tally a calm.enters_none)
       (calm.stories p.stories) (record { same_length = refl; at = λ i d lt. calm.stories_lost ws place who call p.sends (i + 1) (slice_index_or p.stories i d) }) told
       looked (follows_same a call p.dialogs (calm.turned call))

@@ -22,7 +22,6 @@ use Rattle.user_model.specs.Counts.{has_cause}
 use Rattle.user_model.specs.Idle.{reply}
 use Rattle.user_model.specs.Legal.{IsLawful}
 use Rattle.user_model.proofs.ReplyLaws.{by_call}
-use Rattle.user_model.proofs.SendLawful.{lawful_standing}
 use Rattle.user_model.proofs.WindowReplies.{drop_okay}
 use Rattle.send_state.specs.declared.tally.Tally.{Tally}
 use Rattle.send_state.specs.Parts.{SendParts, lost_count}
@@ -83,7 +82,7 @@ module _ (setup : Setup) (past : Past) (e : Entry) (p : SendParts) (ws : List Ke
     dropped_losses = lost-counted setup past e p (goes_with ws w) lawful.0 dropping h dropped
 
     dropped_few : lost_count (goes_with ws w) p (place_after past) ≤ 1024
-    dropped_few = subst (λ n. n ≤ 1024) (sym dropped_losses) (few-losses setup past e lawful.0 (lawful_standing setup past lawful.0) dropping p h (goes_with ws w) dropped (length (sends past)))
+    dropped_few = subst (λ n. n ≤ 1024) (sym dropped_losses) (few-losses setup past e lawful.0 (length (sends past)))
 
     dropped_counts : Counts (lost_count (goes_with ws w) p (place_after past))
     dropped_counts = tally-lost setup past e lawful (ap (λ a. is_refusal a) is) p h dropping (lost_count (goes_with ws w) p (place_after past)) dropped_losses (ap (λ c. first_cause p e.who.0 e.answer c) is_call)
@@ -100,7 +99,7 @@ module _ (setup : Setup) (past : Past) (e : Entry) (p : SendParts) (ws : List Ke
     ended_losses = lost-counted setup past e p (is_of ws e.who.0) lawful.0 ending h owned
 
     ended_few : lost_count (is_of ws e.who.0) p (place_after past) ≤ 1024
-    ended_few = subst (λ n. n ≤ 1024) (sym ended_losses) (few-losses setup past e lawful.0 (lawful_standing setup past lawful.0) ending p h (is_of ws e.who.0) owned (length (sends past)))
+    ended_few = subst (λ n. n ≤ 1024) (sym ended_losses) (few-losses setup past e lawful.0 (length (sends past)))
 
     ended_counts : Counts (lost_count (is_of ws e.who.0) p (place_after past))
     ended_counts = tally-lost setup past e lawful (ap (λ a. is_refusal a) is) p h ending (lost_count (is_of ws e.who.0) p (place_after past)) ended_losses (ap (λ c. first_cause p e.who.0 e.answer c) (ending_call setup past e lawful is))

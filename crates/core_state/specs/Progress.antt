@@ -17,4 +17,4 @@ progressed e p = record { posts = count_kept e.answer p.posts; inputs = counted_
 
 -- how far a history has come that has so many entries and sends
 abbrev pub moment_of : ℕ → ℕ → Progress → Moment
-moment_of entries sends p = record { entries = entries; posts = p.posts; inputs = p.inputs; sends = sends; time = p.time }
+moment_of entries sends p = record { entries = entries; inputs = p.inputs; sends = sends; time = p.time }

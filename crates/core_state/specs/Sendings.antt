@@ -1,5 +1,5 @@
 -- What an entry does to the sends, among the windows of a table.
-use Rattle.std.specs.Prelude.{if◌then◌else◌, ◌≡◌, ◌==◌, ◌&&◌, ◌<◌, ◌≤◌, ◌^◌, ℕ, Bool, true, false, List, length, Option, Some, None, is_some, option_and_then}
+use Rattle.std.specs.Prelude.{if◌then◌else◌, ◌≡◌, ◌==◌, ◌&&◌, ◌<◌, ◌≤◌, ◌^◌, ℕ, Bool, true, false, not, List, length, Option, Some, None, is_some, option_and_then}
 use Rattle.win_num.specs.declared.message.Thread.{Thread}
 use Rattle.win_num.specs.declared.send.Kind.{Kind}
 use Rattle.std.specs.FinMap as map
@@ -7,12 +7,16 @@ use Rattle.win_rows.specs.declared.window.Window.{Window}
 use Rattle.win_rows.specs.Windows.{is_live}
 use Rattle.send_frames.specs.declared.row.SendRow.{SendRow}
 use Rattle.send_frames.specs.Book.{IsThread, refusal_at_begin, stack_of}
-use Rattle.send_state.specs.Parts.{SendParts, CanBegin, CanLeaveFrom, CanLose, CanReplyIn, CanServe, begun, dispatched, ended, finished, head_of, left, lost, lost_count, rank, replied, served, timed_out, top_of}
+use Rattle.send_state.specs.Parts.{SendParts, CanBegin, CanLeaveFrom, CanLose, CanReplyIn, CanServe, begun, dispatched, ended, finished, head_of, left, looked, lost, lost_count, rank, replied, served, timed_out, top_of}
+use Rattle.send_variants.specs.Lists.{AreBelow, list_of}
 use Rattle.send_state.specs.Stories.{EachStory, noted_loss}
 use Rattle.user_model.specs.declared.story.SendStory.{SendStory}
 use Rattle.user_model.specs.Deeds.{SendParts as CallParts, parts_of}
 use Rattle.user_model.specs.declared.call.Call.{Call}
 use Rattle.user_model.specs.declared.call.Call.TheVariants.{Send, SendTimeout, SendNotify, SendCallback, Await, Leave, Reply, Drop}
+use Rattle.user_model.specs.declared.entry.Entry.{Entry}
+use Rattle.user_model.specs.Past.{is_refused}
+use Rattle.user_model.specs.Status.{is_look}
 use Rattle.user_model.specs.declared.entry.Answer.{Answer}
 use Rattle.user_model.specs.declared.entry.Answer.TheVariants.{Okay, Ended, Value, Inside, Begun, Enter, Callback, Called, Left, Done}
 use Rattle.window_state.specs.Trees.{thread_in}
@@ -208,6 +212,22 @@ FitsSendEffect ws place who (Done result cause) call p = FitsWait who call p
 FitsSendEffect ws place who Okay call p = FitsDropped ws place call p
 FitsSendEffect ws place who Ended call p = IsThread p.book who × FitsLosing (is_of ws who) p place
 FitsSendEffect ws place who _ call p = Unit {0}
+
+-- ---- a look
+
+-- whether an entry is a look that wasn't refused
+abbrev pub is_looking : Entry → Bool
+is_looking e = is_look e.call && not (is_refused e)
+
+-- after an entry: where it is such a look, its thread has looked. place is that of the next entry
+abbrev pub looked_by : Entry → ℕ → SendParts → SendParts
+looked_by e place p = if is_looking e then looked p e.who.0 place else p
+
+-- a thread can look at a place: it is above all that is ready
+pub record FitsLook (p : SendParts) (t place : ℕ) : Type 0 where
+  pub is_one : IsThread p.book t
+  pub early : place ≤ 2 ^ 21
+  pub above : AreBelow (rank place 0) (list_of p.lists t)
 
 -- ---- stories are told
 

@@ -14,7 +14,7 @@ use Rattle.core_state.specs.declared.progress.Progress.{Progress}
 use Rattle.win_rows.specs.Windows.{Windows}
 use Rattle.win_class.specs.ClassTable.{ClassTable}
 use Rattle.send_state.specs.Parts.{SendParts}
-use Rattle.send_state.specs.Standing.{PartsStand}
+use Rattle.send_state.specs.Standing.{MarksStand, PartsStand}
 use Rattle.send_state.specs.Stories.{StoriesStand}
 use Rattle.send_state.specs.Tallies.{tally_at}
 use Rattle.user_model.specs.declared.story.SendStory.{SendStory}
@@ -84,6 +84,7 @@ pub record Stands (setup : Setup) (past : Past) (p : Parts) : Type 0 where
   pub clock : p.time ≡ clock past
   pub cursor : p.cursor ≡ cursor past
   pub sends : PartsStand setup past p.sends
+  pub marks : MarksStand setup past p.sends.marks
   pub tally : p.tally ≡ tally_at past
   pub stories : StoriesStand past p.stories
   pub looks : AreLooksAt setup past p.looks

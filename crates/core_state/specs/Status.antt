@@ -26,5 +26,5 @@ bits_of f = bit_where f.key QS_KEY + bit_where f.moved QS_MOUSEMOVE + bit_where 
 pub record IsBefore (setup : Setup) (past look : Past) (t : ℕ) (k : LookView) : Type 0 where
   pub lawful : IsLawful setup past
   pub tail : IsTail look past
-  pub kept : IsLookAt setup past look t k
+  pub kept : IsLookAt setup look t k
   pub timers : has_timer past t look ≡ has_due_after past t (clock look)

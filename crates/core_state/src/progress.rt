@@ -54,7 +54,6 @@ impl Progress {
     {
         Moment {
             entries,
-            posts: self.posts,
             inputs: self.inputs,
             sends,
             time: self.time,

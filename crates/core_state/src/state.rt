@@ -1,6 +1,6 @@
 //! The history, and the parts that stand for it.
 
-ghost use Rattle.std.specs.Prelude.{◌≡◌, ◌==◌, ◌<◌, ◌≤◌, ◌+◌, ◌&&◌, option_copied, vec_capacity, vec_len, [], ◌∷◌, length, map, nat_le, reverse, All, true, false, IfOk, OnOk, OnErr, Some, is_some, option_and_then, option_map};
+ghost use Rattle.std.specs.Prelude.{◌≡◌, ◌==◌, ◌<◌, ◌≤◌, ◌+◌, ◌&&◌, option_copied, vec_capacity, vec_len, [], ◌∷◌, length, map, nat_le, reverse, All, true, false, IfOk, IfSome, OnOk, OnErr, Some, is_some, option_and_then, option_map};
 ghost use Rattle.win_num.specs.Clocks.{clock_limit};
 ghost use Rattle.user_model.specs.Legal.{IsLegal};
 ghost use Rattle.user_model.specs.Past.{is_full};
@@ -48,7 +48,7 @@ ghost use Rattle.window_state.specs.Steps.{destruction_answer};
 use self::posts::{adds_post, reads_posts};
 use crate::change::{add_change, take_effect};
 use crate::progress::Progress;
-use crate::sendings::settle_sends;
+use crate::sendings::{note_look, settle_sends};
 use band_region::Region;
 use dialog_state::Dialogs;
 use display_state::Display;
@@ -62,7 +62,7 @@ use send_state::{SendRow, SendState, Tally, first_cause, named_send};
 use std::alloc::{AllocError, Global};
 use std::marker::Model;
 use std::sync::ledger::Ledger;
-use thread_queues::{Stamp, note_entry};
+use thread_queues::{Stamp, mark_look, note_entry};
 use thread_state::ThreadState;
 use timer_source::{Timer, Timers};
 use timer_state::{due_timer, follow_timers, has_timer, next_due, timers_are_full};
@@ -253,8 +253,8 @@ impl CoreState {
         self.threads[usize::from(thread - 1)].first(&self.tree, filter)
     }
 
-    /// The same, in one step for each posted message that it reads: at most those up to the first that the filter lets pass, or all
-    /// where it lets none pass.
+    /// The same, in one step for each posted message that it reads: those up to the first that the filter lets pass, and where it lets
+    /// none pass at most all.
     pub fn first_post_counted<L: Ledger>(
         &self,
         thread: u8,
@@ -264,7 +264,8 @@ impl CoreState {
         requires some { 0 < thread }
         requires known { thread ≤ self.now.setup.threads }
         ensures first { result ≡ option_map told_post (first_post self.now.past thread filter) }
-        ensures reads { steps.new ≤ steps.old + reads (passes self.now.past filter) (posted self.now.past thread) }
+        ensures reads { IfSome result (λ found. steps.new ≡ steps.old + reads (passes self.now.past filter) (posted self.now.past thread)) }
+        ensures most { steps.new ≤ steps.old + reads (passes self.now.past filter) (posted self.now.past thread) }
     {
         self.threads[usize::from(thread - 1)].first_counted(&self.tree, filter, steps)
     }
@@ -864,9 +865,11 @@ impl CoreState {
         self.display.take_over(change);
         note_entry(&mut self.threads, entry);
         self.progress = self.progress.followed_by(entry);
+        mark_look(&mut self.threads, entry, self.progress.posts);
         self.tally = self.tally.with(entry.answer, first, lost);
         let after = self.progress.moment(stamp.place + 1, self.sends.begun());
         self.looks.follow(entry, after, seen);
+        note_look(&mut self.sends, entry, stamp.place + 1);
         self.history.push(entry).unwrap();
         Ok(())
     }

@@ -34,12 +34,6 @@ module _ {A : Type 0} where
   drop_front [] ys = refl
   drop_front (x ∷ xs) ys = drop_front xs ys
 
-  pub drop_more_than : (xs ys : List A) (y : A) → drop (length xs + 1) (xs ++ y ∷ ys) ≡ ys
-  drop_more_than [] ys y = refl
-  drop_more_than (x ∷ xs) ys y =
-      let further : length (x ∷ xs) + 1 ≡ suc (length xs + 1) = omega arith in
-      ap (λ (k : ℕ). drop k (x ∷ (xs ++ y ∷ ys))) further ∙ drop_more_than xs ys y
-
   pub but_last : (xs : List A) (y : A) → take (length (xs ++ y ∷ []) - 1) (xs ++ y ∷ []) ≡ xs
   but_last xs y =
       let n : length (xs ++ y ∷ []) - 1 ≡ length xs = omega (arith, length-append xs (y ∷ [])) in
@@ -87,12 +81,6 @@ module _ (s : Tree) (l : LogTree) where
       ∙ ap (λ (k : ℕ). drop k (map joined (entries_words s l.entries) ++ (joined (end_words l.end) ∷ map joined (map (extra_words s) l.extras)))) (sym many)
       ∙ drop_front (map joined (entries_words s l.entries)) (joined (end_words l.end) ∷ map joined (map (extra_words s) l.extras))
 
-  pub behind_end : drop (length (entries_words s l.entries) + 1) (map joined (inner_words s l)) ≡ map joined (map (extra_words s) l.extras)
-  behind_end =
-      ap (drop (length (entries_words s l.entries) + 1)) parted
-      ∙ ap (λ (k : ℕ). drop (k + 1) (map joined (entries_words s l.entries) ++ (joined (end_words l.end) ∷ map joined (map (extra_words s) l.extras)))) (sym many)
-      ∙ drop_more_than (map joined (entries_words s l.entries)) (map joined (map (extra_words s) l.extras)) (joined (end_words l.end))
-
 -- ---- the same, of lines that are read
 
 module _ {R : Type 0} (read : R → List ℕ) where
@@ -102,15 +90,21 @@ module _ {R : Type 0} (read : R → List ℕ) where
       first_same (read (get_or xs k d)) t (map read (drop (k + 1) xs)) more (sym opened ∙ read_drop read k xs ∙ e)
 
   module _ (s : Tree) (l : LogTree) (lines : List R) (p : ℕ) (same : map read lines ≡ map joined (inner_words s l)) (here : p ≡ length (entries_words s l.entries)) where
-    pub end_line : (d : R) → p < length lines → read (get_or lines p d) ≡ joined (end_words l.end)
-    end_line d lt =
-        read_at p lines d (joined (end_words l.end)) (map joined (map (extra_words s) l.extras)) lt
-        (ap (drop p) same ∙ ap (λ (k : ℕ). drop k (map joined (inner_words s l))) here ∙ from_end s l)
+    pub ending_lines : map read (take (length lines - p) (drop p lines)) ≡ map joined (end_words l.end ∷ map (extra_words s) l.extras)
+    ending_lines =
+        ap (map read) (take_all (length lines - p) (drop p lines) (omega (arith, length-drop p lines)))
+        ∙ read_drop read p lines ∙ ap (drop p) same ∙ ap (λ (k : ℕ). drop k (map joined (inner_words s l))) here ∙ from_end s l
 
-    pub extra_lines : map read (take (length lines - (p + 1)) (drop (p + 1) lines)) ≡ map joined (map (extra_words s) l.extras)
-    extra_lines =
-        ap (map read) (take_all (length lines - (p + 1)) (drop (p + 1) lines) (omega (arith, length-drop (p + 1) lines)))
-        ∙ read_drop read (p + 1) lines ∙ ap (drop (p + 1)) same ∙ ap (λ (k : ℕ). drop (k + 1) (map joined (inner_words s l))) here ∙ behind_end s l
+  -- a first line and others
+  module _ (lines : List R) (t : List ℕ) (more : List (List ℕ)) (same : map read lines ≡ t ∷ more) where
+    pub some_line : length lines ≡ length more + 1
+    some_line = omega (arith, sym (same_length read lines), ap length same)
+
+    pub first_line : (d : R) → read (get_or lines 0 d) ≡ t
+    first_line d = read_at 0 lines d t more (omega (arith, some_line)) same
+
+    pub other_lines : map read (take (length lines - 1) (drop 1 lines)) ≡ more
+    other_lines = ap (map read) (take_all (length lines - 1) (drop 1 lines) (omega (arith, length-drop 1 lines))) ∙ read_drop read 1 lines ∙ ap (drop 1) same
 
   inner_of : (xs : List R) (a c : List ℕ) (bs : List (List ℕ)) → map read xs ≡ a ∷ (bs ++ c ∷ []) → length xs ≡ length bs + 2
   inner_of xs a c bs e = omega (arith, sym (same_length read xs), ap length e, length-append bs (c ∷ []))

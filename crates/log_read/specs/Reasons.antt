@@ -82,11 +82,11 @@ form_reason formed told = if formed then (if told then reasons.Limit else reason
 -- ---- entries, and the line of the end
 
 -- the number of the actor, the fields of the call, `=` and the fields of the answer
-abbrev pub is_entry_form : List Field → List Field → List (List ℕ) → Bool
+unfoldable pub is_entry_form : List Field → List Field → List (List ℕ) → Bool
 is_entry_form called answered words =
     is_decimal (word_at words 0) && (fields_pass has_form called words 2 && (bytes_eq (word_at words (length called + 2)) (codes "=") && fields_pass has_form answered words (length called + 4)))
 
-abbrev pub is_entry_told : Tree → List Field → List Field → List (List ℕ) → Bool
+unfoldable pub is_entry_told : Tree → List Field → List Field → List (List ℕ) → Bool
 is_entry_told s called answered words = fields_pass (is_told s) called words 2 && fields_pass (is_told s) answered words (length called + 4)
 
 -- behind a call with these fields
@@ -133,7 +133,7 @@ spent_reason words = if length words == 2 then form_reason (is_decimal (word_at 
 abbrev pub is_count : List (List ℕ) → ℕ → List ℕ → Bool
 is_count words k name = bytes_eq (word_at words k) name && is_decimal (word_at words (k + 1))
 
-abbrev pub are_counts : List (List ℕ) → Bool
+unfoldable pub are_counts : List (List ℕ) → Bool
 are_counts words =
     is_count words 1 (codes "begun") && (is_count words 3 (codes "entered") && (is_count words 5 (codes "proc") && (is_count words 7 (codes "reply")
     && (is_count words 9 (codes "loss") && (is_count words 11 (codes "timeout") && is_count words 13 (codes "open"))))))

@@ -189,6 +189,7 @@ fn is_count(line: &[&[u8]], at: usize, name: &[u8]) -> bool
 }
 
 /// Whether the words behind the first one are those of the counts of sends, each with a number behind it.
+#[tactic(auto, unfolding(crate::specs::Reasons::are_counts))]
 pub fn are_counts(line: &[&[u8]]) -> bool
     ensures { result ≡ are_counts (map (λ w. w.now) line.now) }
 {

@@ -1,7 +1,8 @@
 //! The first bad line of a text, and what is wrong there: one fold over the lines, by what may stand next.
 
-ghost use Rattle.std.specs.Prelude.{◌≡◌, ◌+◌, ◌-◌, ◌^◌, map, min, Some, None, IfOk, IfSome};
+ghost use Rattle.std.specs.Prelude.{◌≡◌, ◌+◌, ◌-◌, ◌^◌, ◌++◌, ◌∷◌, [], ℕ, List, map, min, Some, None, IfOk, IfSome};
 ghost use Rattle.script_lines.specs.Known.{known_of};
+ghost use Rattle.script_lines.specs.LineReading.{split_at};
 ghost use Rattle.script_lines.specs.NameLimits.{AreKnown};
 ghost use Rattle.log_read.specs.declared.phase.Phase.{Phase};
 ghost use Rattle.log_read.specs.Grammar.{IsStep};
@@ -114,6 +115,26 @@ fn refusal_at(before: usize, reason: Reason) -> Refusal
     }
 }
 
+/// The first bad line of a text with these whole lines and this rest behind them, and what is wrong there.
+fn refusal_of(
+    alloc: Global,
+    words: &Words,
+    texts: &[&[u8]],
+    rest: &[u8],
+) -> Result<Refusal, AllocError>
+    requires named { AreKnown (known_of words.now.script.now) }
+    ensures { IfOk result (λ refusal. (bytes : List ℕ) → map (λ w. w.now) texts.now ++ rest.now ∷ [] ≡ split_at 10 bytes → IsFirstBad words.now.script.now bytes refusal) }
+{
+    if let Some((before, reason)) = first_bad(alloc, words, texts)? {
+        return Ok(refusal_at(before, reason));
+    }
+    if rest.is_empty() {
+        Ok(refusal_at(texts.len(), Reason::End))
+    } else {
+        Ok(refusal_at(texts.len(), Reason::Bytes))
+    }
+}
+
 /// The first bad line of a text that is no log of the script, and what is wrong there.
 pub fn first_refusal(alloc: Global, words: &Words, bytes: &[u8]) -> Result<Refusal, AllocError>
     requires named { AreKnown (known_of words.now.script.now) }
@@ -121,15 +142,8 @@ pub fn first_refusal(alloc: Global, words: &Words, bytes: &[u8]) -> Result<Refus
     ensures { IfOk result (IsFirstBad words.now.script.now bytes.now) }
 {
     let mut texts = split_at(alloc, bytes, b'\n')?;
-    let Some(rest) = texts.pop() else {
-        return Ok(refusal_at(0, Reason::End));
-    };
-    if let Some((before, reason)) = first_bad(alloc, words, &texts)? {
-        return Ok(refusal_at(before, reason));
-    }
-    if rest.is_empty() {
-        Ok(refusal_at(texts.len(), Reason::End))
-    } else {
-        Ok(refusal_at(texts.len(), Reason::Bytes))
+    match texts.pop() {
+        Some(rest) => refusal_of(alloc, words, &texts, rest),
+        None => Ok(refusal_at(0, Reason::End)),
     }
 }

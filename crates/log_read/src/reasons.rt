@@ -31,6 +31,7 @@ fn form_reason(formed: bool, told: bool) -> Reason
 }
 
 /// Whether the words of an entry with these fields have their forms.
+#[tactic(auto, unfolding(crate::specs::Reasons::is_entry_form))]
 fn is_entry_form(words: &Words, called: &[Field], answered: &[Field], line: &[&[u8]]) -> bool
     requires called { length called.now ≤ 9 }
     requires answered { length answered.now ≤ 9 }
@@ -43,6 +44,7 @@ fn is_entry_form(words: &Words, called: &[Field], answered: &[Field], line: &[&[
 }
 
 /// Whether they name nothing unknown.
+#[tactic(auto, unfolding(crate::specs::Reasons::is_entry_told))]
 fn is_entry_told(words: &Words, called: &[Field], answered: &[Field], line: &[&[u8]]) -> bool
     requires named { AreKnown (known_of words.now.script.now) }
     requires called { length called.now ≤ 9 }

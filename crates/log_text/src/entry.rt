@@ -6,6 +6,7 @@ ghost use Rattle.std.specs.List.{flat_map};
 ghost use Rattle.user_io.specs.Text.{Adds};
 ghost use Rattle.log_text.specs.Entries.{counted, code_text, value_text, call_text, answer_text, entry_line};
 
+use crate::frequent::{put_filter, put_got, put_pixel, put_post_number, put_posting, put_word};
 use crate::words::Words;
 use answer_table::{answer_form, split_answer};
 use call_fields::{Value, cause_word, code_word, source_word};
@@ -21,15 +22,6 @@ pub fn put_counted(out: &mut Vec<u8>, word: &[u8], number: u64) -> Result<(), Al
 {
     put_text(out, word)?;
     put_operand(out, number)?;
-    Ok(())
-}
-
-/// Adds a blank and a word.
-fn put_word(out: &mut Vec<u8>, word: &[u8]) -> Result<(), AllocError>
-    ensures { OnOk result (Adds out.old.items out.new.items (32 ∷ word.now)) }
-{
-    out.push(b' ')?;
-    put_text(out, word)?;
     Ok(())
 }
 
@@ -58,7 +50,7 @@ fn put_value(out: &mut Vec<u8>, words: &Words, value: Value) -> Result<(), Alloc
         Value::Thread(thread) => put_operand(out, u64::from(thread.0)),
         Value::Count(number) => put_operand(out, u64::from(number)),
         Value::ShortMessage(number) => words.put_message(out, u64::from(number)),
-        Value::Pixel(number) => put_signed(out, i64::from(number)),
+        Value::Pixel(number) => put_pixel(out, number),
         Value::Flag(flag) => put_operand(out, u64::from(flag)),
         Value::RegionKind(kind) => put_operand(out, u64::from(kind)),
         Value::Source(source) => put_word(out, source_word(source)),
@@ -77,8 +69,8 @@ fn put_values(out: &mut Vec<u8>, words: &Words, values: &[Value]) -> Result<(), 
     Ok(())
 }
 
-/// Adds a call: its word and the values of its fields.
-pub fn put_call(out: &mut Vec<u8>, words: &Words, call: Call) -> Result<(), AllocError>
+/// Adds any call, by the table of calls: its word and the values of its fields.
+fn put_listed_call(out: &mut Vec<u8>, words: &Words, call: Call) -> Result<(), AllocError>
     ensures { OnOk result (Adds out.old.items out.new.items (call_text words.now.script.now call)) }
 {
     let split = split_call(call);
@@ -87,13 +79,57 @@ pub fn put_call(out: &mut Vec<u8>, words: &Words, call: Call) -> Result<(), Allo
     Ok(())
 }
 
-/// Adds an answer: its word and the values of its fields.
-pub fn put_answer(out: &mut Vec<u8>, words: &Words, answer: Answer) -> Result<(), AllocError>
+/// Adds a call: its word and the values of its fields. Posts and gets, of which logs mostly consist, are not taken apart.
+pub fn put_call(out: &mut Vec<u8>, words: &Words, call: Call) -> Result<(), AllocError>
+    ensures { OnOk result (Adds out.old.items out.new.items (call_text words.now.script.now call)) }
+{
+    match call {
+        Call::PostThread(thread, number, wparam, lparam) => {
+            put_text(out, b"post_thread")?;
+            put_posting(out, words, thread, number, wparam, lparam)?;
+        }
+        Call::Post(w, number, wparam, lparam) => {
+            put_text(out, b"post")?;
+            put_posting(out, words, w, number, wparam, lparam)?;
+        }
+        Call::Get(w, min, max) => {
+            put_text(out, b"get")?;
+            put_filter(out, words, w, min, max)?;
+        }
+        _ => put_listed_call(out, words, call)?,
+    }
+    Ok(())
+}
+
+/// Adds any answer, by the table of answers: its word and the values of its fields.
+fn put_listed_answer(out: &mut Vec<u8>, words: &Words, answer: Answer) -> Result<(), AllocError>
     ensures { OnOk result (Adds out.old.items out.new.items (answer_text words.now.script.now answer)) }
 {
     let split = split_answer(answer);
     put_text(out, answer_form(split.name).word)?;
     put_values(out, words, &split.values)?;
+    Ok(())
+}
+
+/// Adds an answer: its word and the values of its fields. That a message was posted or retrieved is not taken apart.
+pub fn put_answer(out: &mut Vec<u8>, words: &Words, answer: Answer) -> Result<(), AllocError>
+    ensures { OnOk result (Adds out.old.items out.new.items (answer_text words.now.script.now answer)) }
+{
+    match answer {
+        Answer::Posted(number) => {
+            put_text(out, b"posted")?;
+            put_post_number(out, words, number)?;
+        }
+        Answer::Got {
+            origin,
+            number,
+            msg,
+        } => {
+            put_text(out, b"got")?;
+            put_got(out, words, origin, number, msg)?;
+        }
+        _ => put_listed_answer(out, words, answer)?,
+    }
     Ok(())
 }
 

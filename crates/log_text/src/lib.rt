@@ -13,6 +13,7 @@ mod end;
 mod ending;
 mod entry;
 mod frame;
+mod frequent;
 mod summary;
 mod words;
 mod writer;

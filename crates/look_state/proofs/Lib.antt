@@ -1,4 +1,3 @@
-pub mod Following
 pub mod KeptPixels
 pub mod LookSteps
 pub mod NewPixels

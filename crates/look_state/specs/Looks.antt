@@ -1,5 +1,5 @@
 -- What was there for each thread when it looked last, and when that is what a past says.
-use Rattle.std.specs.Prelude.{if◌then◌else◌, ◌≡◌, ℕ, ◌==◌, ◌+◌, ◌<◌, Bool, true, false, ◌&&◌, List, [], length, map, filter, find, slice_index_or, Option, Some, None, is_some, option_map}
+use Rattle.std.specs.Prelude.{if◌then◌else◌, ◌≡◌, ℕ, ◌==◌, ◌+◌, ◌<◌, Bool, true, ◌&&◌, List, [], length, map, filter, find, slice_index_or, Option, option_map}
 use Rattle.win_num.specs.declared.shapes.Point.{Point}
 use Rattle.win_num.specs.declared.shapes.Rect.{Rect}
 use Rattle.win_rows.specs.declared.window.Window.{Window as KeptWindow}
@@ -7,24 +7,21 @@ use Rattle.band_region.specs.Regions.{region_has}
 use Rattle.dirty_windows.specs.declared.entries.DirtyWindow.{DirtyWindow}
 use Rattle.screen_state.specs.Owned.{told_has}
 use Rattle.window_state.specs.Trees.{thread_in}
-use Rattle.user_model.specs.declared.call.Call.{Call}
-use Rattle.user_model.specs.declared.call.Call.TheVariants.{PostQuit}
 use Rattle.user_model.specs.declared.entry.Entry.{Entry}
 use Rattle.user_model.specs.declared.entry.Setup.{Setup}
 use Rattle.user_model.specs.Past.{Past, is_refused}
 use Rattle.user_model.specs.Places.{clock}
 use Rattle.user_model.specs.Windows.{thread_of}
-use Rattle.user_model.specs.Posts.{posts, quit}
 use Rattle.user_model.specs.Inputs.{inputs}
 use Rattle.user_model.specs.Sends.{sends}
 use Rattle.user_model.specs.Dirty.{is_dirty}
-use Rattle.user_model.specs.Status.{is_look, last_look, quit_came}
+use Rattle.user_model.specs.Status.{is_look, last_look}
 use Rattle.look_state.specs.declared.moment.Moment.{Moment}
 use Rattle.look_state.specs.declared.seen.SeenWindow.{SeenWindow}
 
 -- how far a past has come
 abbrev pub moment_at : Past → Moment
-moment_at past = record { entries = length past; posts = length (posts past); inputs = length (inputs past); sends = length (sends past); time = clock past }
+moment_at past = record { entries = length past; inputs = length (inputs past); sends = length (sends past); time = clock past }
 
 -- ---- dirty pixels at a look
 
@@ -61,45 +58,34 @@ IsCovered ws t seen d = thread_in ws d.window.0 ≡ t → IsWithin d.update.area
 
 -- ---- a thread's look
 
--- how far the past had come, whether quit was posted since, and the pixels that were dirty
+-- how far the past had come, and the pixels that were dirty
 pub record LookView : Type 0 where
   pub at : Moment
-  pub quit_is_new : Bool
   pub seen : List SeenWindow
 
 -- a look
 abbrev pub look_at : Moment → List SeenWindow → LookView
-look_at at seen = record { at = at; quit_is_new = false; seen = seen }
+look_at at seen = record { at = at; seen = seen }
 
 -- before the first one
 abbrev pub first_look : LookView
-first_look = record { at = moment_at []; quit_is_new = true; seen = [] }
-
--- with quit that is posted since
-abbrev pub quit_noted : LookView → LookView
-quit_noted k = record k { quit_is_new = true }
-
--- whether the call posts quit
-abbrev pub posts_quit : Call → Bool
-posts_quit (PostQuit code) = true
-posts_quit _ = false
+first_look = look_at (moment_at []) []
 
 -- what an entry leaves of t's look
 abbrev pub look_after : ℕ → Entry → Moment → List SeenWindow → LookView → LookView
-look_after t e m seen k = if is_refused e then k else if is_look e.call then (if e.who.0 == t then look_at m seen else k) else if posts_quit e.call && (e.who.0 == t) then quit_noted k else k
+look_after t e m seen k = if is_refused e then k else if is_look e.call && (e.who.0 == t) then look_at m seen else k
 
 -- each thread's look is changed so; threads are numbered from 1
 pub record EachLook (change : ℕ → LookView → LookView) (old new : List LookView) : Type 0 where
   pub same_length : length new ≡ length old
   pub at : (i : ℕ) (d : LookView) → i < length old → slice_index_or new i d ≡ change (i + 1) (slice_index_or old i d)
 
--- what is kept is what there was for t at an earlier past
-pub record IsLookAt (setup : Setup) (past look : Past) (t : ℕ) (k : LookView) : Type 0 where
+-- what is kept is what there was for t at a past
+pub record IsLookAt (setup : Setup) (look : Past) (t : ℕ) (k : LookView) : Type 0 where
   pub at : k.at ≡ moment_at look
-  pub quit : (is_some (quit past t) && k.quit_is_new) ≡ quit_came look (quit past t)
   pub seen : IsSeenAt setup look t k.seen
 
 -- what is kept of each thread is what there was at its last look
 pub record AreLooksAt (setup : Setup) (past : Past) (ks : List LookView) : Type 0 where
   pub count : length ks ≡ setup.threads
-  pub each : (i : ℕ) (d : LookView) → i < length ks → IsLookAt setup past (last_look past (i + 1)) (i + 1) (slice_index_or ks i d)
+  pub each : (i : ℕ) (d : LookView) → i < length ks → IsLookAt setup (last_look past (i + 1)) (i + 1) (slice_index_or ks i d)

@@ -1,5 +1,5 @@
-//! What was there for each thread when it looked last: how far the history had come, whether quit was posted since, and which pixels of
-//! its windows were dirty then.
+//! What was there for each thread when it looked last: how far the history had come, and which pixels of its windows were
+//! dirty then.
 #![tactic(auto)]
 
 mod look;
@@ -12,4 +12,4 @@ pub use look::Look;
 pub use looks::Looks;
 pub use moment::Moment;
 pub use pixels::has_new_pixel;
-pub use seen::{SeenWindow, seen_by};
+pub use seen::{SeenWindow, is_look, seen_by};

@@ -1,6 +1,6 @@
 //! What was there for one thread.
 
-ghost use Rattle.std.specs.Prelude.{◌≡◌, false, true};
+ghost use Rattle.std.specs.Prelude.{◌≡◌};
 ghost use Rattle.look_state.specs.Looks.{first_look, look_at};
 
 use crate::moment::Moment;
@@ -12,8 +12,6 @@ use std::marker::Model;
 #[derive(Drop)]
 pub struct Look {
     at: Moment,
-    /// Whether quit, if it is posted, was posted since.
-    quit_is_new: bool,
     /// The dirty pixels of the thread's windows.
     seen: Vec<SeenWindow>,
 }
@@ -23,7 +21,7 @@ impl Model for Look {
 
     ghost Value = { LookView };
 
-    ghost view = { λ k. record { at = k.at; quit_is_new = k.quit_is_new; seen = k.seen.items } };
+    ghost view = { λ k. record { at = k.at; seen = k.seen.items } };
 }
 
 impl Look {
@@ -33,7 +31,6 @@ impl Look {
     {
         Look {
             at: Moment::start(),
-            quit_is_new: true,
             seen: Vec::new(alloc),
         }
     }
@@ -43,13 +40,6 @@ impl Look {
         ensures { result ≡ self.now.at }
     {
         self.at
-    }
-
-    /// Whether quit, if it is posted, was posted since.
-    pub fn quit_is_new(&self) -> bool
-        ensures { result ≡ self.now.quit_is_new }
-    {
-        self.quit_is_new
     }
 
     /// The dirty pixels of the thread's windows.
@@ -64,14 +54,6 @@ impl Look {
         ensures { self.new ≡ look_at at seen.items }
     {
         self.at = at;
-        self.quit_is_new = false;
         self.seen = seen;
-    }
-
-    /// Notes that quit was posted.
-    pub(crate) fn note_quit(&mut self)
-        ensures { self.new ≡ record self.old { quit_is_new = true } }
-    {
-        self.quit_is_new = true;
     }
 }

@@ -3,14 +3,14 @@
 ghost use Rattle.std.specs.Prelude.{◌≡◌, ◌==◌, ◌-◌, ◌<◌, ◌≤◌, if◌then◌else◌, [], All, IfOk, length, slice_index_or};
 ghost use Rattle.user_model.specs.declared.entry.Setup.{Setup};
 ghost use Rattle.user_model.specs.Past.{is_refusal};
-ghost use Rattle.look_state.specs.Looks.{AreLooksAt, EachLook, LookView, first_look, look_after, look_at, posts_quit, quit_noted};
+ghost use Rattle.look_state.specs.Looks.{AreLooksAt, EachLook, LookView, first_look, look_after, look_at};
 
 use crate::look::Look;
 use crate::moment::Moment;
 use crate::seen::{SeenWindow, is_look};
 use std::alloc::{AllocError, Global};
 use std::marker::Model;
-use user_model::{Answer, Call, Entry};
+use user_model::{Answer, Entry};
 use win_num::Thread;
 
 /// What was there for each thread when it looked last, from thread 1 on.
@@ -46,20 +46,13 @@ impl Looks {
         &self.looks[usize::from(thread - 1)]
     }
 
-    /// Notes what an entry leaves for its thread, where it is a look, or that quit is posted. `after` is how far the history comes
-    /// with the entry, and `seen` are the dirty pixels at it.
+    /// Notes what an entry leaves for its thread, where it is a look. `after` is how far the history comes with the entry, and `seen`
+    /// are the dirty pixels at it.
     pub fn follow(&mut self, entry: Entry, after: Moment, seen: Vec<SeenWindow>)
         ensures { EachLook (λ t. look_after t entry after seen.items) self.old self.new }
     {
-        if is_refusal(entry.answer) {
-            return;
-        }
-        if is_look(entry.call) {
+        if !is_refusal(entry.answer) && is_look(entry.call) {
             note_look(&mut self.looks, entry.who, after, seen);
-            return;
-        }
-        if posts_quit(entry.call) {
-            note_quit(&mut self.looks, entry.who);
         }
     }
 }
@@ -83,16 +76,6 @@ fn is_refusal(answer: Answer) -> bool
     matches!(answer, Answer::Refused(_))
 }
 
-/// Whether the call posts quit.
-fn posts_quit(call: Call) -> bool
-    ensures { result ≡ posts_quit call }
-{
-    match call {
-        Call::PostQuit(_) => true,
-        _ => false,
-    }
-}
-
 /// Notes what was there for a thread that looks.
 fn note_look(looks: &mut Vec<Look>, who: Thread, at: Moment, seen: Vec<SeenWindow>)
     ensures { EachLook (λ t k. if who.0 == t then look_at at seen.items else k) looks.old.items looks.new.items }
@@ -102,15 +85,4 @@ fn note_look(looks: &mut Vec<Look>, who: Thread, at: Moment, seen: Vec<SeenWindo
         return;
     }
     looks[thread - 1].renew(at, seen);
-}
-
-/// Notes that a thread posts quit.
-fn note_quit(looks: &mut Vec<Look>, who: Thread)
-    ensures { EachLook (λ t k. if who.0 == t then quit_noted k else k) looks.old.items looks.new.items }
-{
-    let thread = usize::from(who.0);
-    if thread == 0 || thread > looks.len() {
-        return;
-    }
-    looks[thread - 1].note_quit();
 }

@@ -3,14 +3,12 @@
 ghost use Rattle.std.specs.Prelude.{◌≡◌, []};
 ghost use Rattle.look_state.specs.Looks.{moment_at};
 
-/// How many entries there were, of them posts, inputs and sends, and the clock.
+/// How many entries there were, of them inputs and sends, and the clock.
 #[derive(Clone, Copy, Debug, PartialEq, Eq)]
 pub struct Moment {
     /// Also the place of the next entry.
     pub entries: u32,
-    /// The number of the last post, counted from 1 over all threads, or 0.
-    pub posts: u32,
-    /// The number of the last input, or 0.
+    /// The number of the last input, counted from 1 over all threads, or 0.
     pub inputs: u32,
     /// The number of the last send, or 0.
     pub sends: u32,
@@ -25,7 +23,6 @@ impl Moment {
     {
         Moment {
             entries: 0,
-            posts: 0,
             inputs: 0,
             sends: 0,
             time: 0,

@@ -12,6 +12,7 @@ mod told;
 use lines::{Line, range_of};
 use std::alloc::{AllocError, Global};
 use std::io::{BufRead, BufReader};
+use std::mem;
 use told::Told;
 use user_core::User;
 use user_model::{Machine, Setup};
@@ -27,7 +28,8 @@ fn is_count(threads: u8) -> bool
 fn renew(alloc: Global, machine: &mut User, threads: u8) -> Result<(), AllocError>
     requires { (1 ≤ threads) × (threads ≤ 15) }
 {
-    *machine = User::new(alloc, Setup::new(threads, 8, 4))?;
+    let new = User::new(alloc, Setup::new(threads, 8, 4))?;
+    drop(mem::replace(machine, new));
     Ok(())
 }
 
@@ -104,5 +106,7 @@ fn run(rt: &HostRuntime, alloc: Global, machine: &mut User) -> anyhow::Result<()
 fn main(rt: HostRuntime) -> anyhow::Result<()> {
     let alloc = rt.alloc();
     let mut machine = User::new(alloc, Setup::new(1, 8, 4))?;
-    run(&rt, alloc, &mut machine)
+    let told = run(&rt, alloc, &mut machine);
+    drop(machine);
+    told
 }

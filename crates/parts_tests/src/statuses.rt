@@ -1,60 +1,49 @@
-use crate::facts::hold;
-use queue_status::Bits;
+//! Worked examples of counts for the status.
 
-/// QS_POSTMESSAGE and QS_SENDMESSAGE.
-const POSTED: u16 = 8;
+use queue_status::Count;
 
-const SENT: u16 = 64;
-
-#[test]
-fn bits_come_and_go(rt: HostRuntime) {
-    let mut bits = Bits::new();
-    let empty = [bits.now() == 0, bits.since() == 0];
-    bits.came(POSTED);
-    bits.came(POSTED);
-    bits.came(SENT);
-    let full = [bits.now() == 72, bits.since() == 72];
-    bits.gone(POSTED, true);
-    let one_left = [bits.now() == 72, bits.since() == 72];
-    bits.gone(POSTED, true);
-    let none_left = [bits.now() == 64, bits.since() == 64];
-    hold(&rt, &empty);
-    hold(&rt, &full);
-    hold(&rt, &one_left);
-    hold(&rt, &none_left);
+/// What a count is told.
+#[derive(Clone, Copy)]
+enum Step {
+    /// A message comes, which came since the last look or not.
+    Add(bool),
+    /// Such a message goes.
+    Remove(bool),
+    /// The thread looks.
+    Look,
 }
 
-#[test]
-fn bits_at_a_look(rt: HostRuntime) {
-    let mut bits = Bits::new();
-    bits.came(POSTED);
-    bits.came(SENT);
-    bits.looked();
-    let seen = [bits.now() == 72, bits.since() == 0];
-    bits.came(SENT);
-    let one_more = [bits.now() == 72, bits.since() == 64];
-    bits.gone(SENT, false);
-    bits.gone(POSTED, false);
-    let old_gone = [bits.now() == 64, bits.since() == 64];
-    hold(&rt, &seen);
-    hold(&rt, &one_more);
-    hold(&rt, &old_gone);
-}
-
-/// The bit that a message of one kind alone gives, before and after a look.
-fn alone(bit: u16) -> (u16, u16) {
-    let mut bits = Bits::new();
-    bits.came(bit);
-    let since = bits.since();
-    bits.looked();
-    (since, bits.now())
-}
-
-#[test]
-fn each_kind_has_its_bit(rt: HostRuntime) {
-    for bit in [1, 2, 4, 8, 16, 32, 64] {
-        hold(&rt, &[alone(bit) == (bit, bit)]);
+/// Tells a count, where it is one that it can be told.
+fn tell(count: &mut Count, step: Step) {
+    match step {
+        Step::Add(fresh) if count.fresh <= count.there && count.there < u32::MAX => count.add(
+            fresh,
+        ),
+        Step::Remove(true) if 0 < count.fresh && count.fresh <= count.there => count.remove(true),
+        Step::Remove(false) if count.fresh < count.there => count.remove(false),
+        Step::Look => count.look(),
+        Step::Add(_) | Step::Remove(_) => {}
     }
-    // a number that is no kind's bit
-    hold(&rt, &[alone(3) == (0, 0), alone(128) == (0, 0)]);
+}
+
+#[test]
+fn messages_come_and_go(rt: HostRuntime) {
+    let mut count = Count::none();
+    assert!(rt; !count.is_there() && !count.is_fresh());
+    for (step, there, fresh) in [
+        (Step::Add(true), 1, 1),
+        (Step::Add(true), 2, 2),
+        (Step::Remove(true), 1, 1),
+        (Step::Look, 1, 0),
+        (Step::Add(true), 2, 1),
+        (Step::Add(false), 3, 1),
+        (Step::Remove(false), 2, 1),
+        (Step::Remove(true), 1, 0),
+        (Step::Remove(false), 0, 0),
+    ] {
+        tell(&mut count, step);
+        assert_eq!(rt; count, Count { there, fresh });
+        assert_eq!(rt; count.is_there(), there > 0);
+        assert_eq!(rt; count.is_fresh(), fresh > 0);
+    }
 }

@@ -48,15 +48,25 @@ fn set_three(rt: &impl Abort, timers: &mut Timers) {
     hold(rt, &facts);
 }
 
+/// The first timer of thread 1 that is due at this time.
+fn first(timers: &Timers, now: u64) -> Option<Timer> {
+    timers.first_due(THREAD, |_| true, now)
+}
+
+/// When the next timer of a thread is due.
+fn next(timers: &Timers, thread: Thread) -> Option<u64> {
+    timers.next_due(thread, |_| true)
+}
+
 fn due_in_order(rt: &impl Abort, timers: &mut Timers) {
     let facts = [
-        timers.first_due(THREAD, |_| true, 9) == None,
-        timers.first_due(THREAD, |_| true, 10) == due(1, 10),
+        first(timers, 9) == None,
+        first(timers, 10) == due(1, 10),
         timers.first_due(THREAD, |timer| timer.id != 1, 10) == due(2, 10),
-        timers.next_due(THREAD, |_| true) == Some(10),
+        next(timers, THREAD) == Some(10),
         timers.set(THREAD, WINDOW, 1, 10, 0) == Ok(()),
         // 1 was set anew
-        timers.first_due(THREAD, |_| true, 10) == due(2, 10),
+        first(timers, 10) == due(2, 10),
     ];
     hold(rt, &facts);
 }
@@ -75,18 +85,18 @@ fn restarted_and_killed(rt: &impl Abort, timers: &mut Timers) {
 fn purged(rt: &impl Abort, timers: &mut Timers) {
     timers.purge(Hwnd(17));
     let facts = [
-        timers.next_due(Thread(2), |_| true) == None,
-        timers.next_due(THREAD, |_| true) == Some(45),
+        next(timers, Thread(2)) == None,
+        next(timers, THREAD) == Some(45),
     ];
     hold(rt, &facts);
     timers.purge_those(|w: Hwnd| -> bool { w == WINDOW });
-    hold(rt, &[timers.next_due(THREAD, |_| true) == None]);
+    hold(rt, &[next(timers, THREAD) == None]);
 }
 
 fn ended(rt: &impl Abort, timers: &mut Timers) {
     let facts = [
         timers.set(Thread(2), Hwnd(17), 3, 10, 0) == Ok(()),
-        timers.next_due(Thread(2), |_| true) == Some(10),
+        next(timers, Thread(2)) == Some(10),
     ];
     hold(rt, &facts);
     timers.end(Thread(2));

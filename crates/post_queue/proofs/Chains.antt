@@ -4,7 +4,7 @@ use Rattle.std.proofs.lemmas.Bool.{eq-eqb, ne_eqb}
 use Rattle.slab.specs.Slab.{Slab, get, with_value}
 use Rattle.slab.proofs.SlabLemmas.{Updates-with_value}
 use Rattle.post_queue.specs.declared.slot.Slot.{Slot}
-use Rattle.post_queue.specs.Queue.{Posted, post_of}
+use Rattle.post_queue.specs.Queue.{Posted, Rises, post_of}
 use Rattle.post_queue.specs.Chains.{posted_of, posted_at, first_key, last_key, above_all, IsHeld, Linked, IsAfterChanged, IsBeforeChanged, IsChangedAt}
 
 pub some_same : {A : Type 0} (a c : A) → Some a ≡ Some c → a ≡ c
@@ -51,6 +51,13 @@ posted_append g (e ∷ us) vs = pick (posted_append g us vs) (g e.1) refl
 pub posted_length : (g : ℕ → Option Slot) (prev : Option ℕ) (from : ℕ) (es : List (ℕ × ℕ)) (next : Option ℕ) → Linked g prev from es next → length (posted_at g es) ≡ length es
 posted_length g prev from [] next h = refl
 posted_length g prev from (e ∷ es) next h = ap length (posted_here g e es h.0.held h.0.here) ∙ ap suc (posted_length g (Some e.1) (suc e.0) es next h.1)
+
+-- the numbers of the messages rise
+pub posted_rises : (g : ℕ → Option Slot) (prev : Option ℕ) (from : ℕ) (es : List (ℕ × ℕ)) (next : Option ℕ) → Linked g prev from es next → Rises from (posted_at g es)
+posted_rises g prev from [] next h = tt
+posted_rises g prev from (e ∷ es) next h =
+    subst (Rises from) (sym (posted_here g e es h.0.held h.0.here))
+    (omega (arith, h.0.rises, h.0.number), subst (λ n. Rises (suc n) (posted_at g es)) (sym h.0.number) (posted_rises g (Some e.1) (suc e.0) es next h.1))
 
 -- slots that didn't change
 keep : (g g' : ℕ → Option Slot) (prev : Option ℕ) (from : ℕ) (es : List (ℕ × ℕ)) (next : Option ℕ) → Linked g prev from es next → ((c : ℕ) (z : Slot) → g c ≡ Some z → from ≤ z.number → g' c ≡ g c) → Linked g' prev from es next × (posted_at g' es ≡ posted_at g es)

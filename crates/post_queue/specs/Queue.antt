@@ -1,5 +1,5 @@
 -- Posted messages in posted order.
-use Rattle.std.specs.Prelude.{◌≡◌, ℕ, ◌+◌, ◌==◌, nat_lt, Bool, true, false, not, ◌&&◌, List, length, take, filter, count_by, find, All, Option, Some, None, option_map, slice_get}
+use Rattle.std.specs.Prelude.{◌≡◌, ◌≤◌, ℕ, suc, ◌+◌, ◌==◌, nat_lt, Bool, true, false, not, ◌&&◌, List, [], ◌∷◌, length, take, filter, count_by, find, All, Option, Some, None, option_map, slice_get}
 use Rattle.win_num.specs.declared.message.Msg.{Msg}
 
 -- a posted message with its number
@@ -39,6 +39,11 @@ without_number ps number = filter (λ p. not (p.number == number)) ps
 -- without the messages for a window
 abbrev pub without_window : List Posted → ℕ → List Posted
 without_window ps w = filter (λ p. not (is_for w p)) ps
+
+-- the numbers rise, and none is less than this
+abbrev pub Rises : ℕ → List Posted → Type 0
+Rises from [] = Unit {0}
+Rises from (p ∷ ps) = (from ≤ p.number) × Rises (suc p.number) ps
 
 -- how many are for a window
 abbrev pub count_for : List Posted → ℕ → ℕ

@@ -1,6 +1,6 @@
 //! Slots that are linked in posted order.
 
-ghost use Rattle.std.specs.Prelude.{◌≡◌, ◌++◌, ◌∷◌, [], ◌<◌, ◌≤◌, ◌^◌, ℕ, Bool, List, nat_lt, not, filter, OnOk, OnErr, All, length};
+ghost use Rattle.std.specs.Prelude.{◌≡◌, ◌++◌, ◌∷◌, [], ◌<◌, ◌≤◌, ◌^◌, ℕ, Bool, List, nat_lt, not, filter, count_by, OnOk, OnErr, All, length};
 ghost use Rattle.std.specs.Fn.{FnReturnsAt};
 ghost use Rattle.std.specs.List.{list_any};
 ghost use Rattle.win_num.specs.declared.message.Hwnd.{Hwnd};
@@ -124,6 +124,29 @@ pub(crate) fn has_above(chain: &Chain, number: u32) -> bool
         Some(slot) => number < slot.number,
         None => false,
     }
+}
+
+/// How many messages have a number above this.
+pub(crate) fn count_above(chain: &Chain, number: u32) -> u32
+    requires chain { IsChain chain.now }
+    requires few { length (posted_in chain.now) < 2 ^ 32 }
+    ensures { result ≡ count_by (λ p. nat_lt number p.number) (posted_in chain.now) }
+{
+    let mut count = 0;
+    let mut at = chain.first;
+    'slots: while let Some(key) = at {
+        let slot = &chain.slots[key];
+        count += one_above(slot, number);
+        at = slot.after;
+    }
+    count
+}
+
+/// One where the message has a number above this.
+fn one_above(slot: &Slot, number: u32) -> u32
+    ensures { result ≡ count_by (λ p. nat_lt number p.number) (posted_of slot.now ∷ []) }
+{
+    u32::from(number < slot.number)
 }
 
 /// How many messages are for the window, and how many of them have a number above `look`.

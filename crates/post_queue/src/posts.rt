@@ -1,13 +1,15 @@
 //! The queue of posted messages.
 
-ghost use Rattle.std.specs.Prelude.{ℕ, Bool, not, nat_lt, filter, find, option_map, ◌≡◌, ◌↔◌, ◌<◌, [], ◌∷◌, ◌++◌, All, OnOk, OnErr, IfErr, ◌⊎◌, length};
+ghost use Rattle.std.specs.Prelude.{ℕ, Bool, not, nat_lt, count_by, filter, find, option_map, ◌≡◌, ◌↔◌, ◌<◌, ◌≤◌, [], ◌∷◌, ◌++◌, All, OnOk, OnErr, IfErr, ◌⊎◌, length};
 ghost use Rattle.win_num.specs.declared.message.Hwnd.{Hwnd};
 ghost use Rattle.win_num.specs.declared.message.Msg.{Msg};
 ghost use Rattle.std.specs.Fn.{FnReturnsAt};
 ghost use Rattle.std.specs.List.{list_any};
-ghost use Rattle.post_queue.specs.Queue.{FindsFirst, count_above, count_for, message_of, pair_of, post_of, queue, without_number, without_window};
+ghost use Rattle.post_queue.specs.Queue.{FindsFirst, Rises, count_above, count_for, message_of, pair_of, post_of, queue, without_number, without_window};
 
-use crate::chain::{Chain, clear, counted, first_in, has_above, no_messages, purge, push, take};
+use crate::chain::{
+    Chain, clear, count_above, counted, first_in, has_above, no_messages, purge, push, take,
+};
 use crate::steps::Steps;
 use std::alloc::Global;
 use std::marker::Model;
@@ -80,8 +82,9 @@ impl Posts {
         first_in(&self.chain, pass, steps)
     }
 
-    /// Takes out the message with the number. None comes exactly where the queue has no such message.
+    /// Takes out the message with the number, which no other has. None comes exactly where the queue has no such message.
     pub fn remove(&mut self, number: u32) -> Option<Msg>
+        ensures rises { Rises 0 self.old.posted }
         ensures message { result ≡ message_of self.old.posted number }
         ensures rest { self.new ≡ queue self.old.limit (without_number self.old.posted number) }
     {
@@ -103,7 +106,10 @@ impl Posts {
     /// Takes out the messages whose window goes: those for which `goes` answers true.
     pub fn purge_each<F: Fn(Hwnd) -> bool>(&mut self, goes: F)
         requires { F.IsAlwaysCallable goes }
-        ensures { (test : ℕ → Bool) → ((w : Hwnd) (b : Bool) → F.post goes w b → b ≡ test w.0) → self.new ≡ queue self.old.limit (filter (λ p. not (test p.msg.hwnd.0)) self.old.posted) }
+        ensures rest { (test : ℕ → Bool) → ((w : Hwnd) (b : Bool) → F.post goes w b → b ≡ test w.0) → self.new ≡ queue self.old.limit (filter (λ p. not (test p.msg.hwnd.0)) self.old.posted) }
+        // whatever the closure answers
+        ensures limit { self.new.limit ≡ self.old.limit }
+        ensures fewer { length self.new.posted ≤ length self.old.posted }
     {
         purge(&mut self.chain, goes);
     }
@@ -113,6 +119,13 @@ impl Posts {
         ensures { result ≡ list_any (λ p. nat_lt number p.number) self.now.posted }
     {
         has_above(&self.chain, number)
+    }
+
+    /// How many messages have a number above this. No message is read.
+    pub fn count_above(&self, number: u32) -> u32
+        ensures { result ≡ count_by (λ p. nat_lt number p.number) self.now.posted }
+    {
+        count_above(&self.chain, number)
     }
 
     /// Takes all messages out.

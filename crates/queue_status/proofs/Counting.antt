@@ -4,10 +4,9 @@ use Rattle.std.specs.Prelude.{◌||◌, filter, nat_lt, not}
 use Rattle.std.specs.List.{AllByRecursion, count_by, list_any}
 use Rattle.std.proofs.lemmas.Bool.Decides.{nat_tests}
 use Rattle.std.proofs.lemmas.List.Sums.{count_by-le-length, sum_by-append}
-use Rattle.win_num.specs.declared.names.TheConstants.{QS_POSTMESSAGE, QS_SENDMESSAGE}
 use Rattle.queue_status.specs.declared.count.Count.{Count}
 use Rattle.queue_status.specs.Counting.{both, counted}
-use Rattle.queue_status.specs.Counts.{MayGo, bit_where, bits_where, is_fresh, is_there, no_counts, none_fresh, none_there, one_less, one_more}
+use Rattle.queue_status.specs.Counts.{MayGo, is_fresh, is_there, none_fresh, one_less, one_more}
 
 -- ---- counts of lists
 
@@ -54,12 +53,13 @@ both_fresh a b = or_above a.fresh b.fresh
 
 -- ---- what comes and goes
 
--- one that came since the look comes last
-pub comes : {A : Type 0} (is_new : A → Bool) (xs : List A) (x : A) → is_new x ≡ true → counted is_new (xs ++ x ∷ []) ≡ one_more (counted is_new xs)
-comes is_new xs x e =
-    let m : length (xs ++ x ∷ []) ≡ length xs + 1 = length-append xs (x ∷ []) in
-    let n : count_by is_new (xs ++ x ∷ []) ≡ count_by is_new xs + 1 = count_joined is_new xs (x ∷ []) ∙ ap (λ b. count_by is_new xs + (0 + one b)) e in
-    same_count (length (xs ++ x ∷ [])) (length xs + 1) (count_by is_new (xs ++ x ∷ [])) (count_by is_new xs + 1) m n
+more_by : (b : Bool) (m k n l : ℕ) → k ≡ m + 1 → l ≡ n + one b → (let c : Count = record { there = k; fresh = l } in c) ≡ one_more b (record { there = m; fresh = n })
+more_by true m k n l e f = same_count k (m + 1) l (n + 1) e f
+more_by false m k n l e f = same_count k (m + 1) l n e (omega (arith, f))
+
+-- one comes last
+pub comes : {A : Type 0} (is_new : A → Bool) (xs : List A) (x : A) → counted is_new (xs ++ x ∷ []) ≡ one_more (is_new x) (counted is_new xs)
+comes is_new xs x = more_by (is_new x) (length xs) (length (xs ++ x ∷ [])) (count_by is_new xs) (count_by is_new (xs ++ x ∷ [])) (length-append xs (x ∷ [])) (count_joined is_new xs (x ∷ []) ∙ ap (λ n. count_by is_new xs + n) (zero-add (one (is_new x))))
 
 less_by : (b : Bool) (m k n l : ℕ) → m ≡ k + 1 → n ≡ one b + l → one_less b (record { there = m; fresh = n }) ≡ record { there = k; fresh = l }
 less_by true m k n l e f = same_count (m - 1) k (n - 1) l (omega (arith, e)) (omega (arith, f))
@@ -114,7 +114,19 @@ none_new p (x ∷ xs) h = count_first p x xs ∙ ap (λ b. one b + count_by p xs
 pub looks : {A : Type 0} (is_new was_new : A → Bool) (xs : List A) → AllByRecursion (λ x. is_new x ≡ false) xs → counted is_new xs ≡ none_fresh (counted was_new xs)
 looks is_new was_new xs h = same_count (length xs) (length xs) (count_by is_new xs) 0 refl (none_new is_new xs h)
 
--- ---- the bits of two kinds
+-- ---- two counts taken as one
 
-pub two_bits : (test : Count → Bool) (a b : Count) → test none_there ≡ false → bits_where test (record no_counts { posted = a; sent = b }) ≡ bit_where (test a) QS_POSTMESSAGE + bit_where (test b) QS_SENDMESSAGE
-two_bits test a b none = rw none (omega arith)
+pub swapped : (a b : Count) → both a b ≡ both b a
+swapped a b = same_count (a.there + b.there) (b.there + a.there) (a.fresh + b.fresh) (b.fresh + a.fresh) (omega arith) (omega arith)
+
+pub sound_beside : {A : Type 0} (is_new : A → Bool) (xs : List A) (c : Count) → c.fresh ≤ c.there → (both (counted is_new xs) c).fresh ≤ (both (counted is_new xs) c).there
+sound_beside is_new xs c h = omega (arith, h, fewer is_new xs)
+
+pub comes_beside : {A : Type 0} (is_new : A → Bool) (xs : List A) (x : A) (c : Count) → both (counted is_new (xs ++ x ∷ [])) c ≡ one_more (is_new x) (both (counted is_new xs) c)
+comes_beside is_new xs x c = more_by (is_new x) (length xs + c.there) (length (xs ++ x ∷ []) + c.there) (count_by is_new xs + c.fresh) (count_by is_new (xs ++ x ∷ []) + c.fresh) (omega (arith, length-append xs (x ∷ []))) (omega (arith, count_joined is_new xs (x ∷ []), zero-add (one (is_new x))))
+
+pub goes_beside : {A : Type 0} (is_new : A → Bool) (us vs : List A) (x : A) (c : Count) → one_less (is_new x) (both (counted is_new (us ++ x ∷ vs)) c) ≡ both (counted is_new (us ++ vs)) c
+goes_beside is_new us vs x c = less_by (is_new x) (length (us ++ x ∷ vs) + c.there) (length (us ++ vs) + c.there) (count_by is_new (us ++ x ∷ vs) + c.fresh) (count_by is_new (us ++ vs) + c.fresh) (omega (arith, more_by_one us vs x)) (omega (arith, fresh_by_one is_new us vs x))
+
+pub may_go_beside : {A : Type 0} (is_new : A → Bool) (us vs : List A) (x : A) (c : Count) → c.fresh ≤ c.there → MayGo (is_new x) (both (counted is_new (us ++ x ∷ vs)) c)
+may_go_beside is_new us vs x c h = may_by (is_new x) (length (us ++ x ∷ vs) + c.there) (length (us ++ vs) + c.there) (count_by is_new (us ++ x ∷ vs) + c.fresh) (count_by is_new (us ++ vs) + c.fresh) (omega (arith, more_by_one us vs x)) (omega (arith, fresh_by_one is_new us vs x)) (omega (arith, h, fewer is_new (us ++ vs)))

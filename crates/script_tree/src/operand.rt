@@ -1,7 +1,7 @@
 //! Operands and tests.
 
 /// One of the eight variables that a script sets, `a` to `h`.
-#[derive(Clone, Copy, Debug, PartialEq, Eq)]
+#[derive(Clone, Copy, PartialEq, Eq)]
 pub enum Letter {
     A,
     B,
@@ -14,7 +14,7 @@ pub enum Letter {
 }
 
 /// A variable of a thread. All are 64-bit numbers, and 0 at its start.
-#[derive(Clone, Copy, Debug, PartialEq, Eq)]
+#[derive(Clone, Copy, PartialEq, Eq)]
 pub enum Variable {
     /// `a` to `h`.
     Letter(Letter),
@@ -44,7 +44,7 @@ pub enum Variable {
 
 /// What stands in a place for a number. Operands that are spelled differently are different, also
 /// where they have the same value.
-#[derive(Clone, Copy, Debug, PartialEq, Eq)]
+#[derive(Clone, Copy, PartialEq, Eq)]
 pub enum Operand {
     /// A number in decimal.
     Number(u64),
@@ -60,7 +60,7 @@ pub enum Operand {
 }
 
 /// An operator, modulo 2^64.
-#[derive(Clone, Copy, Debug, PartialEq, Eq)]
+#[derive(Clone, Copy, PartialEq, Eq)]
 pub enum Operator {
     /// `+`
     Plus,
@@ -73,7 +73,7 @@ pub enum Operator {
 }
 
 /// A comparison of numbers without sign.
-#[derive(Clone, Copy, Debug, PartialEq, Eq)]
+#[derive(Clone, Copy, PartialEq, Eq)]
 pub enum Comparison {
     /// `=`
     Equal,
@@ -84,7 +84,7 @@ pub enum Comparison {
 }
 
 /// Two operands and how they must compare.
-#[derive(Clone, Copy, Debug, PartialEq, Eq)]
+#[derive(Clone, Copy, PartialEq, Eq)]
 pub struct Test {
     pub left: Operand,
     pub comparison: Comparison,

@@ -5,7 +5,7 @@ use crate::operand::{Letter, Operand, Operator, Test};
 /// A statement that makes one call, with its operands in the order in which they are written. A class, a
 /// title or a name is its place in the list of names, and a procedure its place in the list of procedures,
 /// both from 0.
-#[derive(Clone, Copy, Debug, PartialEq, Eq)]
+#[derive(Clone, Copy)]
 pub enum CallStatement {
     /// `peek W MIN MAX FLAGS` (Microsoft, PeekMessage function).
     Peek(Operand, Operand, Operand, Operand),
@@ -96,7 +96,7 @@ pub enum CallStatement {
 
 /// A compound statement that makes a call and then sends messages, that goes through the top-level windows, or
 /// that is a loop of messages or a dialog with one, with its operands in the order in which they are written.
-#[derive(Clone, Copy, Debug, PartialEq, Eq)]
+#[derive(Clone, Copy, PartialEq, Eq)]
 pub enum CompoundStatement {
     /// `show_window W ON` (Microsoft, ShowWindow function).
     ShowWindow(Operand, Operand),
@@ -128,7 +128,7 @@ pub enum CompoundStatement {
 }
 
 /// What `create` makes a window of (Microsoft, CreateWindowEx function).
-#[derive(Clone, Copy, Debug, PartialEq, Eq)]
+#[derive(Clone, Copy)]
 pub struct Creation {
     /// The class, a place in the list of names.
     pub class: u32,

@@ -132,7 +132,7 @@ module _ (setup : Setup) (past : Past) (e : Entry) (f : ℕ) (x : SentMsg) (v : 
             let ours : IsOurs setup x.from = is_ours setup x.from (standing.sent f x is.found).from_thread in
             let can : CanJoin p.lists x.from (rank (place_after past) 0) f = can-join setup past p x.from f lawful h ours few (inl (ap (λ (o : Option KnownSend). is_some o) has)) unlisted in
             let joined : ListsStand setup (e ∷ past) (with_entry p.lists x.from (rank (place_after past) 0) (ReadyResult (record { 0 = x.number }))) =
-            lists-joined setup e past p.lists x.from f (to_call_back x kind.0 kind.1 (place_after past)) ours (sym number)
+            lists-joined setup e past p.lists x.from f (to_call_back x kind.0 kind.1 (place_after past)) ours (sym number) refl
             (λ t. ready-answered unlisted t ∙ ap (λ l. ready past t ++ l) (one_comes setup past f x standing is.found is.unanswered kind.0 kind.1 outside kind.2 (not_true (has_ended past x.from) parts.1) t)) can h.lists in
             subst (λ b. ListsStand setup (e ∷ past) (cond b (with_entry p.lists x.from (rank (place_after past) 0) (ReadyResult (record { 0 = f }))) p.lists)) (sym k)
             (subst (λ n. ListsStand setup (e ∷ past) (with_entry p.lists x.from (rank (place_after past) 0) (ReadyResult (record { 0 = n })))) number joined)

@@ -21,17 +21,19 @@ use Rattle.user_model.specs.Places.{has_ended, is_end}
 use Rattle.user_model.specs.Stacks.{stack, stacked}
 use Rattle.user_model.specs.Sends.{SentMsg, Outcome, answer, answers, calls_back, enters, is_answered, is_callback_kind, is_owed, names_send, send, sends, sends_by, was_called_back}
 use Rattle.user_model.specs.SendStories.{was_handed_on}
-use Rattle.user_model.specs.Ready.{ReadyMsg, to_enter, to_call_back, arrives, begun as begun_msg, departs, is_answered_by, ready, result}
+use Rattle.user_model.specs.Ready.{ReadyMsg, to_enter, to_call_back, arrives, begun as begun_msg, departs, is_answered_by, place_of, ready, result}
 use Rattle.user_model.proofs.ListLaws.{all_weaker, filter_all}
 use Rattle.user_model.proofs.SendLaws.{ready-next, send-next, sends-next, stack-same}
 use Rattle.user_model.proofs.SendStanding.{CountsFrom, ReadyStands, Standing}
 use Rattle.send_frames.specs.Book.{Book, KnownSend, frame_at_begin, is_callback, is_inside, is_owed_at_begin, is_waiting, new_send, stack_of, with_top}
+use Rattle.send_variants.specs.declared.ready.Ready.{Ready}
 use Rattle.send_variants.specs.declared.ready.Ready.TheVariants.{Send as ReadySend}
 use Rattle.send_variants.specs.Lists.{AreBelow, Entry as Item, count_on, list_of, named_by as send_of}
 use Rattle.send_variants.proofs.Entries.{sound-put}
 use Rattle.send_state.specs.Parts.{CanJoin, SendParts, begun, lists_begun, rank, with_entry}
-use Rattle.send_state.specs.Standing.{IsOurs, ListsStand, PartsStand, as_told, item, known_at, known_of, ready_as, row_of}
+use Rattle.send_state.specs.Standing.{IsOurs, ListsStand, PartsStand, as_told, item, item_as, known_at, known_of, ready_as, row_of}
 use Rattle.send_state.proofs.Still.{and-false, answer-same, filter_none, is_owed-same}
+use Rattle.send_state.proofs.Ranks.{rank-place}
 use Rattle.send_state.proofs.StandStill.{below_next, stacks-changed}
 use Rattle.send_state.proofs.Serving.{eqb_itself}
 use Rattle.send_state.proofs.Entering.{known_of-fresh, record_id}
@@ -48,15 +50,15 @@ pub each_push : (es : List Item) (x : Item) → each item (es ++ x ∷ []) ≡ e
 each_push [] x = refl
 each_push (e ∷ es) x = ap (λ l. item e ∷ l) (each_push es x)
 
-pub each_ready : (rs qs : List ReadyMsg) → each ready_as (rs ++ qs) ≡ each ready_as rs ++ each ready_as qs
+pub each_ready : (rs qs : List ReadyMsg) → each item_as (rs ++ qs) ≡ each item_as rs ++ each item_as qs
 each_ready [] qs = refl
-each_ready (r ∷ rs) qs = ap (λ l. ready_as r ∷ l) (each_ready rs qs)
+each_ready (r ∷ rs) qs = ap (λ l. item_as r ∷ l) (each_ready rs qs)
 
 -- what was ready stays, and one message more comes to a thread
-pub lists-joined : (setup : Setup) (e : Entry) (past : Past) (lists : List (List Item)) (t s : ℕ) (m : ReadyMsg) → IsOurs setup t → s ≡ send_of (ready_as m)
+pub lists-joined : (setup : Setup) (e : Entry) (past : Past) (lists : List (List Item)) (t s : ℕ) (m : ReadyMsg) → IsOurs setup t → s ≡ send_of (ready_as m) → place_of m ≡ place_after past
     → ((u : ℕ) → ready (e ∷ past) u ≡ ready past u ++ cond (eqb t u) (m ∷ []) []) → CanJoin lists t (rank (place_after past) 0) s → ListsStand setup past lists
     → ListsStand setup (e ∷ past) (with_entry lists t (rank (place_after past) 0) (ready_as m))
-lists-joined setup e past lists t s m ours is_s come can h = record {
+lists-joined setup e past lists t s m ours is_s at come can h = record {
   threads = length-set lists (t - 1) pushed ∙ h.threads;
   ready = λ u ours. joined u ours;
   below = λ u. lower u (eqb_tells (t - 1) (u - 1));
@@ -79,25 +81,26 @@ lists-joined setup e past lists t s m ours is_s come can h = record {
         subst (AreBelow (rank (place_after (e ∷ past)) 0)) (sym (get_or-set_other lists (t - 1) (u - 1) pushed [] differ)) (below_next e past (list_of lists u) (h.below u))
   ]
 
-  own : each item (get_or (set lists (t - 1) pushed) (t - 1) []) ≡ each ready_as (ready past t ++ m ∷ [])
+  own : each item (get_or (set lists (t - 1) pushed) (t - 1) []) ≡ each item_as (ready past t ++ m ∷ [])
   own =
-      ap (each item) same ∙ each_push (list_of lists t) (rank (place_after past) 0, ready_as m) ∙ ap (λ l. l ++ ready_as m ∷ []) (h.ready t ours)
+      ap (each item) same ∙ each_push (list_of lists t) (rank (place_after past) 0, ready_as m) ∙ ap (λ l. l ++ item (rank (place_after past) 0, ready_as m) ∷ []) (h.ready t ours)
+      ∙ ap (λ n. let x : ℕ × Ready = (n, ready_as m) in each item_as (ready past t) ++ x ∷ []) (rank-place (place_after past) 0 (omega arith) ∙ sym at)
       ∙ sym (each_ready (ready past t) (m ∷ []))
 
-  joined : (u : ℕ) → IsOurs setup u → each item (get_or (set lists (t - 1) pushed) (u - 1) []) ≡ each ready_as (ready (e ∷ past) u)
+  joined : (u : ℕ) → IsOurs setup u → each item (get_or (set lists (t - 1) pushed) (u - 1) []) ≡ each item_as (ready (e ∷ past) u)
   joined u theirs = elim (eqb_tells t u) [
-    | inl x ↦ subst (λ n. each item (get_or (set lists (t - 1) pushed) (n - 1) []) ≡ each ready_as (ready past n ++ m ∷ [])) x.1 own
-        ∙ sym (ap (each ready_as) (come u ∙ ap (λ b. ready past u ++ cond b (m ∷ []) []) x.0))
+    | inl x ↦ subst (λ n. each item (get_or (set lists (t - 1) pushed) (n - 1) []) ≡ each item_as (ready past n ++ m ∷ [])) x.1 own
+        ∙ sym (ap (each item_as) (come u ∙ ap (λ b. ready past u ++ cond b (m ∷ []) []) x.0))
     | inr x ↦ let apart : u - 1 ≢ t - 1 = omega (arith, x.1, ours.0, theirs.0) in
         ap (each item) (get_or-set_other lists (t - 1) (u - 1) pushed [] apart) ∙ h.ready u theirs
-        ∙ sym (ap (each ready_as) (come u ∙ ap (λ b. ready past u ++ cond b (m ∷ []) []) x.0 ∙ append-nil (ready past u)))
+        ∙ sym (ap (each item_as) (come u ∙ ap (λ b. ready past u ++ cond b (m ∷ []) []) x.0 ∙ append-nil (ready past u)))
   ]
 
 -- nothing more is ready
 pub lists-stay : (setup : Setup) (e : Entry) (past : Past) (lists : List (List Item)) → ((u : ℕ) → ready (e ∷ past) u ≡ ready past u) → ListsStand setup past lists → ListsStand setup (e ∷ past) lists
 lists-stay setup e past lists same h = record {
   threads = h.threads;
-  ready = λ u ours. h.ready u ours ∙ sym (ap (each ready_as) (same u));
+  ready = λ u ours. h.ready u ours ∙ sym (ap (each item_as) (same u));
   below = λ u. below_next e past (list_of lists u) (h.below u);
   sound = h.sound;
 }
@@ -118,6 +121,7 @@ pub record IsBeginning (past : Past) (e : Entry) (new : SentMsg) : Type 0 where
   pub enters_other : (q : ℕ) → eqb new.number q ≡ false → enters e.answer q ≡ false
   pub hands_none : (q : ℕ) → calls_back e.answer q ≡ false
   pub number : new.number ≡ suc (length (sends past))
+  pub place : new.place ≡ place_after past
   pub from : new.from ≡ e.who.0
   pub lives : has_ended past e.who.0 ≡ false
   pub own : eqb new.from new.to ≡ new.is_inside
@@ -271,7 +275,7 @@ module _ (setup : Setup) (past : Past) (e : Entry) (new : SentMsg) (is : IsBegin
       (subst (λ b. ListsStand setup (e ∷ past) (cond b lists (with_entry lists new.to (rank (place_after past) 0) (ReadySend (record_id new.number))))) (sym is.own) (by new.is_inside refl)) where
         by : (b : Bool) → new.is_inside ≡ b → ListsStand setup (e ∷ past) (cond b lists (with_entry lists new.to (rank (place_after past) 0) (ReadySend (record_id new.number))))
         by true i = lists-stay setup e past lists (λ u. ready-begun u ∙ ap (λ l. ready past u ++ l) (inside_none (eqb new.to u) i) ∙ append-nil (ready past u)) h
-        by false i = lists-joined setup e past lists new.to new.number (to_enter new) ours refl (λ u. ready-begun u ∙ ap (λ l. ready past u ++ l) (outside_one (eqb new.to u) i)) (can i) h
+        by false i = lists-joined setup e past lists new.to new.number (to_enter new) ours refl is.place (λ u. ready-begun u ∙ ap (λ l. ready past u ++ l) (outside_one (eqb new.to u) i)) (can i) h
 
   -- the send is known, its frame stands, and it joins the list of its receiver
   pub stand-begun : (p : SendParts) → IsOurs setup e.who.0 → IsOurs setup new.to → (new.is_inside ≡ false → CanJoin p.lists new.to (rank (place_after past) 0) new.number) → PartsStand setup past p

@@ -157,7 +157,7 @@ module _ (setup : Setup) (past : Past) (e : Entry) (s : SendId) (x : SentMsg) (c
       let stacks : (t : ℕ) → IsOurs setup t → stack_of b t ≡ stack (e ∷ past) t =
       stacks-changed setup past e p.book (CallbackRun ∷ stack_of p.book e.who.0) h.book.threads own h.book.stacks quiet-calling.right
       (ap (λ fs. CallbackRun ∷ fs) (h.book.stacks e.who.0 own) ∙ sym (framed (stack past e.who.0))) in
-      let stands : PartsStand setup (e ∷ past) (record { book = with_send b s.0 (known_as (e ∷ past) x); lists = without_head p.lists e.who.0 }) = record {
+      let stands : PartsStand setup (e ∷ past) (record p { book = with_send b s.0 (known_as (e ∷ past) x); lists = without_head p.lists e.who.0 }) = record {
         book = record {
           begun = h.book.begun ∙ sym (count-quiet e past quiet-calling);
           threads = as_many;
@@ -168,5 +168,5 @@ module _ (setup : Setup) (past : Past) (e : Entry) (s : SendId) (x : SentMsg) (c
       } in
       let is : forgotten_as b s.0 (map.get p.book.known s.0) ≡ with_send b s.0 (known_as (e ∷ past) x) =
       ap (forgotten_as b s.0) (h.book.known s.0 ∙ known_before) ∙ ap (with_send b s.0) known_later in
-      subst (λ r. PartsStand setup (e ∷ past) (record { book = book_served p.book e.who.0 r; lists = without_head p.lists e.who.0 })) (sym head)
-      (subst (λ c. PartsStand setup (e ∷ past) (record { book = c; lists = without_head p.lists e.who.0 })) (sym is) stands)
+      subst (λ r. PartsStand setup (e ∷ past) (record p { book = book_served p.book e.who.0 r; lists = without_head p.lists e.who.0 })) (sym head)
+      (subst (λ c. PartsStand setup (e ∷ past) (record p { book = c; lists = without_head p.lists e.who.0 })) (sym is) stands)

@@ -154,7 +154,7 @@ module _ (past : Past) (e : Entry) (s : SendId) (x : SentMsg) (entering : IsEnte
   pub stand-entered : (setup : Setup) (p : SendParts) → IsOurs setup e.who.0 → PartsStand setup past p → PartsStand setup (e ∷ past) (served p e.who.0)
   stand-entered setup p own h =
       let head : head_of p e.who.0 ≡ Some (ReadySend s) = head_of-stands setup past p e.who.0 own h ∙ ap (option_map ready_as) entering.is_first ∙ ap (λ i. Some (ReadySend i)) same_id in
-      let stands : PartsStand setup (e ∷ past) (record { book = pushed p.book e.who.0 (Entered s); lists = without_head p.lists e.who.0 }) = record {
+      let stands : PartsStand setup (e ∷ past) (record p { book = pushed p.book e.who.0 (Entered s); lists = without_head p.lists e.who.0 }) = record {
         book = record {
           begun = h.book.begun ∙ sym (count-quiet e past quiet-entering);
           threads = length-set p.book.stacks (e.who.0 - 1) (Entered s ∷ stack_of p.book e.who.0) ∙ h.book.threads;
@@ -164,4 +164,4 @@ module _ (past : Past) (e : Entry) (s : SendId) (x : SentMsg) (entering : IsEnte
         };
         lists = lists-served setup e past p.lists (to_enter x) quiet-entering own entering.is_first leaves-entering h.lists;
       } in
-      subst (λ r. PartsStand setup (e ∷ past) (record { book = book_served p.book e.who.0 r; lists = without_head p.lists e.who.0 })) (sym head) stands
+      subst (λ r. PartsStand setup (e ∷ past) (record p { book = book_served p.book e.who.0 r; lists = without_head p.lists e.who.0 })) (sym head) stands

@@ -21,7 +21,7 @@ use Rattle.user_model.proofs.ListLaws.{all_weaker, filter_all}
 use Rattle.user_model.proofs.SendLaws.{answer-stays, ready-next, sends-same}
 use Rattle.user_model.proofs.SendStanding.{ReadyStands, Standing}
 use Rattle.send_state.specs.Parts.{SendParts, finished, left, left_from, lists_answered_as, rank}
-use Rattle.send_state.specs.Standing.{IsOurs, PartsStand, as_told, known_as, known_at, known_of, ready_as, row_of}
+use Rattle.send_state.specs.Standing.{IsOurs, PartsStand, as_told, item_as, known_as, known_at, known_of, row_of}
 use Rattle.send_frames.specs.Book.{answered_as, answered_by, named_by, popped, stack_of}
 use Rattle.send_variants.specs.Lists.{list_of}
 use Rattle.send_state.proofs.Still.{and-false, answer-same, filter_none, is_owed-same}
@@ -137,7 +137,7 @@ module _ (setup : Setup) (past : Past) (e : Entry) (g : Frame) (f : ℕ) (x : Se
         book = stand-popped-named setup past e p.book g fs before f x finishing.names (send-kept f ∙ finishing.found) after (h.book.known f ∙ known_before ∙ ap Some known_later) (λ q differ. h.book.known q ∙ sym (others q differ));
         lists = record {
           threads = h.lists.threads;
-          ready = λ t ours. h.lists.ready t ours ∙ sym (ap (each ready_as) (ready-kept t));
+          ready = λ t ours. h.lists.ready t ours ∙ sym (ap (each item_as) (ready-kept t));
           below = λ t. below_next e past (list_of p.lists t) (h.lists.below t);
           sound = h.lists.sound;
         };
@@ -153,5 +153,5 @@ module _ (setup : Setup) (past : Past) (e : Entry) (g : Frame) (f : ℕ) (x : Se
       let lists : lists_answered_as p.lists s.0 (rank (place_after past) 0) (map.get p.book.known s.0) ≡ p.lists = ap (lists_answered_as p.lists s.0 (rank (place_after past) 0)) has in
       let is_top : slice_get (stack_of p.book e.who.0) 0 ≡ Some (Entered s) = ap (λ l. slice_get l 0) (h.book.stacks e.who.0 own ∙ finishing.is_stack) ∙ ap Some is_frame in
       subst (λ k. PartsStand setup (e ∷ past) (left_from p k e.who.0 v (rank (place_after past) 0))) (sym is_top)
-      (subst (λ b. PartsStand setup (e ∷ past) (record { book = popped b e.who.0; lists = lists_answered_as p.lists s.0 (rank (place_after past) 0) (map.get p.book.known s.0) })) (sym book)
-      (subst (λ l. PartsStand setup (e ∷ past) (record { book = popped p.book e.who.0; lists = l })) (sym lists) (stand-finished p after own h)))
+      (subst (λ b. PartsStand setup (e ∷ past) (record p { book = popped b e.who.0; lists = lists_answered_as p.lists s.0 (rank (place_after past) 0) (map.get p.book.known s.0) })) (sym book)
+      (subst (λ l. PartsStand setup (e ∷ past) (record p { book = popped p.book e.who.0; lists = l })) (sym lists) (stand-finished p after own h)))

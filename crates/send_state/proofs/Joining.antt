@@ -12,17 +12,17 @@ use Rattle.user_model.proofs.ReadyLaws.{IsPending, ready_pending}
 use Rattle.send_frames.specs.Book.{KnownSend}
 use Rattle.send_variants.specs.Lists.{Entry as Item, count_in, count_on, list_of, named_by as send_of, names}
 use Rattle.send_state.specs.Parts.{CanJoin, SendParts, rank}
-use Rattle.send_state.specs.Standing.{IsOurs, PartsStand, item, known_as, known_of, ready_as}
+use Rattle.send_state.specs.Standing.{IsOurs, PartsStand, item, item_as, known_as, known_of}
 use Rattle.send_state.proofs.Room.{named, total_bound, total_less}
 use Rattle.send_state.proofs.Serving.{about}
 
-named-from : (P : ℕ → Type 0) (es : List Item) (rs : List ReadyMsg) → each item es ≡ each ready_as rs → AllByRecursion (λ r. P (about r)) rs → AllByRecursion P (named es)
+named-from : (P : ℕ → Type 0) (es : List Item) (rs : List ReadyMsg) → each item es ≡ each item_as rs → AllByRecursion (λ r. P (about r)) rs → AllByRecursion P (named es)
 named-from P [] rs e all = tt
 named-from P (x ∷ es) [] e all = absurd cc
 named-from P (x ∷ es) (r ∷ rs) e all =
-    let head : item x ≡ ready_as r = cc in
-    let rest : each item es ≡ each ready_as rs = cc in
-    (subst P (sym (ap send_of head)) all.0, named-from P es rs rest all.1)
+    let head : item x ≡ item_as r = cc in
+    let rest : each item es ≡ each item_as rs = cc in
+    (subst P (sym (ap (λ a. send_of a.1) head)) all.0, named-from P es rs rest all.1)
 
 pub of_about : (past : Past) (r : ReadyMsg) (p : IsPending past r) → about r ≡ p.of.number
 of_about past r p = elim p.about [ inl e ↦ ap about e | inr e ↦ ap about e.2 ]

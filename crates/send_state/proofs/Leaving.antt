@@ -56,7 +56,7 @@ module _ (setup : Setup) (past : Past) (e : Entry) (s : SendId) (x : SentMsg) (v
       → stack past e.who.0 ≡ Entered s ∷ fs → ((l : List Frame) → stacked e.call e.answer l ≡ l) → PartsStand setup past p → PartsStand setup (e ∷ past) (replied p e.who.0 v (place_after past))
   stand-replied p fs lawful after own few unlisted cause is_stack frames h =
       let stacks : (t : ℕ) → IsOurs setup t → stack_of p.book t ≡ stack (e ∷ past) t = λ t ours. h.book.stacks t ours ∙ sym (stack-same e past t (frames (stack past t))) in
-      let stands : PartsStand setup (e ∷ past) (record { book = with_send p.book s.0 (known_as (e ∷ past) x); lists = lists_answered_as p.lists s.0 (rank (place_after past) 0) (map.get p.book.known s.0) }) = record {
+      let stands : PartsStand setup (e ∷ past) (record p { book = with_send p.book s.0 (known_as (e ∷ past) x); lists = lists_answered_as p.lists s.0 (rank (place_after past) 0) (map.get p.book.known s.0) }) = record {
         book = record {
           begun = h.book.begun ∙ sym (ap length (sends-same e past is.none_made));
           threads = h.book.threads;
@@ -67,7 +67,7 @@ module _ (setup : Setup) (past : Past) (e : Entry) (s : SendId) (x : SentMsg) (v
         lists = lists-answered setup past e s.0 x v c is standing p lawful few unlisted h;
       } in
       let by_cause = subst (λ d. PartsStand setup (e ∷ past) (answered p s.0 v d (rank (place_after past) 0))) cause
-      (subst (λ b. PartsStand setup (e ∷ past) (record { book = b; lists = lists_answered_as p.lists s.0 (rank (place_after past) 0) (map.get p.book.known s.0) })) (sym (answered-is p.book (h.book.known s.0))) stands) in
+      (subst (λ b. PartsStand setup (e ∷ past) (record p { book = b; lists = lists_answered_as p.lists s.0 (rank (place_after past) 0) (map.get p.book.known s.0) })) (sym (answered-is p.book (h.book.known s.0))) stands) in
       subst (λ o. PartsStand setup (e ∷ past) (replied_in p o v (rank (place_after past) 0))) (sym (top_is p.book fs own h.book.stacks is_stack)) by_cause
 
   -- ---- leaving
@@ -129,10 +129,10 @@ module _ (setup : Setup) (past : Past) (e : Entry) (s : SendId) (x : SentMsg) (v
       ∙ ap (λ b. list_any (λ f. names_send f x.number) (stack past x.from) || (b || list_any (λ f. names_send f x.number) fs)) (ap (λ n. eqb s.0 n) number ∙ eqb_itself s.0)
       ∙ or_true (list_any (λ f. names_send f x.number) (stack past x.from)) in
       let b : Book = with_send p.book s.0 (known_as (e ∷ past) x) in
-      let stands : PartsStand setup (e ∷ past) (record { book = popped b e.who.0; lists = lists_answered_as p.lists s.0 (rank (place_after past) 0) (map.get p.book.known s.0) }) = record {
+      let stands : PartsStand setup (e ∷ past) (record p { book = popped b e.who.0; lists = lists_answered_as p.lists s.0 (rank (place_after past) 0) (map.get p.book.known s.0) }) = record {
         book = book-left p.book (Entered s) fs after own framed refl (λ q differ. differ) is_stack frames h.book;
         lists = lists-answered setup past e s.0 x v c is standing p lawful few unlisted h;
       } in
-      let by_cause : PartsStand setup (e ∷ past) (left_from p (Some (Entered s)) e.who.0 v (rank (place_after past) 0)) = subst (λ d. PartsStand setup (e ∷ past) (record { book = popped (answered_by p.book s.0 (v, d)) e.who.0; lists = lists_answered_as p.lists s.0 (rank (place_after past) 0) (map.get p.book.known s.0) })) cause
-      (subst (λ a. PartsStand setup (e ∷ past) (record { book = popped a e.who.0; lists = lists_answered_as p.lists s.0 (rank (place_after past) 0) (map.get p.book.known s.0) })) (sym (answered-is p.book (h.book.known s.0))) stands) in
+      let by_cause : PartsStand setup (e ∷ past) (left_from p (Some (Entered s)) e.who.0 v (rank (place_after past) 0)) = subst (λ d. PartsStand setup (e ∷ past) (record p { book = popped (answered_by p.book s.0 (v, d)) e.who.0; lists = lists_answered_as p.lists s.0 (rank (place_after past) 0) (map.get p.book.known s.0) })) cause
+      (subst (λ a. PartsStand setup (e ∷ past) (record p { book = popped a e.who.0; lists = lists_answered_as p.lists s.0 (rank (place_after past) 0) (map.get p.book.known s.0) })) (sym (answered-is p.book (h.book.known s.0))) stands) in
       subst (λ o. PartsStand setup (e ∷ past) (left_from p o e.who.0 v (rank (place_after past) 0))) (sym (top_is p.book fs own h.book.stacks is_stack)) by_cause

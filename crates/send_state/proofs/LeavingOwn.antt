@@ -49,7 +49,7 @@ module _ (setup : Setup) (past : Past) (e : Entry) (s : SendId) (x : SentMsg) (v
 
   -- the parts where the frame is changed and the send has its answer
   abbrev changed_to : SendParts → Bool → Book → SendParts
-  changed_to p callback b = record { book = book_left callback b e.who.0; lists = lists_answered_as p.lists s.0 (rank (place_after past) 0) (map.get p.book.known s.0) }
+  changed_to p callback b = record p { book = book_left callback b e.who.0; lists = lists_answered_as p.lists s.0 (rank (place_after past) 0) (map.get p.book.known s.0) }
 
   as_left : (p : SendParts) (fs : List Frame) (callback : Bool) → IsOurs setup e.who.0 → stack past e.who.0 ≡ Inside s ∷ fs → is_callback_kind x.kind ≡ callback → PartsStand setup past p
       → PartsStand setup (e ∷ past) (changed_to p callback (with_send p.book s.0 (known_as (e ∷ past) x))) → PartsStand setup (e ∷ past) (left p e.who.0 v (place_after past))

@@ -1,5 +1,6 @@
 pub mod Steps
 pub mod Still
+pub mod Ranks
 pub mod StandStill
 pub mod Serving
 pub mod Entering
@@ -35,4 +36,5 @@ pub mod ToldEnded
 pub mod Counts
 pub mod Tallies
 pub mod Stories
+pub mod Marks
 pub mod Needs

@@ -11,7 +11,7 @@ use Rattle.send_variants.specs.Lists.{Entry as Item, all_without, count_in, coun
 use Rattle.send_frames.specs.Book.{Book, KnownSend, is_wanted, with_send}
 use Rattle.std.specs.Cmp.{nat_cmp_total}
 use Rattle.std.specs.FinMap.{get-insert, get-remove}
-use Rattle.send_state.specs.Standing.{item, ready_as}
+use Rattle.send_state.specs.Standing.{item, item_as}
 use Rattle.send_state.proofs.Serving.{about, eqb_itself}
 use Rattle.send_state.proofs.Settling.{by_key}
 
@@ -41,14 +41,14 @@ none_left s (es ∷ lists) = let here = none_in s es in let rest = none_left s l
 
 -- ---- whether a list has a send
 
-place_any : (s : ℕ) (es : List Item) (rs : List ReadyMsg) → each item es ≡ each ready_as rs → is_some (place_in s es) ≡ list_any (λ r. eqb (about r) s) rs
+place_any : (s : ℕ) (es : List Item) (rs : List ReadyMsg) → each item es ≡ each item_as rs → is_some (place_in s es) ≡ list_any (λ r. eqb (about r) s) rs
 place_any s [] [] e = refl
 place_any s [] (r ∷ rs) e = absurd cc
 place_any s (x ∷ es) [] e = absurd cc
 place_any s (x ∷ es) (r ∷ rs) e =
-    let head : item x ≡ ready_as r = cc in
-    let rest : each item es ≡ each ready_as rs = cc in
-    ap (λ b. is_some (cond b (Some x.0) (place_in s es))) (ap (λ a. eqb (send_of a) s) head) ∙ by (eqb (about r) s) (place_any s es rs rest) where
+    let head : item x ≡ item_as r = cc in
+    let rest : each item es ≡ each item_as rs = cc in
+    ap (λ b. is_some (cond b (Some x.0) (place_in s es))) (ap (λ a. eqb (send_of a.1) s) head) ∙ by (eqb (about r) s) (place_any s es rs rest) where
       by : (b : Bool) → is_some (place_in s es) ≡ list_any (λ r. eqb (about r) s) rs → is_some (cond b (Some x.0) (place_in s es)) ≡ (b || list_any (λ r. eqb (about r) s) rs)
       by true h = refl
       by false h = h
@@ -67,7 +67,7 @@ place_at s (es ∷ lists) zero h = some_or (place_in s es) (place_on s lists) �
 place_at s (es ∷ lists) (suc i) h = some_or (place_in s es) (place_on s lists) ∙ or_second (is_some (place_in s es)) (is_some (place_on s lists)) (place_at s lists i h)
 
 -- a list that is of ready messages has the send that one is about
-pub place_there : (s : ℕ) (lists : List (List Item)) (i : ℕ) (rs : List ReadyMsg) → each item (get_or lists i []) ≡ each ready_as rs → list_any (λ r. eqb (about r) s) rs ≡ true → is_some (place_on s lists) ≡ true
+pub place_there : (s : ℕ) (lists : List (List Item)) (i : ℕ) (rs : List ReadyMsg) → each item (get_or lists i []) ≡ each item_as rs → list_any (λ r. eqb (about r) s) rs ≡ true → is_some (place_on s lists) ≡ true
 place_there s lists i rs e h = place_at s lists i (place_any s (get_or lists i []) rs e ∙ h)
 
 -- and no list has one that none is about
@@ -75,7 +75,7 @@ pub place_nowhere : (s : ℕ) (lists : List (List Item)) → ((i : ℕ) → i < 
 place_nowhere s [] h = refl
 place_nowhere s (es ∷ lists) h = some_or (place_in s es) (place_on s lists) ∙ ap (λ b. b || is_some (place_on s lists)) (h 0 (omega arith)) ∙ place_nowhere s lists (λ i lt. h (suc i) (omega (arith, lt)))
 
-pub place_none : (s : ℕ) (es : List Item) (rs : List ReadyMsg) → each item es ≡ each ready_as rs → list_any (λ r. eqb (about r) s) rs ≡ false → is_some (place_in s es) ≡ false
+pub place_none : (s : ℕ) (es : List Item) (rs : List ReadyMsg) → each item es ≡ each item_as rs → list_any (λ r. eqb (about r) s) rs ≡ false → is_some (place_in s es) ≡ false
 place_none s es rs e h = place_any s es rs e ∙ h
 
 counted_in : (s : ℕ) (es : List Item) → is_some (place_in s es) ≡ true → 1 ≤ count_in s es

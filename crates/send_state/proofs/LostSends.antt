@@ -29,12 +29,14 @@ use Rattle.user_model.proofs.SendNext.{all_flat}
 use Rattle.user_model.proofs.SendStanding.{ReadyStands, Standing}
 use Rattle.user_model.proofs.SendSteps.{find_zero, list_any_append, none_any, or_left, some_if}
 use Rattle.send_frames.specs.Book.{Book, KnownSend, answered_as, answered_by, count_on, is_wanted, names, with_send}
+use Rattle.send_variants.specs.declared.ready.Ready.{Ready}
 use Rattle.send_variants.specs.declared.ready.Ready.TheVariants.{Result as ReadyResult}
 use Rattle.send_variants.specs.Lists.{AreBelow, Entry as Item, IsSound, all_without, list_of, place_on}
 use Rattle.send_variants.proofs.Entries.{length-all, sound-put, sound-withdraw}
 use Rattle.send_state.specs.Parts.{CanAnswer, CanAnswerAs, CanJoin, CanLose, Ranked, SendParts, answered, is_losable, is_lost, lists_answered_as, lost_step, lost_to, rank, with_entry, withdrawn}
-use Rattle.send_state.specs.Standing.{IsOurs, PartsStand, as_told, item, known_at, known_of, ready_as, row_of}
+use Rattle.send_state.specs.Standing.{IsOurs, PartsStand, as_told, item, item_as, known_at, known_of, place_at, row_of}
 use Rattle.send_state.proofs.Still.{and-false}
+use Rattle.send_state.proofs.Ranks.{rank-place}
 use Rattle.send_state.proofs.StandStill.{below_more}
 use Rattle.send_state.proofs.Serving.{about, eqb_itself}
 use Rattle.send_state.proofs.Frames.{is_ours, stacked-counted}
@@ -94,7 +96,7 @@ pub record LostTo (setup : Setup) (past : Past) (e : Entry) (p : SendParts) (n :
   pub known_low : (s : ℕ) → s ≤ n → map.get r.0.book.known s ≡ mid_of e past (send past s)
   pub known_high : (s : ℕ) → n < s → map.get r.0.book.known s ≡ known_at past s
   pub threads : length r.0.lists ≡ setup.threads
-  pub ready : (t : ℕ) → IsOurs setup t → each item (list_of r.0.lists t) ≡ each ready_as (left_ready e past n t ++ new_results e past n t)
+  pub ready : (t : ℕ) → IsOurs setup t → each item (list_of r.0.lists t) ≡ each item_as (left_ready e past n t ++ new_results e past n t)
   pub below : (t : ℕ) → AreBelow r.1 (list_of r.0.lists t)
   pub sound : IsSound r.0.lists
   pub ranks : r.1 ≡ rank (place_after past) 0 + losses e past n
@@ -120,6 +122,15 @@ same_if : (o a : Option Outcome) → (is_some a && not (is_some o)) ≡ false �
 same_if (Some x) a h = refl
 same_if None None h = refl
 same_if None (Some x) h = absurd (false≢true (sym h))
+
+-- at most 1,024 sends are lost at once
+pub few-losses : (setup : Setup) (past : Past) (e : Entry) → IsLawful setup past → (n : ℕ) → losses e past n ≤ 1024
+few-losses setup past e lawful n =
+    let less : losses e past n ≤ length (unfinished past) = fewer (λ y. is_newly e past y.number) (is_unfinished past) open_one n (sends past) in
+    let few = (limited setup past lawful).few in
+    omega (arith, less, few) where
+      open_one : (y : SentMsg) → is_newly e past y.number ≡ true → is_unfinished past y ≡ true
+      open_one y k = ap (λ b. b || (is_stacked past y || is_owed past y)) (and_true (is_some (answers e past y.number)) (not (is_answered past y.number)) k).1
 
 module _ (setup : Setup) (past : Past) (e : Entry) (lawful : IsLawful setup past) (standing : Standing setup past) (is : IsLosing past e) (p : SendParts) (h : PartsStand setup past p) where
   told-here : (s : ℕ) → answers e past s ≡ cond (loses e past s) (Some (outcome past 0 Loss)) None
@@ -149,7 +160,7 @@ module _ (setup : Setup) (past : Past) (e : Entry) (lawful : IsLawful setup past
         ap (map.get p.book.known) z ∙ h.book.known 0 ∙ ap (known_of past) none_zero ∙ sym (ap (λ k. mid_of e past (send past k)) z ∙ ap (mid_of e past) none_zero);
     known_high = λ s above. h.book.known s;
     threads = h.lists.threads;
-    ready = λ t ours. h.lists.ready t ours ∙ sym (ap (each ready_as) (append-nil (left_ready e past 0 t) ∙ filter_every (λ r. not (nat_le (about r) 0 && is_newly e past (about r))) (λ r. stays (about r)) (ready past t)));
+    ready = λ t ours. h.lists.ready t ours ∙ sym (ap (each item_as) (append-nil (left_ready e past 0 t) ∙ filter_every (λ r. not (nat_le (about r) 0 && is_newly e past (about r))) (λ r. stays (about r)) (ready past t)));
     below = h.lists.below;
     sound = h.lists.sound;
     ranks = omega arith;
@@ -200,7 +211,7 @@ module _ (setup : Setup) (past : Past) (e : Entry) (lawful : IsLawful setup past
       ];
       known_high = λ q above. c.known_high q (omega (arith, above));
       threads = c.threads;
-      ready = λ t ours. c.ready t ours ∙ sym (ap (each ready_as) (
+      ready = λ t ours. c.ready t ours ∙ sym (ap (each item_as) (
           ap (λ l. l ++ new_results e past (suc n) t) (filter_same (λ r. not (nat_le (about r) (suc n) && is_newly e past (about r))) (λ r. not (nat_le (about r) n && is_newly e past (about r))) (λ r. stays-same kept (about r)) (ready past t))
           ∙ ap (λ (l : List SentMsg). left_ready e past n t ++ flat_map (λ y. result past y) l) (filter-stay (is_coming e past t) (λ x found. ap (λ b. (eqb x.from t && not (has_ended past t)) && b) (newly-at false kept x found) ∙ and-false (eqb x.from t && not (has_ended past t))))));
       below = c.below;
@@ -320,11 +331,11 @@ module _ (setup : Setup) (past : Past) (e : Entry) (lawful : IsLawful setup past
       abbrev old : ℕ → List ReadyMsg
       old t = left_ready e past (suc n) t ++ new_results e past n t
 
-      taken-ready : (t : ℕ) → IsOurs setup t → each item (list_of taken t) ≡ each ready_as (old t)
+      taken-ready : (t : ℕ) → IsOurs setup t → each item (list_of taken t) ≡ each item_as (old t)
       taken-ready t ours =
           ap (each item) (at_without (suc n) r.0.lists (t - 1))
           ∙ without-filter (suc n) still (list_of r.0.lists t) (left_ready e past n t ++ new_results e past n t) (c.ready t ours) (each_same (left_ready e past n t ++ new_results e past n t))
-          ∙ ap (each ready_as) (filter-append still (left_ready e past n t) (new_results e past n t) ∙ ap (λ l. l ++ filter still (new_results e past n t)) (left-next t) ∙ ap (λ l. left_ready e past (suc n) t ++ l) (results-stay t)) where
+          ∙ ap (each item_as) (filter-append still (left_ready e past n t) (new_results e past n t) ∙ ap (λ l. l ++ filter still (new_results e past n t)) (left-next t) ∙ ap (λ l. left_ready e past (suc n) t ++ l) (results-stay t)) where
             each_same : (l : List ReadyMsg) → AllByRecursion (λ a. still a ≡ not (eqb (about a) (suc n))) l
             each_same [] = tt
             each_same (a ∷ l) = (refl, each_same l)
@@ -356,21 +367,29 @@ module _ (setup : Setup) (past : Past) (e : Entry) (lawful : IsLawful setup past
       below-next : (es : List Item) → AreBelow r.1 es → AreBelow (r.1 + 1) es
       below-next es b = below_more r.1 (r.1 + 1) es (omega arith) b
 
-      rank-next : r.1 + 1 ≡ rank (place_after past) 0 + losses e past (suc n)
-      rank-next =
-          let more : losses e past (suc n) ≡ losses e past n + 1 =
+      losses-next : losses e past (suc n) ≡ losses e past n + 1
+      losses-next =
           ap (λ (l : List SentMsg). length (filter (λ y. is_newly e past y.number) l)) (take_next 0 n (suc n) (sends past) x standing.counted (omega arith) found)
           ∙ ap length (filter_push (λ y. is_newly e past y.number) (take n (sends past)) x)
           ∙ ap (λ b. length (filter (λ y. is_newly e past y.number) (take n (sends past)) ++ cond b (x ∷ []) [])) (newly-at true newly x found)
-          ∙ one_more (filter (λ y. is_newly e past y.number) (take n (sends past))) in
-          omega (arith, more, c.ranks) where
+          ∙ one_more (filter (λ y. is_newly e past y.number) (take n (sends past))) where
             one_more : (l : List SentMsg) → length (l ++ x ∷ []) ≡ length l + 1
             one_more [] = refl
             one_more (y ∷ l) = let rest = one_more l in omega (arith, rest)
 
+      rank-next : r.1 + 1 ≡ rank (place_after past) 0 + losses e past (suc n)
+      rank-next = omega (arith, losses-next, c.ranks)
+
+      -- its rank is one of the entry's place
+      rank-here : place_at r.1 ≡ place_after past
+      rank-here =
+          let few = few-losses setup past e lawful (suc n) in
+          let is_rank : r.1 ≡ rank (place_after past) (losses e past n) = omega (arith, c.ranks) in
+          ap place_at is_rank ∙ rank-place (place_after past) (losses e past n) (omega (arith, few, losses-next))
+
       -- the lists, where no result is owed and where one is
-      stands-with : (lists : List (List Item)) → length lists ≡ setup.threads → ((t : ℕ) → IsOurs setup t → each item (list_of lists t) ≡ each ready_as (old t ++ fresh t)) → ((t : ℕ) → AreBelow (r.1 + 1) (list_of lists t)) → IsSound lists
-          → LostTo setup past e p (suc n) (record { book = told_book; lists = lists }, r.1 + 1)
+      stands-with : (lists : List (List Item)) → length lists ≡ setup.threads → ((t : ℕ) → IsOurs setup t → each item (list_of lists t) ≡ each item_as (old t ++ fresh t)) → ((t : ℕ) → AreBelow (r.1 + 1) (list_of lists t)) → IsSound lists
+          → LostTo setup past e p (suc n) (record r.0 { book = told_book; lists = lists }, r.1 + 1)
       stands-with lists threads at below sound = record {
         begun = c.begun;
         stacks = c.stacks;
@@ -380,7 +399,7 @@ module _ (setup : Setup) (past : Past) (e : Entry) (lawful : IsLawful setup past
         ];
         known_high = λ q above. known-view q ∙ ap (λ b. cond b (mid_of e past (Some x)) (map.get r.0.book.known q)) (ne_eqb q (suc n) (omega (arith, above))) ∙ c.known_high q (omega (arith, above));
         threads = threads;
-        ready = λ t ours. at t ours ∙ sym (ap (each ready_as) (view-next t));
+        ready = λ t ours. at t ours ∙ sym (ap (each item_as) (view-next t));
         below = below;
         sound = sound;
         ranks = rank-next;
@@ -390,9 +409,9 @@ module _ (setup : Setup) (past : Past) (e : Entry) (lawful : IsLawful setup past
       message = (r.1, ReadyResult (record { 0 = suc n })) ∷ []
 
       lists-lost : (b : Bool) → is_owed past x ≡ b → is_some (place_on (suc n) r.0.lists) ≡ true
-          → LostTo setup past e p (suc n) (record { book = told_book; lists = cond b (with_entry taken x.from r.1 (ReadyResult (record { 0 = suc n }))) taken }, r.1 + 1)
+          → LostTo setup past e p (suc n) (record r.0 { book = told_book; lists = cond b (with_entry taken x.from r.1 (ReadyResult (record { 0 = suc n }))) taken }, r.1 + 1)
       lists-lost false k placed = stands-with taken taken-threads
-          (λ t ours. taken-ready t ours ∙ ap (each ready_as) (sym (ap (λ l. old t ++ l) (none_comes setup past (suc n) x standing found unanswered k t) ∙ append-nil (old t))))
+          (λ t ours. taken-ready t ours ∙ ap (each item_as) (sym (ap (λ l. old t ++ l) (none_comes setup past (suc n) x standing found unanswered k t) ∙ append-nil (old t))))
           (λ t. below-next (list_of taken t) (taken-below t)) taken-sound
       lists-lost true k placed =
           stands-with (with_entry taken x.from r.1 (ReadyResult (record { 0 = suc n }))) (length-set taken (x.from - 1) (list_of taken x.from ++ message) ∙ taken-threads) at lower
@@ -415,19 +434,20 @@ module _ (setup : Setup) (past : Past) (e : Entry) (lawful : IsLawful setup past
             same-list : get_or (set taken (x.from - 1) (list_of taken x.from ++ message)) (x.from - 1) [] ≡ list_of taken x.from ++ message
             same-list = get_or-set_same taken (x.from - 1) (list_of taken x.from ++ message) [] within
 
-            at : (t : ℕ) → IsOurs setup t → each item (get_or (set taken (x.from - 1) (list_of taken x.from ++ message)) (t - 1) []) ≡ each ready_as (old t ++ fresh t)
+            at : (t : ℕ) → IsOurs setup t → each item (get_or (set taken (x.from - 1) (list_of taken x.from ++ message)) (t - 1) []) ≡ each item_as (old t ++ fresh t)
             at t ours = elim (eqb_tells x.from t) [
               | inl same ↦
                   ap (λ u. each item (get_or (set taken (x.from - 1) (list_of taken x.from ++ message)) (u - 1) [])) (sym same.1)
                   ∙ ap (each item) same-list ∙ each_push (list_of taken x.from) (r.1, ReadyResult (record { 0 = suc n }))
-                  ∙ ap (λ l. l ++ ReadyResult (record { 0 = suc n }) ∷ []) (ap (λ u. each item (list_of taken u)) same.1 ∙ taken-ready t ours)
-                  ∙ ap (λ m. each ready_as (old t) ++ ReadyResult (record { 0 = m }) ∷ []) (sym number)
-                  ∙ sym (ap (λ l. each ready_as (old t ++ l)) (comes t ∙ ap (λ b. cond b (to_call_back x kind.0 kind.1 (place_after past) ∷ []) []) same.0) ∙ each_ready (old t) (to_call_back x kind.0 kind.1 (place_after past) ∷ []))
+                  ∙ ap (λ l. l ++ item (r.1, ReadyResult (record { 0 = suc n })) ∷ []) (ap (λ u. each item (list_of taken u)) same.1 ∙ taken-ready t ours)
+                  ∙ ap (λ m. let a : ℕ × Ready = (m, ReadyResult (record { 0 = suc n })) in each item_as (old t) ++ a ∷ []) rank-here
+                  ∙ ap (λ m. let a : ℕ × Ready = (place_after past, ReadyResult (record { 0 = m })) in each item_as (old t) ++ a ∷ []) (sym number)
+                  ∙ sym (ap (λ l. each item_as (old t ++ l)) (comes t ∙ ap (λ b. cond b (to_call_back x kind.0 kind.1 (place_after past) ∷ []) []) same.0) ∙ each_ready (old t) (to_call_back x kind.0 kind.1 (place_after past) ∷ []))
               | inr differ ↦
                   let apart : t - 1 ≢ x.from - 1 = omega (arith, differ.1, ours.0, can.thread.0) in
                   ap (each item) (get_or-set_other taken (x.from - 1) (t - 1) (list_of taken x.from ++ message) [] apart)
                   ∙ taken-ready t ours
-                  ∙ ap (each ready_as) (sym (ap (λ l. old t ++ l) (comes t ∙ ap (λ b. cond b (to_call_back x kind.0 kind.1 (place_after past) ∷ []) []) differ.0) ∙ append-nil (old t)))
+                  ∙ ap (each item_as) (sym (ap (λ l. old t ++ l) (comes t ∙ ap (λ b. cond b (to_call_back x kind.0 kind.1 (place_after past) ∷ []) []) differ.0) ∙ append-nil (old t)))
             ]
 
             lower : (t : ℕ) → AreBelow (r.1 + 1) (get_or (set taken (x.from - 1) (list_of taken x.from ++ message)) (t - 1) [])
@@ -442,8 +462,8 @@ module _ (setup : Setup) (past : Past) (e : Entry) (lawful : IsLawful setup past
       -- the send is lost
       pub lose : is_some (place_on (suc n) r.0.lists) ≡ true → LostTo setup past e p (suc n) (answered (withdrawn r.0 (suc n)) (suc n) 0 Loss r.1, r.1 + 1)
       lose placed =
-          subst (λ o. LostTo setup past e p (suc n) (record { book = answered_by r.0.book (suc n) (0, Loss); lists = lists_answered_as taken (suc n) r.1 o }, r.1 + 1)) (sym row-here)
-          (subst (λ b. LostTo setup past e p (suc n) (record { book = b; lists = cond (is_owed past x) (with_entry taken x.from r.1 (ReadyResult (record { 0 = suc n }))) taken }, r.1 + 1)) (sym book-is)
+          subst (λ o. LostTo setup past e p (suc n) (record r.0 { book = answered_by r.0.book (suc n) (0, Loss); lists = lists_answered_as taken (suc n) r.1 o }, r.1 + 1)) (sym row-here)
+          (subst (λ b. LostTo setup past e p (suc n) (record r.0 { book = b; lists = cond (is_owed past x) (with_entry taken x.from r.1 (ReadyResult (record { 0 = suc n }))) taken }, r.1 + 1)) (sym book-is)
           (lists-lost (is_owed past x) refl placed))
 
   -- ---- every send
@@ -471,7 +491,7 @@ module _ (setup : Setup) (past : Past) (e : Entry) (lawful : IsLawful setup past
       nowhere entered open_still = place_nowhere (suc n) r.0.lists (λ i lt.
           let ours : IsOurs setup (suc i) = (omega arith, omega (arith, lt, c.threads)) in
           let back : suc i - 1 ≡ i = omega arith in
-          place_none (suc n) (get_or r.0.lists i []) (seen (suc i)) (subst (λ j. each item (get_or r.0.lists j []) ≡ each ready_as (seen (suc i))) back (c.ready (suc i) ours)) (none (suc i))) where
+          place_none (suc n) (get_or r.0.lists i []) (seen (suc i)) (subst (λ j. each item (get_or r.0.lists j []) ≡ each item_as (seen (suc i))) back (c.ready (suc i) ours)) (none (suc i))) where
             none : (t : ℕ) → list_any apart (seen t) ≡ false
             none t = none_any apart (seen t) (all_append (λ a. apart a ≡ false) (left_ready e past n t) (new_results e past n t)
                 (all_filter (λ a. apart a ≡ false) (λ a. not (nat_le (about a) n && is_newly e past (about a))) (ready past t) (unlisted setup past (suc n) standing entered open_still t))
@@ -533,18 +553,10 @@ module _ (setup : Setup) (past : Past) (e : Entry) (lawful : IsLawful setup past
     lost-stands zero = start
     lost-stands (suc n) = step n (lost_to test (p, rank (place_after past) 0) n) (lost-stands n)
 
-    pub few-losses : (n : ℕ) → losses e past n ≤ 1024
-    few-losses n =
-        let less : losses e past n ≤ length (unfinished past) = fewer (λ y. is_newly e past y.number) (is_unfinished past) open_one n (sends past) in
-        let few = (limited setup past lawful).few in
-        omega (arith, less, few) where
-          open_one : (y : SentMsg) → is_newly e past y.number ≡ true → is_unfinished past y ≡ true
-          open_one y k = ap (λ b. b || (is_stacked past y || is_owed past y)) (and_true (is_some (answers e past y.number)) (not (is_answered past y.number)) k).1
-
     -- each loss has what it needs
     pub can-lose-stands : place_after past < 2 ^ 21 → CanLose test (p, rank (place_after past) 0)
     can-lose-stands early n k =
         let at = lost-stands n in
-        let few = few-losses n in
+        let few = few-losses setup past e lawful n in
         let is_rank = at.ranks in
         (can-answer n (lost_to test (p, rank (place_after past) 0) n) at k, omega (arith, few, is_rank, early))

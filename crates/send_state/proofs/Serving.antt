@@ -14,13 +14,12 @@ use Rattle.user_model.specs.Places.{is_end}
 use Rattle.user_model.specs.Stacks.{top}
 use Rattle.user_model.specs.Sends.{answers, answers_in, is_entered_frame, is_one, is_timed_out, left_by, outcome, send, sends}
 use Rattle.user_model.specs.Ready.{ReadyMsg, departs, ready, ready_head}
-use Rattle.user_model.specs.Since.{last_of, ready_last}
 use Rattle.user_model.proofs.ListLaws.{filter_all, all_weaker}
 use Rattle.user_model.proofs.SendLaws.{is_sent, makes_none, ready-next, sends-same}
-use Rattle.send_variants.specs.Lists.{AreBelow, Entry as Item, count_in, count_on, last_of as last_entry, list_of, named_by as send_of, names}
+use Rattle.send_variants.specs.Lists.{AreBelow, Entry as Item, count_in, count_on, list_of, named_by as send_of, names}
 use Rattle.send_variants.proofs.Entries.{count-total, sound-take}
-use Rattle.send_state.specs.Parts.{SendParts, head_of, last_ready, rank, without_head}
-use Rattle.send_state.specs.Standing.{IsOurs, ListsStand, PartsStand, item, ready_as}
+use Rattle.send_state.specs.Parts.{SendParts, head_of, rank, without_head}
+use Rattle.send_state.specs.Standing.{IsOurs, ListsStand, PartsStand, item, item_as, ready_as}
 use Rattle.send_state.proofs.Still.{arrives-none, is_drop, loses-none}
 use Rattle.send_state.proofs.StandStill.{below_next}
 
@@ -77,44 +76,44 @@ unnamed_head : (b : Bool) (n : ℕ) → cond b 1 0 + n ≡ 0 → (b ≡ false) �
 unnamed_head true n e = absurd (omega arith)
 unnamed_head false n e = (refl, omega (arith, e))
 
-all_unnamed : (s : ℕ) (es : List Item) (rs : List ReadyMsg) → each item es ≡ each ready_as rs → count_in s es ≡ 0 → AllByRecursion (λ r. eqb (about r) s ≡ false) rs
+all_unnamed : (s : ℕ) (es : List Item) (rs : List ReadyMsg) → each item es ≡ each item_as rs → count_in s es ≡ 0 → AllByRecursion (λ r. eqb (about r) s ≡ false) rs
 all_unnamed s es [] e none = tt
 all_unnamed s [] (r ∷ rs) e none = absurd cc
 all_unnamed s (x ∷ es) (r ∷ rs) e none =
-    let head : item x ≡ ready_as r = cc in
-    let rest : each item es ≡ each ready_as rs = cc in
+    let head : item x ≡ item_as r = cc in
+    let rest : each item es ≡ each item_as rs = cc in
     let parts = unnamed_head (names s x) (count_in s es) none in
-    (ap (λ a. eqb (send_of a) s) (sym head) ∙ parts.0, all_unnamed s es rs rest parts.1)
+    (ap (λ a. eqb (send_of a.1) s) (sym head) ∙ parts.0, all_unnamed s es rs rest parts.1)
 
 -- ---- what is first
 
-pub head-stands : (es : List Item) (rs : List ReadyMsg) → each item es ≡ each ready_as rs → option_map (λ (e : Item). e.1) (slice_get es 0) ≡ option_map ready_as (first rs)
+pub head-stands : (es : List Item) (rs : List ReadyMsg) → each item es ≡ each item_as rs → option_map (λ (e : Item). e.1) (slice_get es 0) ≡ option_map ready_as (first rs)
 head-stands [] [] e = refl
 head-stands [] (r ∷ rs) e = absurd cc
 head-stands (x ∷ es) [] e = absurd cc
-head-stands (x ∷ es) (r ∷ rs) e = let head : item x ≡ ready_as r = cc in ap Some head
+head-stands (x ∷ es) (r ∷ rs) e = let head : item x ≡ item_as r = cc in ap (λ a. Some a.1) head
 
 -- the first of a thread's list is the first that it has ready
 pub head_of-stands : (setup : Setup) (past : Past) (p : SendParts) (t : ℕ) → IsOurs setup t → PartsStand setup past p → head_of p t ≡ option_map ready_as (ready_head past t)
 head_of-stands setup past p t ours h = head-stands (list_of p.lists t) (ready past t) (h.lists.ready t ours)
 
 -- the rest of a list names nobody whom its first names
-rest_unnamed : (s : ℕ) (es : List Item) (r : ReadyMsg) (rs : List ReadyMsg) → each item es ≡ ready_as r ∷ each ready_as rs → eqb (about r) s ≡ true → count_in s es ≤ 1
-    → (each item (drop 1 es) ≡ each ready_as rs) × AllByRecursion (λ q. eqb (about q) s ≡ false) rs
+rest_unnamed : (s : ℕ) (es : List Item) (r : ReadyMsg) (rs : List ReadyMsg) → each item es ≡ item_as r ∷ each item_as rs → eqb (about r) s ≡ true → count_in s es ≤ 1
+    → (each item (drop 1 es) ≡ each item_as rs) × AllByRecursion (λ q. eqb (about q) s ≡ false) rs
 rest_unnamed s [] r rs e here few = absurd cc
 rest_unnamed s (x ∷ es) r rs e here few =
-    let head : item x ≡ ready_as r = cc in
-    let rest : each item es ≡ each ready_as rs = cc in
-    let named : names s x ≡ true = ap (λ a. eqb (send_of a) s) head ∙ here in
+    let head : item x ≡ item_as r = cc in
+    let rest : each item es ≡ each item_as rs = cc in
+    let named : names s x ≡ true = ap (λ a. eqb (send_of a.1) s) head ∙ here in
     let counted : as_count (names s x) ≡ 1 = ap as_count named in
     let none : count_in s es ≡ 0 = omega (arith, counted, few) in
     (rest, all_unnamed s es rs rest none)
 
-some_named : (s : ℕ) (es : List Item) (r : ReadyMsg) (rs : List ReadyMsg) → each item es ≡ ready_as r ∷ each ready_as rs → eqb (about r) s ≡ true → 1 ≤ count_in s es
+some_named : (s : ℕ) (es : List Item) (r : ReadyMsg) (rs : List ReadyMsg) → each item es ≡ item_as r ∷ each item_as rs → eqb (about r) s ≡ true → 1 ≤ count_in s es
 some_named s [] r rs e here = absurd cc
 some_named s (x ∷ es) r rs e here =
-    let head : item x ≡ ready_as r = cc in
-    let counted : as_count (names s x) ≡ 1 = ap as_count (ap (λ a. eqb (send_of a) s) head ∙ here) in
+    let head : item x ≡ item_as r = cc in
+    let counted : as_count (names s x) ≡ 1 = ap as_count (ap (λ a. eqb (send_of a.1) s) head ∙ here) in
     omega (arith, counted)
 
 -- ---- what the first leaves
@@ -135,7 +134,7 @@ pub lists-served : (setup : Setup) (e : Entry) (past : Past) (lists : List (List
     → ListsStand setup past lists → ListsStand setup (e ∷ past) (without_head lists e.who.0)
 lists-served setup e past lists r quiet own is_first leaves h = record {
   threads = length-set lists (e.who.0 - 1) (drop 1 (list_of lists e.who.0)) ∙ h.threads;
-  ready = λ t ours. kept t ours ∙ sym (ap (each ready_as) (ready-quiet e past t quiet));
+  ready = λ t ours. kept t ours ∙ sym (ap (each item_as) (ready-quiet e past t quiet));
   below = λ t. below_next e past (list_of (without_head lists e.who.0) t) (lower t);
   sound = sound-take lists e.who.0 h.sound own.0 (omega (arith, own.1, h.threads));
 } where
@@ -165,43 +164,30 @@ lists-served setup e past lists r quiet own is_first leaves h = record {
   itself : eqb (about r) (about r) ≡ true
   itself = eqb_itself (about r)
 
-  listed : each item (list_of lists e.who.0) ≡ ready_as r ∷ each ready_as ts
-  listed = h.ready e.who.0 own ∙ ap (each ready_as) begins
+  listed : each item (list_of lists e.who.0) ≡ item_as r ∷ each item_as ts
+  listed = h.ready e.who.0 own ∙ ap (each item_as) begins
 
   stay : ℕ → ReadyMsg → Bool
   stay t q = not (departs t e past q)
 
-  own_kept : each item (list_of (without_head lists e.who.0) e.who.0) ≡ each ready_as (filter (stay e.who.0) (ready past e.who.0))
+  own_kept : each item (list_of (without_head lists e.who.0) e.who.0) ≡ each item_as (filter (stay e.who.0) (ready past e.who.0))
   own_kept =
       let rest = rest_unnamed (about r) (list_of lists e.who.0) r ts listed itself few in
       ap (each item) (get_or-set_same lists (e.who.0 - 1) (drop 1 (list_of lists e.who.0)) [] within) ∙ rest.0
-      ∙ ap (each ready_as) (sym (ap (filter (stay e.who.0)) begins
+      ∙ ap (each item_as) (sym (ap (filter (stay e.who.0)) begins
       ∙ ap (λ b. cond b (r ∷ filter (stay e.who.0) ts) (filter (stay e.who.0) ts)) (ap not leaves.0)
       ∙ filter_all (stay e.who.0) ts (all_weaker (λ q. eqb (about q) (about r) ≡ false) (λ q. stay e.who.0 q ≡ true) (λ q n. ap not (leaves.1 e.who.0 q n)) ts rest.1)))
 
-  other_kept : (t : ℕ) → IsOurs setup t → e.who.0 ≢ t → each item (list_of (without_head lists e.who.0) t) ≡ each ready_as (filter (stay t) (ready past t))
+  other_kept : (t : ℕ) → IsOurs setup t → e.who.0 ≢ t → each item (list_of (without_head lists e.who.0) t) ≡ each item_as (filter (stay t) (ready past t))
   other_kept t ours differ =
       let apart : t - 1 ≢ e.who.0 - 1 = omega (arith, differ, own.0, ours.0) in
       let none = count_some (about r) lists (e.who.0 - 1) (t - 1) (λ q. apart (sym q)) (some_named (about r) (list_of lists e.who.0) r ts listed itself) once in
       let all = all_unnamed (about r) (list_of lists t) (ready past t) (h.ready t ours) none in
       ap (each item) (get_or-set_other lists (e.who.0 - 1) (t - 1) (drop 1 (list_of lists e.who.0)) [] apart) ∙ h.ready t ours
-      ∙ ap (each ready_as) (sym (filter_all (stay t) (ready past t) (all_weaker (λ q. eqb (about q) (about r) ≡ false) (λ q. stay t q ≡ true) (λ q n. ap not (leaves.1 t q n)) (ready past t) all)))
+      ∙ ap (each item_as) (sym (filter_all (stay t) (ready past t) (all_weaker (λ q. eqb (about q) (about r) ≡ false) (λ q. stay t q ≡ true) (λ q n. ap not (leaves.1 t q n)) (ready past t) all)))
 
-  kept : (t : ℕ) → IsOurs setup t → each item (list_of (without_head lists e.who.0) t) ≡ each ready_as (filter (stay t) (ready past t))
+  kept : (t : ℕ) → IsOurs setup t → each item (list_of (without_head lists e.who.0) t) ≡ each item_as (filter (stay t) (ready past t))
   kept t ours = elim (eqb_tells e.who.0 t) [
-    | inl x ↦ subst (λ n. each item (list_of (without_head lists e.who.0) n) ≡ each ready_as (filter (stay n) (ready past n))) x.1 own_kept
+    | inl x ↦ subst (λ n. each item (list_of (without_head lists e.who.0) n) ≡ each item_as (filter (stay n) (ready past n))) x.1 own_kept
     | inr x ↦ other_kept t ours x.1
   ]
-
--- the last entry of a list is what became ready last
-pub last-stands : (es : List Item) (rs : List ReadyMsg) → each item es ≡ each ready_as rs → option_map (λ (e : Item). e.1) (last_entry es) ≡ option_map ready_as (last_of rs)
-last-stands [] [] e = refl
-last-stands [] (r ∷ rs) e = absurd cc
-last-stands (x ∷ es) [] e = absurd cc
-last-stands (x ∷ []) (r ∷ []) e = let head : item x ≡ ready_as r = cc in ap Some head
-last-stands (x ∷ []) (r ∷ q ∷ rs) e = absurd cc
-last-stands (x ∷ y ∷ es) (r ∷ []) e = absurd cc
-last-stands (x ∷ y ∷ es) (r ∷ q ∷ rs) e = let rest : each item (y ∷ es) ≡ each ready_as (q ∷ rs) = cc in last-stands (y ∷ es) (q ∷ rs) rest
-
-pub last_ready-stands : (setup : Setup) (past : Past) (p : SendParts) (t : ℕ) → IsOurs setup t → PartsStand setup past p → last_ready p t ≡ option_map ready_as (ready_last past t)
-last_ready-stands setup past p t ours h = last-stands (list_of p.lists t) (ready past t) (h.lists.ready t ours)

@@ -21,7 +21,7 @@ use Rattle.user_model.proofs.SendLaws.{makes_none, sends-same, stack-next, stack
 use Rattle.send_frames.specs.Book.{Book, stack_of}
 use Rattle.send_variants.specs.Lists.{AreBelow, Entry as Item, list_of}
 use Rattle.send_state.specs.Parts.{SendParts, dispatched, rank}
-use Rattle.send_state.specs.Standing.{IsOurs, ListsStand, PartsStand, known_at, ready_as}
+use Rattle.send_state.specs.Standing.{IsOurs, ListsStand, PartsStand, item_as, known_at}
 use Rattle.send_state.proofs.Still.{IsStill, answer-same, answers-still, calls_back-still, end-still, is_owed-same, is_still, known_at-alike, ready-still, sent-still}
 
 -- ---- ranks
@@ -83,7 +83,7 @@ known-still e past s still same = known_at-alike past (e ∷ past) s (send-still
 pub lists-still : (setup : Setup) (e : Entry) (past : Past) (lists : List (List Item)) → IsStill e → ListsStand setup past lists → ListsStand setup (e ∷ past) lists
 lists-still setup e past lists still h = record {
   threads = h.threads;
-  ready = λ t ours. h.ready t ours ∙ sym (ap (each ready_as) (ready-still e past t still));
+  ready = λ t ours. h.ready t ours ∙ sym (ap (each item_as) (ready-still e past t still));
   below = λ t. below_next e past (list_of lists t) (h.below t);
   sound = h.sound;
 }

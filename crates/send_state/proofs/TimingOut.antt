@@ -23,7 +23,7 @@ use Rattle.send_frames.specs.Book.{popped}
 use Rattle.send_variants.specs.Lists.{AreBelow, Entry as Item, all_without, list_of, named_by as send_of, names, without}
 use Rattle.send_variants.proofs.Entries.{length-all, sound-withdraw}
 use Rattle.send_state.specs.Parts.{SendParts, rank, timed_out}
-use Rattle.send_state.specs.Standing.{BookStands, IsOurs, ListsStand, PartsStand, item, ready_as}
+use Rattle.send_state.specs.Standing.{BookStands, IsOurs, ListsStand, PartsStand, item, item_as}
 use Rattle.send_state.proofs.StandStill.{below_next}
 use Rattle.send_state.proofs.Serving.{about, eqb_itself}
 use Rattle.send_state.proofs.Frames.{eqb_turned}
@@ -42,21 +42,21 @@ below_without n s [] b = tt
 below_without n s (e ∷ es) b = elim (names s e) as (λ c. AreBelow n (cond c (without s es) (e ∷ without s es))) [ true ↦ below_without n s es b.1 | false ↦ (b.0, below_without n s es b.1) ]
 
 -- what stays of the list is what stays ready
-pub without-filter : (s : ℕ) (stay : ReadyMsg → Bool) (es : List Item) (rs : List ReadyMsg) → each item es ≡ each ready_as rs → AllByRecursion (λ r. stay r ≡ not (eqb (about r) s)) rs → each item (without s es) ≡ each ready_as (filter stay rs)
+pub without-filter : (s : ℕ) (stay : ReadyMsg → Bool) (es : List Item) (rs : List ReadyMsg) → each item es ≡ each item_as rs → AllByRecursion (λ r. stay r ≡ not (eqb (about r) s)) rs → each item (without s es) ≡ each item_as (filter stay rs)
 without-filter s stay [] [] e all = refl
 without-filter s stay [] (r ∷ rs) e all = absurd cc
 without-filter s stay (x ∷ es) [] e all = absurd cc
 without-filter s stay (x ∷ es) (r ∷ rs) e all =
-    let head : item x ≡ ready_as r = cc in
-    let rest : each item es ≡ each ready_as rs = cc in
+    let head : item x ≡ item_as r = cc in
+    let rest : each item es ≡ each item_as rs = cc in
     let more = without-filter s stay es rs rest all.1 in
-    let named : names s x ≡ eqb (about r) s = ap (λ a. eqb (send_of a) s) head in
+    let named : names s x ≡ eqb (about r) s = ap (λ a. eqb (send_of a.1) s) head in
     ap (λ b. each item (cond b (without s es) (x ∷ without s es))) named
-    ∙ elim (eqb (about r) s) as (λ b. each item (cond b (without s es) (x ∷ without s es)) ≡ each ready_as (cond (not b) (r ∷ filter stay rs) (filter stay rs))) [
+    ∙ elim (eqb (about r) s) as (λ b. each item (cond b (without s es) (x ∷ without s es)) ≡ each item_as (cond (not b) (r ∷ filter stay rs) (filter stay rs))) [
       | true ↦ more
-      | false ↦ ap (λ l. item x ∷ l) more ∙ ap (λ a. a ∷ each ready_as (filter stay rs)) head
+      | false ↦ ap (λ l. item x ∷ l) more ∙ ap (λ a. a ∷ each item_as (filter stay rs)) head
     ]
-    ∙ sym (ap (λ b. each ready_as (cond b (r ∷ filter stay rs) (filter stay rs))) all.0)
+    ∙ sym (ap (λ b. each item_as (cond b (r ∷ filter stay rs) (filter stay rs))) all.0)
 
 module _ (setup : Setup) (past : Past) (e : Entry) (s : SendId) (x : SentMsg) (is : IsAnswering past e s.0 x 0 ByTimeout) (standing : Standing setup past) (waits : is_callback_kind x.kind ≡ false) where
   unowed : is_owed past x ≡ false
@@ -90,7 +90,7 @@ module _ (setup : Setup) (past : Past) (e : Entry) (s : SendId) (x : SentMsg) (i
     threads = length-all s.0 lists ∙ h.threads;
     ready = λ t ours. ap (each item) (at_without s.0 lists (t - 1))
         ∙ without-filter s.0 (λ r. not (departs t e past r)) (list_of lists t) (ready past t) (h.ready t ours) (all_weaker (ReadyStands past t) (λ r. not (departs t e past r) ≡ not (eqb (about r) s.0)) (stays t) (ready past t) (standing.waiting t))
-        ∙ sym (ap (each ready_as) (ready-timed_out t));
+        ∙ sym (ap (each item_as) (ready-timed_out t));
     below = λ t. below_next e past (list_of (all_without s.0 lists) t)
         (subst (AreBelow (rank (place_after past) 0)) (sym (at_without s.0 lists (t - 1))) (below_without (rank (place_after past) 0) s.0 (list_of lists t) (h.below t)));
     sound = sound-withdraw lists s.0 h.sound;

@@ -95,6 +95,7 @@ module _ (setup : Setup) (past : Past) (e : Entry) (p : SendParts) (s : SendId) 
         enters_other = λ q differ. ap (λ a. enters a q) is;
         hands_none = λ q. ap (λ a. calls_back a q) is;
         number = m.is_next;
+        place = refl;
         from = refl;
         lives = alive.1;
         own = other;
@@ -125,6 +126,7 @@ module _ (setup : Setup) (past : Past) (e : Entry) (p : SendParts) (s : SendId) 
         enters_other = λ q differ. ap (λ a. enters a q) is ∙ differ;
         hands_none = λ q. ap (λ a. calls_back a q) is;
         number = m.is_next;
+        place = refl;
         from = refl;
         lives = alive.1;
         own = own;

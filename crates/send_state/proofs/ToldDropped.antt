@@ -15,7 +15,7 @@ use Rattle.user_model.proofs.SendLaws.{is_sent, makes_none}
 use Rattle.user_model.proofs.SendLawful.{lawful_standing}
 use Rattle.user_model.proofs.SendStanding.{Standing}
 use Rattle.send_state.specs.Parts.{SendParts, lost, lost_to, rank}
-use Rattle.send_state.specs.Standing.{PartsStand, known_of, ready_as}
+use Rattle.send_state.specs.Standing.{PartsStand, item_as, known_of}
 use Rattle.send_state.proofs.Still.{is_owed-same}
 use Rattle.send_state.proofs.LostSends.{IsLosing, LostTo, few-losses, lost-stands, mid_of}
 use Rattle.send_state.proofs.AfterLosses.{below-after, book-after, mid-later, ready-running}
@@ -45,12 +45,12 @@ module _ (setup : Setup) (past : Past) (e : Entry) (p : SendParts) (w : ℕ) (te
   pub told-dropped : PartsStand setup (e ∷ past) (lost test p (place_after past))
   told-dropped =
       let at : LostTo setup past e p p.book.begun (lost_to test (p, rank (place_after past) 0) p.book.begun) = lost-stands setup past e lawful.0 standing losing-dropped p h test same p.book.begun in
-      let few = few-losses setup past e lawful.0 standing losing-dropped p h test same p.book.begun in
+      let few = few-losses setup past e lawful.0 p.book.begun in
       record {
         book = book-after setup past e standing losing-dropped p h (lost test p (place_after past)).book at.begun at.stacks (λ s low. at.known_low s low ∙ later (send past s)) at.known_high;
         lists = record {
           threads = at.threads;
-          ready = λ t ours. at.ready t ours ∙ sym (ap (each ready_as) (ready-running setup past e standing losing-dropped p h t (ap (λ b. b && eqb e.who.0 t) running)));
+          ready = λ t ours. at.ready t ours ∙ sym (ap (each item_as) (ready-running setup past e standing losing-dropped p h t (ap (λ b. b && eqb e.who.0 t) running)));
           below = below-after setup past e standing losing-dropped p h (lost_to test (p, rank (place_after past) 0) p.book.begun) at few;
           sound = at.sound;
         };

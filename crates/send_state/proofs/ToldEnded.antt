@@ -29,7 +29,7 @@ use Rattle.send_frames.specs.Book.{Book, KnownSend, count_on, forgotten, forgott
 use Rattle.send_variants.specs.Lists.{AreBelow, Entry as Item, IsSound, list_of, with_list}
 use Rattle.send_variants.proofs.Entries.{sound-take}
 use Rattle.send_state.specs.Parts.{Ranked, SendParts, ended, freed_step, freed_to, is_from, lost, lost_to, rank}
-use Rattle.send_state.specs.Standing.{BookStands, IsOurs, PartsStand, as_told, item, known_as, known_of, ready_as, row_of}
+use Rattle.send_state.specs.Standing.{BookStands, IsOurs, PartsStand, as_told, item, item_as, known_as, known_of, row_of}
 use Rattle.send_state.proofs.Still.{and-false}
 use Rattle.send_state.proofs.Serving.{eqb_itself}
 use Rattle.send_state.proofs.Frames.{eqb_turned, stacked-counted}
@@ -239,12 +239,12 @@ module _ (setup : Setup) (past : Past) (e : Entry) (p : SendParts) (test : ℕ �
     ready-own : ready (e ∷ past) e.who.0 ≡ []
     ready-own = ended_ready setup (e ∷ past) e.who.0 lawful (has_ended-end e past e.who.0 is ∙ ap (λ b. b || has_ended past e.who.0) (eqb_itself e.who.0))
 
-    ready-ended : (t : ℕ) → IsOurs setup t → each item (list_of emptied t) ≡ each ready_as (ready (e ∷ past) t)
+    ready-ended : (t : ℕ) → IsOurs setup t → each item (list_of emptied t) ≡ each item_as (ready (e ∷ past) t)
     ready-ended t ours = elim (eqb_tells e.who.0 t) [
-      | inl here ↦ subst (λ u. each item (list_of emptied u) ≡ each ready_as (ready (e ∷ past) u)) here.1 (ap (each item) none-here ∙ sym (ap (each ready_as) ready-own))
+      | inl here ↦ subst (λ u. each item (list_of emptied u) ≡ each item_as (ready (e ∷ past) u)) here.1 (ap (each item) none-here ∙ sym (ap (each item_as) ready-own))
       | inr differ ↦
           ap (each item) (rest-there t (omega (arith, differ.1, own.0, ours.0))) ∙ at.ready t ours
-          ∙ sym (ap (each ready_as) (ready-running setup past e standing losing-ended p h t (ap (λ b. is_end e.answer && b) differ.0 ∙ and-false (is_end e.answer))))
+          ∙ sym (ap (each item_as) (ready-running setup past e standing losing-ended p h t (ap (λ b. is_end e.answer && b) differ.0 ∙ and-false (is_end e.answer))))
     ]
 
     below-ended : ((t : ℕ) → AreBelow (rank (place_after (e ∷ past)) 0) (list_of r.0.lists t)) → (t : ℕ) → AreBelow (rank (place_after (e ∷ past)) 0) (list_of emptied t)
@@ -258,7 +258,7 @@ module _ (setup : Setup) (past : Past) (e : Entry) (p : SendParts) (test : ℕ �
   told-ended =
       let last : Ranked = lost_to test (p, rank (place_after past) 0) p.book.begun in
       let at : LostTo setup past e p p.book.begun last = lost-stands setup past e lawful.0 standing losing-ended p h test same p.book.begun in
-      let few = few-losses setup past e lawful.0 standing losing-ended p h test same p.book.begun in
+      let few = few-losses setup past e lawful.0 p.book.begun in
       stands last at few where
         stands : (r : Ranked) (at : LostTo setup past e p p.book.begun r) → losses e past p.book.begun ≤ 1024 → PartsStand setup (e ∷ past) (ended r.0 e.who.0)
         stands r at few = record {

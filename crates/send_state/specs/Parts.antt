@@ -1,5 +1,6 @@
 -- What the parts of sends are, and what each change makes of them.
-use Rattle.std.specs.Prelude.{◌≡◌, ◌==◌, bit_and, nat_lt, ℕ, zero, suc, is_some, ◌+◌, ◌-◌, ◌*◌, ◌^◌, ◌<◌, Bool, true, false, ◌&&◌, if◌then◌else◌, List, [], ◌∷◌, ◌++◌, drop, length, Option, Some, None, is_none, slice_get, option_map, option_and_then, IsSome, replicate, refl}
+use Rattle.std.specs.Prelude.{◌≡◌, ◌==◌, bit_and, nat_lt, ℕ, zero, suc, is_some, ◌+◌, ◌-◌, ◌*◌, ◌^◌, ◌<◌, Bool, true, false, ◌&&◌, if◌then◌else◌, List, [], ◌∷◌, ◌++◌, drop, length, Option, Some, None, is_none, slice_get, slice_set, option_map, option_and_then, IsSome, replicate, refl}
+use Rattle.std.specs.List.{list_any}
 use Rattle.std.specs.Coded.{Coded, code_by, coded×, coded_ℕ, coded_list}
 use Rattle.std.specs.FinMap as map
 use Rattle.win_num.specs.declared.send.SendId.{SendId}
@@ -17,22 +18,23 @@ use Rattle.send_frames.specs.Book.{Book, KnownSend, book_code, answered_by, begu
 use Rattle.send_variants.specs.declared.ready.Ready.{Ready}
 use Rattle.send_variants.specs.declared.ready.Ready.TheVariants.{Send, Result}
 use Rattle.send_variants.specs.contracts.ready.Ready as ready
-use Rattle.send_variants.specs.Lists.{AreBelow, Entry, IsThread, named_by as send_of, all_without, count_on, last_of, list_of, place_on, total, with_list}
+use Rattle.send_variants.specs.Lists.{AreBelow, Entry, IsThread, named_by as send_of, all_without, count_on, is_new, list_of, mark_of, place_on, total, with_list}
 
--- the sends with their frames, and what is ready for each thread
+-- the sends with their frames, what is ready for each thread, and each thread's mark
 pub record SendParts : Type 0 where
   pub book : Book
   pub lists : List (List Entry)
+  pub marks : List ℕ
 
--- parts are stored as a pair
+-- parts are stored as pairs
 abbrev pub parts_code : Coded SendParts
 parts_code =
-    code_by (Book × List (List Entry)) (coded× book_code (coded_list (coded_list (coded× coded_ℕ ready.the_row.coded))))
-    (λ p. (p.book, p.lists)) (λ p. record { book = p.0; lists = p.1 }) (λ _. refl)
+    code_by (Book × (List (List Entry) × List ℕ)) (coded× book_code (coded× (coded_list (coded_list (coded× coded_ℕ ready.the_row.coded))) (coded_list coded_ℕ)))
+    (λ p. (p.book, (p.lists, p.marks))) (λ p. record { book = p.0; lists = p.1.0; marks = p.1.1 }) (λ _. refl)
 
 -- no send, and nothing ready
 abbrev pub no_parts : ℕ → SendParts
-no_parts threads = record { book = no_sends threads; lists = replicate threads [] }
+no_parts threads = record { book = no_sends threads; lists = replicate threads []; marks = replicate threads 0 }
 
 -- a number under which a thread's list has what came at a place; i counts what came at one place
 abbrev pub rank : ℕ → ℕ → ℕ
@@ -49,6 +51,20 @@ pub record CanJoin (lists : List (List Entry)) (t n s : ℕ) : Type 0 where
   pub room : total lists < 1024
   pub unnamed : count_on s lists ≡ 0
 
+-- ---- a look
+
+-- a thread looks at this place: what becomes ready from there on comes after the look
+abbrev pub looked : SendParts → ℕ → ℕ → SendParts
+looked p t place = record p { marks = slice_set p.marks (t - 1) (rank place 0) }
+
+-- whether something is ready
+abbrev pub has_some : SendParts → ℕ → Bool
+has_some p t = list_any (λ e. true) (list_of p.lists t)
+
+-- whether something is ready that came since the thread's last look
+abbrev pub has_new : SendParts → ℕ → Bool
+has_new p t = list_any (is_new (mark_of p.marks t)) (list_of p.lists t)
+
 -- ---- a send is begun
 
 -- a send to another thread joins its list
@@ -56,7 +72,7 @@ abbrev pub lists_begun : List (List Entry) → SendRow → ℕ → SendId → Li
 lists_begun lists r n s = if is_inside r then lists else with_entry lists r.to.0 n (Send s)
 
 abbrev pub begun : SendParts → SendRow → ℕ → SendParts
-begun p r place = record { book = begun_by p.book r; lists = lists_begun p.lists r (rank place 0) (record { 0 = p.book.begun + 1 }) }
+begun p r place = record p { book = begun_by p.book r; lists = lists_begun p.lists r (rank place 0) (record { 0 = p.book.begun + 1 }) }
 
 -- what a send's beginning needs: where it joins another thread's list, that it can
 abbrev pub CanBegin : SendParts → SendRow → ℕ → Type 0
@@ -67,10 +83,6 @@ CanBegin p r place = is_inside r ≡ false → map.len p.book.known < 1024 → C
 -- what is first in a thread's list
 abbrev pub head_of : SendParts → ℕ → Option Ready
 head_of p t = option_map (λ e. e.1) (slice_get (list_of p.lists t) 0)
-
--- what is last in a thread's list
-abbrev pub last_ready : SendParts → ℕ → Option Ready
-last_ready p t = option_map (λ e. e.1) (last_of (list_of p.lists t))
 
 -- a thread's list without its first
 abbrev pub without_head : List (List Entry) → ℕ → List (List Entry)
@@ -83,7 +95,7 @@ book_served b t (Some (Send s)) = pushed b t (Entered s)
 book_served b t (Some (Result s)) = forgotten (pushed b t CallbackRun) s.0
 
 abbrev pub served : SendParts → ℕ → SendParts
-served p t = record { book = book_served p.book t (head_of p t); lists = without_head p.lists t }
+served p t = record p { book = book_served p.book t (head_of p t); lists = without_head p.lists t }
 
 -- a send that is entered is known
 abbrev pub CanServe : Book → Option Ready → Type 0
@@ -160,7 +172,7 @@ lists_answered_as lists s n None = lists
 lists_answered_as lists s n (Some k) = if is_none k.answer && k.owed then with_entry lists k.row.from.0 n (Result (record { 0 = s })) else lists
 
 abbrev pub answered : SendParts → ℕ → ℕ → Cause → ℕ → SendParts
-answered p s v cause n = record { book = answered_by p.book s (v, cause); lists = lists_answered_as p.lists s n (map.get p.book.known s) }
+answered p s v cause n = record p { book = answered_by p.book s (v, cause); lists = lists_answered_as p.lists s n (map.get p.book.known s) }
 
 -- where the answer is the first of a callback send, its result can join
 abbrev pub CanAnswerAs : List (List Entry) → ℕ → ℕ → Option KnownSend → Type 0
@@ -247,7 +259,7 @@ finished p t = record p { book = popped p.book t }
 
 -- the send whose time is over is answered, and no list has it any more
 abbrev pub timed_out : SendParts → ℕ → ℕ → SendParts
-timed_out p t s = record { book = popped (answered_by p.book s (0, Timeout)) t; lists = all_without s p.lists }
+timed_out p t s = record p { book = popped (answered_by p.book s (0, Timeout)) t; lists = all_without s p.lists }
 
 -- ---- windows that go
 
@@ -305,4 +317,4 @@ freed_to t b (suc n) = freed_step t (freed_to t b n) (suc n)
 
 -- nothing is ready for the thread, and nothing is owed to it
 abbrev pub ended : SendParts → ℕ → SendParts
-ended p t = record { book = freed_to t p.book p.book.begun; lists = with_list p.lists t [] }
+ended p t = record p { book = freed_to t p.book p.book.begun; lists = with_list p.lists t [] }

@@ -5,8 +5,8 @@ ghost use Rattle.std.specs.FinMap as map;
 ghost use Rattle.send_frames.specs.Book.{IsFaultFor, IsThread, NamesKnown, pushed, refusal_at_begin, stack_of};
 ghost use Rattle.win_num.specs.Clocks.{clock_limit};
 ghost use Rattle.win_num.specs.declared.message.Hwnd.{Hwnd};
-ghost use Rattle.send_variants.specs.Lists.{with_list, IsThread as IsListed};
-ghost use Rattle.send_state.specs.Parts.{CanAnswer, CanBegin, CanJoin, CanLeaveFrom, CanLose, ended, freed_to, is_from, is_losable, last_ready, lost, CanReplyIn, CanServe, answered, begun, blocks_as, callback_in, deadline_of, dispatched, enter_as, finished, has_depth, head_of, left, lists_joined, lost_count, next_answer, next_window, no_parts, rank, replied, runs_callback, served, timed_out, top_of};
+ghost use Rattle.send_variants.specs.Lists.{AreBelow, IsThread as IsListed, list_of, with_list};
+ghost use Rattle.send_state.specs.Parts.{CanAnswer, CanBegin, CanJoin, CanLeaveFrom, CanLose, ended, freed_to, has_new, has_some, is_from, is_losable, looked, lost, CanReplyIn, CanServe, answered, begun, blocks_as, callback_in, deadline_of, dispatched, enter_as, finished, has_depth, head_of, left, lists_joined, lost_count, next_answer, next_window, no_parts, rank, replied, runs_callback, served, timed_out, top_of};
 ghost use Rattle.send_state.specs.Stories.{EachStory, noted_loss};
 
 use crate::story::{Event, note};
@@ -35,9 +35,9 @@ impl Model for SendState {
 
     ghost coded = { parts_code };
 
-    ghost view = { λ a. record { book = a.sends; lists = a.ready } };
+    ghost view = { λ a. record { book = a.sends; lists = a.ready.lists; marks = a.ready.marks } };
 
-    ghost invariant = { λ a. length a.ready ≡ length a.sends.stacks };
+    ghost invariant = { λ a. length a.ready.lists ≡ length a.sends.stacks };
 }
 
 impl SendState {
@@ -222,12 +222,31 @@ impl SendState {
         Some(self.sends.row(send)?.hwnd)
     }
 
-    /// The send or the result that became ready for a thread last.
-    pub fn newest(&self, who: Thread) -> Option<Ready>
+    /// Whether a send or a result is ready for a thread.
+    pub fn has_some(&self, who: Thread) -> bool
         requires { IsThread self.now.book who.0 }
-        ensures { result ≡ last_ready self.now who.0 }
+        ensures { result ≡ has_some self.now who.0 }
     {
-        self.ready.last(who)
+        self.ready.has_some(who)
+    }
+
+    /// Whether a send or a result is ready for a thread that came since its last look.
+    pub fn has_new(&self, who: Thread) -> bool
+        requires { IsThread self.now.book who.0 }
+        ensures { result ≡ has_new self.now who.0 }
+    {
+        self.ready.has_new(who)
+    }
+
+    /// A thread looks, and what is ready for it came before. `place` is that of the next entry of the history,
+    /// above those of all that is ready.
+    pub fn look(&mut self, who: Thread, place: u32)
+        requires thread { IsThread self.old.book who.0 }
+        requires place { place ≤ 2 ^ 21 }
+        requires above { AreBelow (rank place 0) (list_of self.old.lists who.0) }
+        ensures { self.new ≡ looked self.old who.0 place }
+    {
+        self.ready.look(who, place * RANKS);
     }
 
     /// The answer that runs what a thread has ready, `None` where nothing is ready or the thread has 64
@@ -324,6 +343,7 @@ impl SendState {
         requires { IfSome (map.get self.old.book.known send.0) (λ k. CanJoin self.old.lists k.row.from.0 rank send.0) }
         ensures book { self.new.book ≡ self.old.book }
         ensures lists { self.new.lists ≡ lists_joined self.old.lists send.0 rank (map.get self.old.book.known send.0) }
+        ensures marks { self.new.marks ≡ self.old.marks }
     {
         if let Some(row) = self.sends.row(send) {
             self.ready.put(row.from, rank, Ready::Result(send));
@@ -403,9 +423,9 @@ fn push(sends: &mut Sends, who: Thread, frame: Frame)
 
 /// Takes all entries out of a thread's list.
 fn empty(ready: &mut ReadyLists, who: Thread)
-    requires { IsListed ready.old who.0 }
-    ensures emptied { ready.new ≡ with_list ready.old who.0 [] }
-    ensures lists { length ready.new ≡ length ready.old }
+    requires { IsListed ready.old.lists who.0 }
+    ensures emptied { ready.new ≡ record ready.old { lists = with_list ready.old.lists who.0 [] } }
+    ensures lists { length ready.new.lists ≡ length ready.old.lists }
 {
     while ready.take(who).is_some() {}
 }

@@ -1,7 +1,7 @@
 pub mod Chains
+pub mod Counts
 pub mod Entries
 pub mod Joins
-pub mod Lasts
 pub mod Named
 pub mod Steps
 pub mod Tables

@@ -1,5 +1,5 @@
 -- Ready lists, one for each thread.
-use Rattle.std.specs.Prelude.{ℕ, ◌+◌, ◌-◌, ◌≤◌, ◌<◌, ◌==◌, Bool, if◌then◌else◌, List, [], ◌∷◌, length, slice_index_or, slice_set, Option, Some, None}
+use Rattle.std.specs.Prelude.{◌≡◌, ℕ, ◌+◌, ◌-◌, ◌≤◌, ◌<◌, ◌==◌, nat_le, Bool, if◌then◌else◌, List, [], ◌∷◌, ◌++◌, length, slice_index_or, slice_set, Option, Some, None}
 use Rattle.send_variants.specs.declared.ready.Ready.{Ready}
 use Rattle.send_variants.specs.declared.ready.Ready.TheVariants.{Send, Result}
 
@@ -15,12 +15,6 @@ named_by (Result s) = s.0
 -- whether an entry names a send
 abbrev pub names : ℕ → Entry → Bool
 names s e = named_by e.1 == s
-
--- the last of a list
-abbrev pub last_of : List Entry → Option Entry
-last_of [] = None
-last_of (e ∷ []) = Some e
-last_of (e ∷ f ∷ es) = last_of (f ∷ es)
 
 -- the list of thread t
 abbrev pub list_of : List (List Entry) → ℕ → List Entry
@@ -95,3 +89,25 @@ pub record IsSound (lists : List (List Entry)) : Type 0 where
   pub rising : (t : ℕ) → IsRising (list_of lists t)
   pub once : (s : ℕ) → count_on s lists ≤ 1
   pub few : total lists ≤ 1024
+
+-- an entry with this place went from the list at i, and nothing else
+pub record IsWithdrawn (old new : List (List Entry)) (i place : ℕ) : Type 0 where
+  pub within : i < length old
+  pub before : List Entry
+  pub after : List Entry
+  pub ready : Ready
+  pub was : slice_index_or old i [] ≡ before ++ (place, ready) ∷ after
+  pub is : new ≡ slice_set old i (before ++ after)
+
+-- the lists of all threads, and for each thread a mark: what has this place or a later one came since its last look
+pub record ReadyView : Type 0 where
+  pub lists : List (List Entry)
+  pub marks : List ℕ
+
+-- the mark of thread t
+abbrev pub mark_of : List ℕ → ℕ → ℕ
+mark_of marks t = slice_index_or marks (t - 1) 0
+
+-- whether an entry came since the look that left this mark
+abbrev pub is_new : ℕ → Entry → Bool
+is_new mark e = nat_le mark e.0

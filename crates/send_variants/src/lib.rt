@@ -2,7 +2,9 @@
 //! callback procedures, each at its place in the order of events.
 #![tactic(auto)]
 
+mod linked;
 mod lists;
+mod mark;
 mod ready;
 mod slot;
 mod table;

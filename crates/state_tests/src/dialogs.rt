@@ -1,7 +1,9 @@
 //! A dialog from its beginning until its result was told.
 
+use crate::facts::hold;
 use dialog_state::{Dialogs, turns};
 use std::alloc::AllocError;
+use std::process::Abort;
 use user_model::{Answer, Call, Dialog, Entry};
 use win_num::{Hwnd, Thread};
 
@@ -14,21 +16,36 @@ fn entry(call: Call, answer: Answer) -> Entry {
     }
 }
 
+/// These entries come, one after another, and then the dialog on window 17 is so.
+fn follow_all(dialogs: &mut Dialogs, entries: &[Entry]) -> Result<Option<Dialog>, AllocError> {
+    for entry in entries {
+        dialogs.follow(*entry)?;
+    }
+    Ok(dialogs.on(17))
+}
+
+fn run_and_end(rt: &impl Abort, dialogs: &mut Dialogs) -> Result<(), AllocError> {
+    let told = entry(Call::DialogState(17), Answer::Finished(6));
+    let begun = [
+        entry(Call::BeginDialog(17), Answer::Window(Hwnd(16))),
+        entry(Call::DialogState(17), Answer::Running),
+    ];
+    let ended = [
+        entry(Call::EndDialog(17, 5), Answer::Okay),
+        entry(Call::EndDialog(17, 6), Answer::Okay),
+    ];
+    let facts = [
+        follow_all(dialogs, &begun)? == Some(Dialog::Running),
+        follow_all(dialogs, &ended)? == Some(Dialog::Finished(6)),
+        follow_all(dialogs, &[told])? == None,
+        turns(told),
+    ];
+    hold(rt, &facts);
+    Ok(())
+}
+
 #[test]
 fn a_dialog_has_its_last_result_until_it_is_told(rt: HostRuntime) -> Result<(), AllocError> {
-    let told = entry(Call::DialogState(17), Answer::Finished(6));
     let mut dialogs = Dialogs::new(rt.alloc());
-    dialogs.follow(entry(Call::BeginDialog(17), Answer::Window(Hwnd(16))))?;
-    dialogs.follow(entry(Call::DialogState(17), Answer::Running))?;
-    let runs = dialogs.on(17);
-    dialogs.follow(entry(Call::EndDialog(17, 5), Answer::Okay))?;
-    dialogs.follow(entry(Call::EndDialog(17, 6), Answer::Okay))?;
-    let ends = dialogs.on(17);
-    dialogs.follow(told)?;
-    assert_eq!(rt;
-        (runs, ends, dialogs.on(17)),
-        (Some(Dialog::Running), Some(Dialog::Finished(6)), None)
-    );
-    assert!(rt; turns(told));
-    Ok(())
+    run_and_end(&rt, &mut dialogs)
 }

@@ -19,6 +19,8 @@ fn a_new_state_has_no_sends(rt: HostRuntime) -> Result<(), Fail> {
         state.has_room(Thread(2)),
         !state.is_full(),
         state.next_window(Thread(1)) == None,
+        !state.has_some(Thread(1)),
+        !state.has_new(Thread(1)),
         state.next_ready(Thread(1), 1) == None,
     ];
     hold(&rt, &facts);

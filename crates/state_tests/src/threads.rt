@@ -1,11 +1,29 @@
 //! One thread's messages, and what its last entry said.
 
-use std::alloc::Global;
+ghost use Rattle.std.specs.Prelude.{◌≡◌};
+ghost use Rattle.thread_state.specs.Threads.{fresh_thread};
+
+use crate::facts::hold;
+use std::process::Abort;
 use std::test::Fail;
 use thread_state::*;
 use user_model::Call;
 use win_num::{Filter, Hwnd, Msg, Point, names};
 use win_tree::Tree;
+
+/// Every message.
+const OPEN: Filter = Filter {
+    hwnd: 0,
+    min: 0,
+    max: 0,
+};
+
+/// Messages of the number 1025.
+const LATE: Filter = Filter {
+    hwnd: 0,
+    min: 1025,
+    max: 1025,
+};
 
 /// A message without a window.
 fn message(number: u32) -> Msg {
@@ -19,38 +37,36 @@ fn message(number: u32) -> Msg {
     }
 }
 
-#[test]
-fn messages_are_kept_in_order(rt: HostRuntime) -> Result<(), Fail> {
-    let alloc: Global = rt.alloc();
-    let tree = Tree::new(alloc);
-    let open = Filter {
-        hwnd: 0,
-        min: 0,
-        max: 0,
-    };
-    let late = Filter {
-        hwnd: 0,
-        min: 1025,
-        max: 1025,
-    };
-    let mut thread = ThreadState::new(alloc);
+/// The place of the first message that passes, and 0 where none does.
+fn first(thread: &ThreadState, tree: &Tree, filter: Filter) -> u32 {
+    thread.first(tree, filter).map_or(0, |(number, _)| number)
+}
+
+fn keep_in_order(rt: &impl Abort, tree: &Tree, thread: &mut ThreadState) -> Result<(), Fail>
+    requires { thread.old ≡ fresh_thread }
+{
     thread.post(1, message(1024))?;
     thread.post(2, message(1025))?;
-    assert_eq!(rt;
-        thread.first(&tree, open).map_or(0, |(number, _)| number),
-        1
-    );
-    assert_eq!(rt;
-        thread.first(&tree, late).map_or(0, |(number, _)| number),
-        2
-    );
+    let found = [
+        first(thread, tree, OPEN) == 1,
+        first(thread, tree, LATE) == 2,
+    ];
+    hold(rt, &found);
     thread.take(1);
-    assert_eq!(rt; thread.len(), 1);
+    hold(rt, &[thread.len() == 1]);
     thread.purge(|w: Hwnd| -> bool { w.0 == 16 });
-    assert_eq!(rt; thread.len(), 1);
+    hold(rt, &[thread.len() == 1]);
     thread.end();
-    assert!(rt; thread.has_ended() && thread.len() == 0);
+    hold(rt, &[thread.has_ended() && thread.len() == 0]);
     Ok(())
+}
+
+#[test]
+fn messages_are_kept_in_order(rt: HostRuntime) -> Result<(), Fail> {
+    let alloc = rt.alloc();
+    let tree = Tree::new(alloc);
+    let mut thread = ThreadState::new(alloc);
+    keep_in_order(&rt, &tree, &mut thread)
 }
 
 #[test]
@@ -81,34 +97,99 @@ fn filters_pass_numbers_and_windows(rt: HostRuntime) {
     assert!(rt; !passes(&tree, nobody, &message(1024)));
 }
 
-#[test]
-fn a_waiting_thread_finds_what_comes(rt: HostRuntime) -> Result<(), Fail> {
-    let alloc: Global = rt.alloc();
-    let tree = Tree::new(alloc);
-    let late = Filter {
-        hwnd: 0,
-        min: 1025,
-        max: 1025,
-    };
-    let open = Filter {
-        hwnd: 0,
-        min: 0,
-        max: 0,
-    };
-    let mut thread = ThreadState::new(alloc);
+fn wait_for_late(rt: &impl Abort, tree: &Tree, thread: &mut ThreadState) -> Result<(), Fail>
+    requires { thread.old ≡ fresh_thread }
+{
     thread.post(1, message(1024))?;
     thread.note(Some(Call::Get(0, 1025, 1025)));
-    assert!(rt; thread.first(&tree, late).is_none());
+    hold(rt, &[first(thread, tree, LATE) == 0]);
     thread.post(2, message(1026))?;
-    assert!(rt; thread.first(&tree, late).is_none());
-    assert_eq!(rt;
-        thread.first(&tree, open).map_or(0, |(number, _)| number),
-        1
-    );
+    let found = [
+        first(thread, tree, LATE) == 0,
+        first(thread, tree, OPEN) == 1,
+    ];
+    hold(rt, &found);
     thread.post(3, message(1025))?;
-    assert_eq!(rt;
-        thread.first(&tree, late).map_or(0, |(number, _)| number),
-        3
-    );
+    hold(rt, &[first(thread, tree, LATE) == 3]);
+    Ok(())
+}
+
+#[test]
+fn a_waiting_thread_finds_what_comes(rt: HostRuntime) -> Result<(), Fail> {
+    let alloc = rt.alloc();
+    let tree = Tree::new(alloc);
+    let mut thread = ThreadState::new(alloc);
+    wait_for_late(&rt, &tree, &mut thread)
+}
+
+/// What is done to a thread.
+#[derive(Clone, Copy)]
+enum Step {
+    /// Takes out the message with the number.
+    Take(u32),
+    /// Takes out the messages of no window.
+    Purge,
+    /// Keeps the code of quit, or that there is none.
+    Quit(Option<u64>),
+    /// Looks, when there were so many posts.
+    Look(u32),
+    /// Ends the thread.
+    End,
+}
+
+/// Does a step.
+fn act(thread: &mut ThreadState, step: Step) {
+    match step {
+        Step::Take(number) => thread.take(number),
+        Step::Purge => thread.purge(|w: Hwnd| -> bool { w.0 == 0 }),
+        Step::Quit(code) => thread.set_quit(code),
+        Step::Look(posts) => thread.look(posts),
+        Step::End => thread.end(),
+    }
+}
+
+/// Whether a message or quit is there after a step, and whether one is that came since the last look.
+fn after(thread: &mut ThreadState, step: Step) -> (bool, bool) {
+    act(thread, step);
+    (thread.has_post(), thread.has_new_post())
+}
+
+#[test]
+fn posts_that_go_are_counted(rt: HostRuntime) -> Result<(), Fail> {
+    let mut thread = ThreadState::new(rt.alloc());
+    assert!(rt; !thread.has_post() && !thread.has_new_post());
+    thread.post(3, message(1024))?;
+    assert!(rt; thread.has_post() && thread.has_new_post());
+    thread.look(5);
+    assert!(rt; thread.has_post() && !thread.has_new_post());
+    thread.post(7, message(1024))?;
+    for (step, told) in [
+        (Step::Take(3), (true, true)),
+        (Step::Take(3), (true, true)),
+        (Step::Look(6), (true, true)),
+        (Step::Look(7), (true, false)),
+        (Step::Purge, (false, false)),
+    ] {
+        assert_eq!(rt; after(&mut thread, step), told);
+    }
+    Ok(())
+}
+
+#[test]
+fn quit_is_counted_as_one(rt: HostRuntime) -> Result<(), Fail> {
+    let mut thread = ThreadState::new(rt.alloc());
+    thread.post(1, message(1024))?;
+    for (step, told) in [
+        (Step::Quit(Some(1)), (true, true)),
+        (Step::Take(1), (true, true)),
+        (Step::Look(1), (true, false)),
+        (Step::Quit(Some(2)), (true, true)),
+        (Step::Quit(None), (false, false)),
+        (Step::Quit(Some(3)), (true, true)),
+        (Step::Look(1), (true, false)),
+        (Step::End, (true, false)),
+    ] {
+        assert_eq!(rt; after(&mut thread, step), told);
+    }
     Ok(())
 }

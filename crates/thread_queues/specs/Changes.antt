@@ -1,5 +1,5 @@
 -- What one entry changes at the threads.
-use Rattle.std.specs.Prelude.{ℕ, true, ◌==◌, if◌then◌else◌, List, [], ◌∷◌, ◌++◌, map, filter, Option, Some, None}
+use Rattle.std.specs.Prelude.{ℕ, false, true, ◌==◌, ◌&&◌, if◌then◌else◌, List, [], ◌∷◌, ◌++◌, length, map, filter, Option, Some, None, is_some}
 use Rattle.win_num.specs.declared.message.Msg.{Msg}
 use Rattle.post_queue.specs.Queue.{Posted, Queue, queue, post_of, without_number, without_window}
 use Rattle.user_model.specs.declared.call.Call.{Call}
@@ -8,11 +8,12 @@ use Rattle.user_model.specs.declared.entry.Answer.{Answer}
 use Rattle.user_model.specs.declared.entry.Answer.TheVariants.{Okay, Ended, Posted as PostMade, Got, Advanced, Value}
 use Rattle.user_model.specs.declared.entry.Origin.TheVariants.{Posted as FromPosted, Quit as FromQuit}
 use Rattle.user_model.specs.declared.entry.Entry.{Entry}
-use Rattle.user_model.specs.Past.{Past}
+use Rattle.user_model.specs.Past.{Past, is_refused}
 use Rattle.user_model.specs.Places.{clock, cursor}
 use Rattle.user_model.specs.Windows.{live, is_kin}
 use Rattle.user_model.specs.Retrievals.{removes}
-use Rattle.user_model.specs.Posts.{message, queue_of}
+use Rattle.user_model.specs.Posts.{message, posts as all_posts, queue_of}
+use Rattle.user_model.specs.Status.{is_look}
 use Rattle.user_model.specs.Deeds.{Posting, to_window, to_thread, posting_of}
 use Rattle.user_model.specs.Keys.{is_shift_down}
 use Rattle.thread_state.specs.Threads.{ThreadView, waiting_with}
@@ -68,7 +69,7 @@ queue_more q k m = queue q.limit (q.posted ++ post_of k m ∷ [])
 abbrev pub changed : ℕ → Change → ThreadView → ThreadView
 changed t (posts to k m) old = if to == t then record old { queue = queue_more old.queue k m } else old
 changed t (takes who n) old = if who == t then record old { queue = queue old.queue.limit (without_number old.queue.posted n) } else old
-changed t (quits who code) old = if who == t then record old { quit = code } else old
+changed t (quits who code) old = if who == t then record old { quit = code; quit_is_new = is_some code } else old
 changed t (purges who ws) old = if who == t then record old { queue = queue old.queue.limit (without_windows old.queue.posted ws) } else old
 changed t (ends who) old = if who == t then record old { queue = queue old.queue.limit []; ended = true } else old
 changed t none old = old
@@ -77,9 +78,13 @@ changed t none old = old
 abbrev pub noted : ℕ → Entry → ThreadView → ThreadView
 noted t e old = if e.who.0 == t then record old { waiting = waiting_with e } else old
 
+-- thread t after an entry with which there were so many posts: where it looks, what is there came before
+abbrev pub marked : ℕ → Entry → ℕ → ThreadView → ThreadView
+marked t e count old = if is_refused e then old else if is_look e.call && (e.who.0 == t) then record old { quit_is_new = false; seen = count } else old
+
 -- thread t after an entry
 abbrev pub thread_after : Past → Entry → ℕ → ThreadView → ThreadView
-thread_after past e t old = noted t e (changed t (change_of past e) old)
+thread_after past e t old = marked t e (length (all_posts (e ∷ past))) (noted t e (changed t (change_of past e) old))
 
 -- how many posts there were, after an answer
 abbrev pub count_kept : Answer → ℕ → ℕ

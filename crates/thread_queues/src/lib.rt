@@ -6,4 +6,6 @@ mod delivery;
 mod queues;
 
 pub use delivery::{Stamp, posting};
-pub use queues::{count_after, end, note_entry, post, purge_kin, set_quit, take, time_after};
+pub use queues::{
+    count_after, end, mark_look, note_entry, post, purge_kin, set_quit, take, time_after,
+};

@@ -2,10 +2,12 @@
 
 ghost use Rattle.std.specs.Prelude.{◌≡◌, ◌<◌, All, None, Some, OnOk, OnErr, length, slice_index_or};
 ghost use Rattle.win_num.specs.declared.message.Msg.{Msg};
-ghost use Rattle.thread_queues.specs.Changes.{changed, count_kept, ends, noted, posts, purges, quits, taken_if, takes, time_kept};
+ghost use Rattle.thread_queues.specs.Changes.{changed, count_kept, ends, marked, noted, posts, purges, quits, taken_if, takes, time_kept};
 ghost use Rattle.thread_queues.specs.Deliveries.{goes_with, kin_in, removal};
 ghost use Rattle.thread_queues.specs.Queues.{HasRoom, IsOne};
 ghost use Rattle.thread_state.specs.Threads.{waiting_with};
+ghost use Rattle.user_model.specs.Past.{is_refusal};
+ghost use Rattle.user_model.specs.Status.{is_look};
 ghost use Rattle.thread_queues.specs.Queues.{EachBy};
 
 use crate::delivery::posting;
@@ -89,6 +91,39 @@ pub fn note_entry(threads: &mut Vec<ThreadState>, entry: Entry)
     }
     let waiting = waiting_with(entry);
     threads[thread - 1].note(waiting);
+}
+
+/// Where the entry is a look of its own thread at its queue, what is there came before. `count` says how many posts there were with it.
+pub fn mark_look(threads: &mut Vec<ThreadState>, entry: Entry, count: u32)
+    ensures { EachBy (λ t. marked t entry count) threads.old.items threads.new.items }
+{
+    if is_refusal(entry.answer) || !is_look(entry.call) {
+        return;
+    }
+    let thread = usize::from(entry.who.0);
+    if thread == 0 || thread > threads.len() {
+        return;
+    }
+    threads[thread - 1].look(count);
+}
+
+/// Whether the answer is a refusal.
+fn is_refusal(answer: Answer) -> bool
+    ensures { result ≡ is_refusal answer }
+{
+    matches!(answer, Answer::Refused(_))
+}
+
+/// Whether the call is a look at what is there: a get, a peek or a status (Microsoft, GetQueueStatus function).
+fn is_look(call: Call) -> bool
+    ensures { result ≡ is_look call }
+{
+    match call {
+        Call::Get(..) => true,
+        Call::Peek(..) => true,
+        Call::Status(_) => true,
+        _ => false,
+    }
 }
 
 /// The call that an entry waits with.

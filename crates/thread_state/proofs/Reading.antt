@@ -1,6 +1,6 @@
 -- How many messages a search reads.
 use Rattle.std.proofs.Common.{◌≡◌, ◌+◌, ℕ, zero, suc, Bool, true, false, List, [], ◌∷◌, length, take, Option, Some, None, refl, ap, sym, ◌∙◌, arith}
-use Rattle.std.specs.Prelude.{slice_get}
+use Rattle.std.specs.Prelude.{IfSome, slice_get}
 use Rattle.std.specs.List.{AllByRecursion}
 use Rattle.std.proofs.lemmas.List.Elements.{recursion_from_All}
 use Rattle.win_num.specs.declared.message.Msg.{Msg}
@@ -28,3 +28,8 @@ counts R ps None before after h test tells = h.1 ∙ ap (λ n. before + n) (sym 
 counts R ps (Some found) before after h test tells =
     let n : reads (λ (p : Posted). test p.msg) ps ≡ suc h.0 = reads_up_to (λ p. test p.msg) ps h.0 (post_of found.0 found.1) h.1.here (sym (tells found.1 true h.1.passing)) (all_miss R test tells (take h.0 ps) (recursion_from_All (λ p. R p.msg false) (take h.0 ps) h.1.earlier)) in
     omega (arith, n, h.2)
+
+-- what holds anyway holds where something is found
+pub where_some : {A P : Type 0} (o : Option A) → P → IfSome o (λ x. P)
+where_some None h = tt
+where_some (Some x) h = h

@@ -1,3 +1,4 @@
+pub mod Counts
 pub mod Passing
 pub mod Reads
 pub mod Threads

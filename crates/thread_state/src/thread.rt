@@ -1,15 +1,17 @@
 //! What is kept of one thread.
 
-ghost use Rattle.std.specs.Prelude.{◌≡◌, ◌<◌, ◌≤◌, ◌==◌, ◌+◌, ℕ, [], ◌∷◌, ◌++◌, All, Bool, List, true, filter, find, length, nat_lt, not, option_map, OnOk, OnErr};
+ghost use Rattle.std.specs.Prelude.{◌≡◌, ◌<◌, ◌≤◌, ◌==◌, ◌&&◌, ◌||◌, ◌+◌, ℕ, [], ◌∷◌, ◌++◌, All, Bool, List, false, true, filter, find, is_some, length, nat_lt, not, option_map, IfSome, OnOk, OnErr};
 ghost use Rattle.std.specs.List.{list_any};
 ghost use Rattle.post_queue.specs.Queue.{Posted, pair_of, post_of, queue, without_number};
 ghost use Rattle.win_num.specs.declared.message.Hwnd.{Hwnd};
+ghost use Rattle.thread_state.specs.Counts.{posts_counted};
 ghost use Rattle.thread_state.specs.Passing.{IsMissed, IsMissedBy, passes_here, passes_in, passes_number_here};
 ghost use Rattle.thread_state.specs.Reads.{reads};
 ghost use Rattle.thread_state.specs.Threads.{fresh_thread};
 
 use crate::passing::{passes, passes_number};
 use post_queue::{Posts, Steps};
+use queue_status::Count;
 use std::alloc::{AllocError, Global};
 use std::marker::{Brand, Model};
 use std::sync::ledger::{Blank, Ledger};
@@ -24,6 +26,12 @@ pub struct ThreadState {
     posts: Posts,
     /// The code of quit, where it was posted and not taken since.
     quit: Option<u64>,
+    /// Whether quit was posted since the last look.
+    quit_is_new: bool,
+    /// The number of the last post of any thread at the last look.
+    seen: u32,
+    /// How many posted messages there are, and quit as one, and how many of them came since the last look.
+    posted: Count,
     ended: bool,
     /// The call of the last entry, where that waited.
     waiting: Option<Call>,
@@ -33,14 +41,14 @@ pub struct ThreadState {
 }
 
 impl Model for ThreadState {
-    ghost use Rattle.thread_state.specs.Passing.{IsMissedBy};
+    ghost use Rattle.thread_state.specs.Counts.{IsSound};
     ghost use Rattle.thread_state.specs.Threads.{ThreadView};
 
     ghost Value = { ThreadView };
 
-    ghost view = { λ s. record { queue = s.posts; quit = s.quit; ended = s.ended; waiting = s.waiting } };
+    ghost view = { λ s. record { queue = s.posts; quit = s.quit; quit_is_new = s.quit_is_new; seen = s.seen; ended = s.ended; waiting = s.waiting } };
 
-    ghost invariant = { λ s. IsMissedBy s.missed s.posts.posted };
+    ghost invariant = { λ s. IsSound s.posts s.quit s.quit_is_new s.seen s.posted s.missed };
 }
 
 impl ThreadState {
@@ -51,6 +59,9 @@ impl ThreadState {
         ThreadState {
             posts: Posts::new(alloc, QUEUE_LIMIT as u32),
             quit: None,
+            quit_is_new: false,
+            seen: 0,
+            posted: Count::none(),
             ended: false,
             waiting: None,
             missed: None,
@@ -92,8 +103,8 @@ impl ThreadState {
         first_uncounted::<Brand>(Blank::new(1), self, tree, filter)
     }
 
-    /// The same, in one step for each posted message that it reads: at most those up to the first that the filter lets pass, or all
-    /// where it lets none pass. None is read where the thread waits with a filter of the same range of numbers, and no posted message
+    /// The same, in one step for each posted message that it reads: those up to the first that the filter lets pass, and where it lets
+    /// none pass at most all. None is read where the thread waits with a filter of the same range of numbers, and no posted message
     /// has a number that it lets pass.
     pub fn first_counted<L: Ledger>(
         &self,
@@ -102,7 +113,8 @@ impl ThreadState {
         steps: &mut Steps<L>,
     ) -> Option<(u32, Msg)>
         ensures found { result ≡ option_map pair_of (find (passes_in tree.now.live filter) self.now.queue.posted) }
-        ensures reads { steps.new ≤ steps.old + reads (passes_in tree.now.live filter) self.now.queue.posted }
+        ensures reads { IfSome result (λ found. steps.new ≡ steps.old + reads (passes_in tree.now.live filter) self.now.queue.posted) }
+        ensures most { steps.new ≤ steps.old + reads (passes_in tree.now.live filter) self.now.queue.posted }
     {
         if misses(self.missed, filter) {
             return None;
@@ -113,11 +125,18 @@ impl ThreadState {
         self.posts.first(pass, steps)
     }
 
-    /// Whether a posted message stands with a number above this. No message is read.
-    pub fn has_post_above(&self, number: u32) -> bool
-        ensures { result ≡ list_any (λ p. nat_lt number p.number) self.now.queue.posted }
+    /// Whether a posted message or quit is there. No message is read.
+    pub fn has_post(&self) -> bool
+        ensures { result ≡ (list_any (λ p. true) self.now.queue.posted || is_some self.now.quit) }
     {
-        self.posts.has_above(number)
+        self.posted.is_there()
+    }
+
+    /// Whether a posted message or quit is there that came since the last look. No message is read.
+    pub fn has_new_post(&self) -> bool
+        ensures { result ≡ (list_any (λ p. nat_lt self.now.seen p.number) self.now.queue.posted || is_some self.now.quit && self.now.quit_is_new) }
+    {
+        self.posted.is_fresh()
     }
 
     /// Puts a message at the end.
@@ -130,6 +149,7 @@ impl ThreadState {
         match self.posts.post(number, msg) {
             Ok(()) => {
                 self.missed = still_missed(self.missed, &msg);
+                self.posted.add(self.seen < number);
                 Ok(())
             }
             Err(Fault::Memory) => Err(AllocError),
@@ -141,7 +161,10 @@ impl ThreadState {
     pub fn take(&mut self, number: u32)
         ensures { self.new ≡ record self.old { queue = queue self.old.queue.limit (without_number self.old.queue.posted number) } }
     {
-        let _taken = self.posts.remove(number);
+        let taken = self.posts.remove(number);
+        if taken.is_some() {
+            self.posted.remove(self.seen < number);
+        }
     }
 
     /// Takes out the messages for windows that go.
@@ -151,13 +174,34 @@ impl ThreadState {
     {
         self.missed = None;
         self.posts.purge_each(goes);
+        self.posted = counted(&self.posts, self.seen, self.quit, self.quit_is_new);
     }
 
-    /// Keeps the code of quit, or that there is none.
+    /// Keeps the code of quit, which comes now, or that there is none.
     pub fn set_quit(&mut self, quit: Option<u64>)
-        ensures { self.new ≡ record self.old { quit = quit } }
+        ensures { self.new ≡ record self.old { quit = quit; quit_is_new = is_some quit } }
     {
+        if self.quit.is_some() {
+            self.posted.remove(self.quit_is_new);
+        }
+        if quit.is_some() {
+            self.posted.add(true);
+        }
         self.quit = quit;
+        self.quit_is_new = quit.is_some();
+    }
+
+    /// The thread looks, when there were so many posts of all threads: what is there came before.
+    pub fn look(&mut self, posts: u32)
+        ensures { self.new ≡ record self.old { quit_is_new = false; seen = posts } }
+    {
+        self.quit_is_new = false;
+        self.seen = posts;
+        if self.posts.has_above(posts) {
+            self.posted = counted(&self.posts, posts, self.quit, false);
+        } else {
+            self.posted.look();
+        }
     }
 
     /// Ends the thread, and with it its messages.
@@ -165,6 +209,7 @@ impl ThreadState {
         ensures { self.new ≡ record self.old { queue = queue self.old.queue.limit []; ended = true } }
     {
         self.posts.clear();
+        self.posted = counted(&self.posts, self.seen, self.quit, self.quit_is_new);
         self.ended = true;
     }
 
@@ -175,6 +220,21 @@ impl ThreadState {
         self.missed = missed_by::<Brand>(Blank::new(1), &self.posts, waiting);
         self.waiting = waiting;
     }
+}
+
+/// How many posted messages there are, and quit as one, and how many of them came since the look at which there were so many posts.
+fn counted(posts: &Posts, seen: u32, quit: Option<u64>, quit_is_new: bool) -> Count
+    requires { length posts.now.posted ≤ 10000 }
+    ensures { result ≡ posts_counted seen posts.now.posted quit quit_is_new }
+{
+    let mut count = Count {
+        there: posts.len(),
+        fresh: posts.count_above(seen),
+    };
+    if quit.is_some() {
+        count.add(quit_is_new);
+    }
+    count
 }
 
 /// Whether a filter takes the same numbers as the one that is kept.

@@ -27,5 +27,7 @@ fn run(rt: &impl Print, machine: &mut User) -> anyhow::Result<()> {
 fn main(rt: HostRuntime) -> anyhow::Result<()> {
     // Two threads, and a screen of 8 by 4 pixels.
     let mut machine = User::new(rt.alloc(), Setup::new(2, 8, 4))?;
-    run(&rt, &mut machine)
+    let told = run(&rt, &mut machine);
+    drop(machine);
+    told
 }

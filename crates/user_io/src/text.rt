@@ -43,6 +43,9 @@ pub fn put_operand(out: &mut Vec<u8>, number: u64) -> Result<(), AllocError>
 pub fn put_signed(out: &mut Vec<u8>, number: i64) -> Result<(), AllocError>
     ensures { OnOk result (Adds out.old.items out.new.items (32 ∷ signed_decimal number)) }
 {
+    if let Ok(number) = u64::try_from(number) {
+        return put_operand(out, number);
+    }
     let mut buffer = Buffer::new();
     out.push(b' ')?;
     put_text(out, buffer.format(number).as_bytes())?;

@@ -57,7 +57,9 @@ fn run_first(rt: &impl Print, alloc: Global, script: &Script) -> anyhow::Result<
     let mut worker = Worker::new(alloc, &program, 1)?;
     let setup = Setup::new(script.thread_count(), script.width(), script.height());
     let mut machine = User::new(alloc, setup)?;
-    run(rt, &program, &mut worker, &mut machine)
+    let told = run(rt, &program, &mut worker, &mut machine);
+    drop(machine);
+    told
 }
 
 fn main(rt: HostRuntime) -> anyhow::Result<()> {

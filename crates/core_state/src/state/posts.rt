@@ -1,5 +1,5 @@
-//! Entries that add a post, and entries that look for a message and find a post or none. They change posts, waits, looks and the count of
-//! posts, and nothing else.
+//! Entries that add a post, and entries that look for a message and find a post or none. They change posts, waits, looks, marks of
+//! ready lists and the count of posts, and nothing else.
 
 ghost use Rattle.std.specs.Prelude.{◌≡◌, ◌∷◌, true, false, OnOk, OnErr, List, None};
 ghost use Rattle.core_state.specs.Needs.{FitsPosting, FitsReading};
@@ -13,9 +13,10 @@ ghost use Rattle.user_model.specs.Idle.{reply};
 ghost use Rattle.win_rows.specs.declared.window.Window.{Window as KeptWindow};
 
 use super::{CoreState, make_place};
+use crate::sendings::note_look;
 use look_state::seen_by;
 use std::alloc::AllocError;
-use thread_queues::{Stamp, count_after, note_entry, post, posting, take};
+use thread_queues::{Stamp, count_after, mark_look, note_entry, post, posting, take};
 use thread_state::ThreadState;
 use user_model::{Answer, Call, Entry, Origin};
 use win_tree::Tree;
@@ -112,8 +113,10 @@ impl CoreState {
         make_place(&mut self.history)?;
         take_post(&mut self.threads, entry);
         note_wait(&mut self.threads, entry);
+        mark_look(&mut self.threads, entry, self.progress.posts);
         let after = self.progress.moment(place + 1, self.sends.begun());
         self.looks.follow(entry, after, seen);
+        note_look(&mut self.sends, entry, place + 1);
         self.history.push(entry).unwrap();
         Ok(())
     }

@@ -24,6 +24,7 @@ use Rattle.timer_state.proofs.TimerNeeds.{fits_adding, fits_following}
 use Rattle.core_state.proofs.DisplaySteps.{display_step}
 use Rattle.core_state.proofs.Timing.{still_fits, timers_step}
 use Rattle.core_state.proofs.SendCounts.{naming_fits}
+use Rattle.core_state.proofs.SendMarks.{look_fits, looks_stand, marks_kept}
 use Rattle.core_state.proofs.state.CoreState.append_any.Goals as goal
 
 pub after-requires : goal.after-requires
@@ -167,6 +168,19 @@ take_effect-requires-clause-parts c =
     let right : e.answer ≡ reply s.setup past e.who.0 e.call = subst (λ (v : Seen). e.answer ≡ reply v.setup v.past e.who.0 e.call) (sym c.self.view_is) c.requires.answer in
     settling_fits s.setup past kept e c.add_change.new.classes c.add_change.new.tree c.add_change.new.threads.items c.self.invariant right c.in_ok-add_change.ensures.classes c.in_ok-add_change.ensures.tree c.in_ok-add_change.ensures.threads.same_length
 
+pub note_look-requires : goal.note_look-requires
+note_look-requires c =
+    let e = c.args.entry in
+    let s = c.self.inside in
+    let past : Past = reverse s.history.items in
+    let kept : Parts = parts s.tree s.order s.display s.classes s.threads.items s.timers s.groups s.inputs s.progress s.sends s.tally s.stories.items s.looks s.dialogs in
+    let room : is_full past ≡ false = subst (λ (v : Seen). is_full v.past ≡ false) (sym c.self.view_is) c.requires.room in
+    let right : e.answer ≡ reply s.setup past e.who.0 e.call = subst (λ (v : Seen). e.answer ≡ reply v.setup v.past e.who.0 e.call) (sym c.self.view_is) c.requires.answer in
+    let long : c.len.result ≡ length s.history.items = search rules in
+    let here : c.len.result ≡ place_after past = long ∙ sym (length-reverse s.history.items) in
+    let grown = c.in_ok-add_change.ensures in
+    look_fits s.setup past e c.len.result c.settle_sends-lost.new.sends room right here (sends_step s.setup past kept e c.add_change.new.tree c.add_change.new.sends c.settle_sends-lost.new.sends c.len.result c.self.invariant right grown.tree grown.sends c.settle_sends-lost.ensures.sends here)
+
 pub invariant_of-self-2 : goal.invariant_of-self-2
 invariant_of-self-2 c =
     let e = c.args.entry in
@@ -191,10 +205,12 @@ invariant_of-self-2 c =
     let timed = timers_step s.setup past kept e c.add_change.new.tree c.add_change.new.timers c.follow_timers.new.timers c.self.invariant right grown.tree grown.timers c.follow_timers.ensures in
     let grouped = c.follow.ensures s.setup past (record { lawful = c.self.invariant.lawful; groups = c.self.invariant.groups; at = here; right = right }) in
     let stay : PartsStand s.setup (e ∷ past) c.settle_sends-lost.new.sends = sends_step s.setup past kept e c.add_change.new.tree c.add_change.new.sends c.settle_sends-lost.new.sends c.len.result c.self.invariant right grown.tree grown.sends c.settle_sends-lost.ensures.sends here in
+    let kept_marks = marks_kept s.tree.live c.add_change.new.tree.live s.progress.time c.len.result e s.sends c.add_change.new.sends c.settle_sends-lost.new.sends grown.sends c.settle_sends-lost.ensures.sends in
+    let marked = looks_stand s.setup past e c.len.result s.sends c.settle_sends-lost.new.sends c.note_look.new.sends right here c.self.invariant.marks kept_marks stay c.note_look.ensures in
     let after : c.moment-after.result ≡ moment_at (e ∷ past) = moment_step s.setup past kept e c.followed_by-self-inside.result c.settle_sends-lost.new.sends c.len.result c.begun.result c.moment-after.result c.self.invariant right c.followed_by-self-inside.ensures stay here c.begun.ensures c.moment-after.ensures in
     let looked : AreLooksAt s.setup (e ∷ past) c.follow-2.new.self = looks_step s.setup past e s.tree s.order s.display.screen c.moment-after.result c.in_ok-seen.seen.items s.looks c.follow-2.new.self (c.self.invariant.lawful, right) c.self.invariant.tree c.self.invariant.order c.self.invariant.display.screen c.self.invariant.looks after (λ is. c.in_ok-seen.ensures is ∙ ap (seen_of s.tree.live e.who.0) (c.dirty.ensures.value ∙ ap (λ (k : Screen). k.dirty) c.screen.ensures)) c.follow-2.ensures in
-    let now = stands_step s.setup past kept c.shift_for.result c.meant_by-meant.result e c.add_change.new.classes c.take_effect.new.classes c.add_change.new.tree c.take_effect.new.tree c.add_change.new.order c.take_effect.new.order c.take_over.new.self c.add_change.new.threads.items c.take_effect.new.threads.items c.note_entry.new.threads.items c.follow_timers.new.timers c.follow.new.self c.add_change.new.inputs c.follow_inputs.new.inputs c.followed_by-self-inside.result c.add_change.new.sends c.settle_sends-lost.new.sends c.first_cause-first.result c.settle_sends-lost.result c.with-self-inside.result (with_begun e.answer c.make_room.new.stories.items) told.between c.settle_sends-lost.new.stories.items c.follow-2.new.self c.add_change.new.dialogs c.len.result room right c.self.invariant down meant grown.classes settled.classes grown.tree settled.tree grown.order settled.order seen grown.threads settled.threads c.note_entry.ensures timed grouped grown.inputs c.follow_inputs.ensures c.followed_by-self-inside.ensures grown.sends c.settle_sends-lost.ensures.sends here first c.settle_sends-lost.ensures.lost c.with-self-inside.ensures begun told.before noted looked grown.dialogs in
-    subst (λ (h : Past). Stands s.setup h (parts c.take_effect.new.tree c.take_effect.new.order c.take_over.new.self c.take_effect.new.classes c.note_entry.new.threads.items c.follow_timers.new.timers c.follow.new.self c.follow_inputs.new.inputs c.followed_by-self-inside.result c.settle_sends-lost.new.sends c.with-self-inside.result c.settle_sends-lost.new.stories.items c.follow-2.new.self c.add_change.new.dialogs)) newest (search (rules, now))
+    let now = stands_step s.setup past kept c.shift_for.result c.meant_by-meant.result e c.add_change.new.classes c.take_effect.new.classes c.add_change.new.tree c.take_effect.new.tree c.add_change.new.order c.take_effect.new.order c.take_over.new.self c.add_change.new.threads.items c.take_effect.new.threads.items c.note_entry.new.threads.items c.mark_look.new.threads.items c.follow_timers.new.timers c.follow.new.self c.add_change.new.inputs c.follow_inputs.new.inputs c.followed_by-self-inside.result c.add_change.new.sends c.note_look.new.sends c.first_cause-first.result c.settle_sends-lost.result c.with-self-inside.result (with_begun e.answer c.make_room.new.stories.items) told.between c.settle_sends-lost.new.stories.items c.follow-2.new.self c.add_change.new.dialogs c.len.result room right c.self.invariant down meant grown.classes settled.classes grown.tree settled.tree grown.order settled.order seen grown.threads settled.threads c.note_entry.ensures c.mark_look.ensures timed grouped grown.inputs c.follow_inputs.ensures c.followed_by-self-inside.ensures grown.sends marked.0 marked.1 here first c.settle_sends-lost.ensures.lost c.with-self-inside.ensures begun told.before noted looked grown.dialogs in
+    subst (λ (h : Past). Stands s.setup h (parts c.take_effect.new.tree c.take_effect.new.order c.take_over.new.self c.take_effect.new.classes c.mark_look.new.threads.items c.follow_timers.new.timers c.follow.new.self c.follow_inputs.new.inputs c.followed_by-self-inside.result c.note_look.new.sends c.with-self-inside.result c.settle_sends-lost.new.stories.items c.follow-2.new.self c.add_change.new.dialogs)) newest (search (rules, now))
 
 pub with-self-inside-requires : goal.with-self-inside-requires
 with-self-inside-requires c =

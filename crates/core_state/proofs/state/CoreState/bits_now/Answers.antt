@@ -13,4 +13,4 @@ returns-clause-bits c =
     let v = c.args.self.now in
     let t = c.args.thread in
     let before : IsBefore v.setup v.past [] t first_look = subst (λ (v : Seen). IsBefore v.setup v.past [] t first_look) c.self.view_is (from_start s.setup past t c.self.invariant.lawful c.requires.some) in
-    c.in_ok-bits.ensures.bits [] (subst (IsBefore v.setup v.past [] t) (sym c.new-start.ensures) before)
+    c.in_ok-bits.ensures.bits [] (subst (IsBefore v.setup v.past [] t) (sym c.new-start.ensures) before) c.has_post-posted.ensures c.has_send-sent.ensures

@@ -4,19 +4,15 @@ use Rattle.std.specs.FinMap as map
 use Rattle.win_num.specs.declared.message.Hwnd.{Hwnd}
 use Rattle.win_num.specs.declared.send.Cause.TheVariants.{Loss}
 use Rattle.send_frames.specs.Book.{Book}
-use Rattle.send_variants.specs.Lists.{Entry, all_without, place_on}
+use Rattle.send_variants.specs.Lists.{Entry, ReadyView, place_on}
 use Rattle.send_state.specs.Parts.{CanAnswer, Ranked, SendParts, answered, is_losable, is_lost, lost_to, rank}
 use Rattle.send_state.proofs.Losing.{all_without-place, begun-answered, both_true, can-lose, kept-here, known-within, left_false, lost-all, lost-at, lost-here, none_there, rank-grows, right_false}
 use Rattle.send_state.proofs.state.SendState.lose.Goals as goal
 use Rattle.send_state.proofs.state.SendState.lose.Goals.{else-is_losable-via-then-is_losable+else-is_some, else-is_losable-via-else-is_losable}
 
--- the parts of a book and lists
-abbrev parts : Book → List (List Entry) → SendParts
-parts b lists = record { book = b; lists = lists }
-
--- the parts with the lists that are left
-abbrev rest : Book → List (List Entry) → ℕ → SendParts
-rest b lists s = parts b (all_without s lists)
+-- the parts of a book and ready lists
+abbrev parts : Book → ReadyView → SendParts
+parts b r = record { book = b; lists = r.lists; marks = r.marks }
 
 pub answer-requires : goal.answer-requires
 answer-requires g c =
@@ -24,11 +20,11 @@ answer-requires g c =
     let s = c.in-Some.send.0 in
     let far = c.loop-send.invariant.so_far test c.requires.joins.1 ∙ ap (λ (p : SendParts). (p, c.loop-send.rank)) (sym c.self.view_is) in
     let lost : is_lost test (parts c.self.inside.sends c.self.inside.ready) s ≡ true =
-    both_true (is_losable test (map.get c.self.inside.sends.known s)) (is_some (place_on s c.self.inside.ready))
+    both_true (is_losable test (map.get c.self.inside.sends.known s)) (is_some (place_on s c.self.inside.ready.lists))
     (ap (λ (p : SendParts). is_losable test (map.get p.book.known s)) c.self.view_is ∙ sym (c.is_losable.ensures test c.requires.joins.1) ∙ c.if-is_losable.true)
     (ap (λ (o : Option ℕ). is_some o) (sym c.withdraw.ensures.place) ∙ sym c.is_some.ensures ∙ c.if-is_some.true) in
     let can = can-lose test (c.args.self.now, rank c.args.place 0) (parts c.self.inside.sends c.self.inside.ready, c.loop-send.rank) c.loop-send.last.0 s far c.in-Some.ensures.next c.requires.joins.2 lost in
-    subst (λ (l : List (List Entry)). CanAnswer (parts c.self.inside.sends l) s c.loop-send.rank) (sym c.withdraw.ensures.rest) can.0
+    subst (λ (l : ReadyView). CanAnswer (parts c.self.inside.sends l) s c.loop-send.rank) (sym c.withdraw.ensures.rest) can.0
 
 pub overflow_add-rank : goal.overflow_add-rank
 overflow_add-rank g c =
@@ -36,7 +32,7 @@ overflow_add-rank g c =
     let s = c.in-Some.send.0 in
     let far = c.loop-send.invariant.so_far test c.requires.joins.1 ∙ ap (λ (p : SendParts). (p, c.loop-send.rank)) (sym c.self.view_is) in
     let lost : is_lost test (parts c.self.inside.sends c.self.inside.ready) s ≡ true =
-    both_true (is_losable test (map.get c.self.inside.sends.known s)) (is_some (place_on s c.self.inside.ready))
+    both_true (is_losable test (map.get c.self.inside.sends.known s)) (is_some (place_on s c.self.inside.ready.lists))
     (ap (λ (p : SendParts). is_losable test (map.get p.book.known s)) c.self.view_is ∙ sym (c.is_losable.ensures test c.requires.joins.1) ∙ c.if-is_losable.true)
     (ap (λ (o : Option ℕ). is_some o) (sym c.withdraw.ensures.place) ∙ sym c.is_some.ensures ∙ c.if-is_some.true) in
     let can = can-lose test (c.args.self.now, rank c.args.place 0) (parts c.self.inside.sends c.self.inside.ready, c.loop-send.rank) c.loop-send.last.0 s far c.in-Some.ensures.next c.requires.joins.2 lost in
@@ -53,12 +49,12 @@ loop-send-preserved-then-is_some g c =
       so_far = λ test computes.
           let far = c.loop-send.invariant.so_far test computes ∙ ap (λ (p : SendParts). (p, c.loop-send.rank)) (sym c.self.view_is) in
           let lost : is_lost test (parts c.self.inside.sends c.self.inside.ready) s ≡ true =
-          both_true (is_losable test (map.get c.self.inside.sends.known s)) (is_some (place_on s c.self.inside.ready))
+          both_true (is_losable test (map.get c.self.inside.sends.known s)) (is_some (place_on s c.self.inside.ready.lists))
           (ap (λ (p : SendParts). is_losable test (map.get p.book.known s)) c.self.view_is ∙ sym (c.is_losable.ensures test computes) ∙ c.if-is_losable.true)
           (ap (λ (o : Option ℕ). is_some o) (sym c.withdraw.ensures.place) ∙ sym c.is_some.ensures ∙ c.if-is_some.true) in
           lost-at test (c.args.self.now, rank c.args.place 0) (parts c.self.inside.sends c.self.inside.ready, c.loop-send.rank) c.loop-send.last.0 s far c.in-Some.ensures.next
           ∙ lost-here test (parts c.self.inside.sends c.self.inside.ready, c.loop-send.rank) s lost
-          ∙ ap (λ (p : SendParts). (p, c.loop-send.rank + 1)) (sym (c.answer.ensures.answered ∙ ap (λ (l : List (List Entry)). answered (parts c.self.inside.sends l) s 0 Loss c.loop-send.rank) c.withdraw.ensures.rest));
+          ∙ ap (λ (p : SendParts). (p, c.loop-send.rank + 1)) (sym (c.answer.ensures.answered ∙ ap (λ (l : ReadyView). answered (parts c.self.inside.sends l) s 0 Loss c.loop-send.rank) c.withdraw.ensures.rest));
       begun = begun ∙ same ∙ c.loop-send.invariant.begun;
       within = omega (arith, within, begun);
     }
@@ -68,8 +64,8 @@ loop-send-preserved g c =
     let s = c.in-Some.send.0 in
     let kept : c.else-is_losable.self ≡ c.loop-send.self = elim c.else-is_losable.branch [
       | else-is_losable-via-then-is_losable+else-is_some w ↦
-          let none = none_there (place_on s c.self.inside.ready) (ap (λ (o : Option ℕ). is_some o) (sym w.withdraw.ensures.place) ∙ sym w.is_some.ensures ∙ w.if-is_some.false) in
-          w.self-is ∙ ap (parts c.self.inside.sends) (w.withdraw.ensures.rest ∙ all_without-place s c.self.inside.ready none) ∙ c.self.view_is
+          let none = none_there (place_on s c.self.inside.ready.lists) (ap (λ (o : Option ℕ). is_some o) (sym w.withdraw.ensures.place) ∙ sym w.is_some.ensures ∙ w.if-is_some.false) in
+          w.self-is ∙ ap (parts c.self.inside.sends) (w.withdraw.ensures.rest ∙ ap (λ (l : List (List Entry)). let v : ReadyView = record c.self.inside.ready { lists = l } in v) (all_without-place s c.self.inside.ready.lists none)) ∙ c.self.view_is
       | else-is_losable-via-else-is_losable w ↦ w.self-is
     ] in
     let within : s ≤ c.self.inside.sends.begun = known-within c.self.inside.sends s c.in-Some.ensures.sound c.in-Some.ensures.next.1 in
@@ -80,10 +76,10 @@ loop-send-preserved g c =
           let far = c.loop-send.invariant.so_far test computes ∙ ap (λ (p : SendParts). (p, c.loop-send.rank)) (sym c.self.view_is) in
           let not_lost : is_lost test (parts c.self.inside.sends c.self.inside.ready) s ≡ false = elim c.else-is_losable.branch [
             | else-is_losable-via-then-is_losable+else-is_some w ↦
-                right_false (is_losable test (map.get c.self.inside.sends.known s)) (is_some (place_on s c.self.inside.ready))
+                right_false (is_losable test (map.get c.self.inside.sends.known s)) (is_some (place_on s c.self.inside.ready.lists))
                 (ap (λ (o : Option ℕ). is_some o) (sym w.withdraw.ensures.place) ∙ sym w.is_some.ensures ∙ w.if-is_some.false)
             | else-is_losable-via-else-is_losable w ↦
-                left_false (is_losable test (map.get c.self.inside.sends.known s)) (is_some (place_on s c.self.inside.ready))
+                left_false (is_losable test (map.get c.self.inside.sends.known s)) (is_some (place_on s c.self.inside.ready.lists))
                 (ap (λ (p : SendParts). is_losable test (map.get p.book.known s)) c.self.view_is ∙ sym (c.is_losable.ensures test computes) ∙ w.if-is_losable.false)
           ] in
           lost-at test (c.args.self.now, rank c.args.place 0) (parts c.self.inside.sends c.self.inside.ready, c.loop-send.rank) c.loop-send.last.0 s far c.in-Some.ensures.next

@@ -1,65 +1,36 @@
-use Rattle.std.proofs.Common.{◌≡◌, ◌≤◌, ◌<◌, ◌-◌, ◌∙◌, ◌++◌, ◌∷◌, [], ℕ, List, length, get_or, set, sym, ap, subst, arith}
-use Rattle.std.proofs.lemmas.List.{length-set}
-use Rattle.send_variants.specs.declared.slot.Ends.{Ends}
-use Rattle.send_variants.specs.Lists.{AreBelow, Entry, IsSound, count_on, list_of, named_by, total, with_list}
-use Rattle.send_variants.specs.Tables.{IsTable, IsPut, lists_in, no_ends, slot_of}
-use Rattle.send_variants.proofs.Entries.{sound-put}
-use Rattle.send_variants.proofs.Tables.{lists_length}
-use Rattle.send_variants.proofs.Steps.{IsFirstFree, first_free, put_view, put_table}
+use Rattle.std.proofs.Common.{◌≡◌, ◌∙◌, ◌<◌, ◌-◌, ◌++◌, ◌∷◌, [], ℕ, List, length, get_or, set, sym, ap, subst, arith}
+use Rattle.std.specs.Prelude.{nat_le}
+use Rattle.queue_status.specs.Counts.{one_more}
+use Rattle.send_variants.specs.Lists.{Entry, IsThread, ReadyView, list_of, with_list}
+use Rattle.send_variants.specs.Counts.{AreCounted, marks_in, no_mark}
+use Rattle.send_variants.specs.declared.mark.Mark.{Mark}
+use Rattle.send_variants.proofs.Counts.{count_put, few_there, fresh_there, mark_within, marks_kept}
 use Rattle.send_variants.proofs.lists.ReadyLists.put.Goals as goal
 
-module _ (c : goal.After-put_at) where
-  abbrev lists : List (List Entry)
-  lists = lists_in c.self.inside.slots.items c.self.inside.ends.items
+pub count_in-requires-clause-at : goal.count_in-requires-clause-at
+count_in-requires-clause-at c =
+    let here : c.from.result - 1 < length c.self.inside.marks.items = mark_within c.self.inside.marks.items c.self.inside.lists c.args.t.0 c.from.result c.self.invariant.0 (subst (λ (v : ReadyView). IsThread v.lists c.args.t.0) (sym c.self.view_is) c.requires.thread) c.from.ensures in
+    omega (arith, here, c.self.inside.marks.ok)
 
-  abbrev i : ℕ
-  i = c.from-at.result - 1
+pub count_in-requires-clause-sound : goal.count_in-requires-clause-sound
+count_in-requires-clause-sound c = fresh_there c.self.inside.marks.items c.self.inside.lists (c.from.result - 1) c.self.invariant.0
 
-  i_is : i ≡ c.args.t.0 - 1
-  i_is = ap (λ n. n - 1) c.from-at.ensures
-
-  room : total lists < 1024
-  room = subst (λ b. total b < 1024) (sym c.self.view_is) c.requires.room
-
-  below : AreBelow c.args.place (list_of lists c.args.t.0)
-  below = subst (λ b. AreBelow c.args.place (list_of b c.args.t.0)) (sym c.self.view_is) c.requires.above
-
-  high : c.args.t.0 ≤ length lists
-  high = subst (λ (b : List (List Entry)). c.args.t.0 ≤ length b) (sym c.self.view_is) c.requires.thread.1
-
-  within : i < length c.self.inside.ends.items
-  within = omega (arith, i_is, high, c.requires.thread.0, lists_length c.self.inside.slots.items c.self.inside.ends.items)
-
-  abbrev first : IsFirstFree c.self.inside.slots.items c.self.inside.free c.self.invariant.0.unused
-  first = first_free c.self.inside.slots.items c.self.inside.free c.self.invariant.0.unused c.self.invariant.0.freed (omega (arith, c.self.invariant.0.full, room))
-
-  abbrev told : (pair : Ends) × IsPut c.self.inside.slots.items c.put_at.new.slots.items c.put_at.new.free (get_or c.self.inside.ends.items i no_ends) pair first.key first.was (slot_of i c.args.place c.args.r (get_or c.self.inside.ends.items i no_ends)) × (c.put_at.new.ends.items ≡ set c.self.inside.ends.items i pair)
-  told = c.put_at.ensures first.key first.was first.at first.here
-
-  below_i : AreBelow c.args.place (get_or lists i [])
-  below_i = subst (λ n. AreBelow c.args.place (get_or lists n [])) (sym i_is) below
-
-  view : lists_in c.put_at.new.slots.items c.put_at.new.ends.items ≡ with_list lists c.args.t.0 (list_of lists c.args.t.0 ++ (c.args.place, c.args.r) ∷ [])
-  view =
-      ap (lists_in c.put_at.new.slots.items) told.2
-      ∙ put_view c.self.inside.slots.items c.put_at.new.slots.items c.self.inside.ends.items i c.args.place c.args.r c.self.inside.free c.put_at.new.free told.0 c.self.invariant.0 within below_i room first told.1
-      ∙ ap (λ n. set lists n (get_or lists n [] ++ (c.args.place, c.args.r) ∷ [])) i_is
-
-  table : IsTable c.put_at.new.slots.items c.put_at.new.ends.items c.put_at.new.free
-  table = subst (λ (es : List Ends). IsTable c.put_at.new.slots.items es c.put_at.new.free) (sym told.2)
-      (put_table c.self.inside.slots.items c.put_at.new.slots.items c.self.inside.ends.items i c.args.place c.args.r c.self.inside.free c.put_at.new.free told.0 c.self.invariant.0 within below_i room first told.1)
-
-  sound : IsSound (lists_in c.put_at.new.slots.items c.put_at.new.ends.items)
-  sound = subst IsSound (sym view) (sound-put lists c.args.t.0 c.args.place c.args.r c.self.invariant.1 c.requires.thread.0 high below room (subst (λ b. count_on (named_by c.args.r) b ≡ 0) (sym c.self.view_is) c.requires.unnamed))
+pub count_in-requires-clause-few : goal.count_in-requires-clause-few
+count_in-requires-clause-few c = few_there c.self.inside.marks.items c.self.inside.lists (c.from.result - 1) c.self.invariant.0 c.self.invariant.1
 
 pub invariant_of-self : goal.invariant_of-self
-invariant_of-self c = (table c, sound c)
+invariant_of-self c =
+    let i : ℕ = c.from.result - 1 in
+    let marks : List Mark = c.self.inside.marks.items in
+    let lists : List (List Entry) = c.self.inside.lists in
+    let same : set lists i (get_or lists i [] ++ (c.args.place, c.args.r) ∷ []) ≡ c.put.new.self = ap (λ n. set lists (n - 1) (get_or lists (n - 1) [] ++ (c.args.place, c.args.r) ∷ [])) c.from.ensures ∙ sym c.put.ensures.put in
+    (subst (λ (ms : List Mark). AreCounted ms c.put.new.self) (sym c.count_in.ensures) (subst (AreCounted (set marks i (let was : Mark = get_or marks i no_mark in record was { count = one_more (nat_le was.from c.args.place) was.count }))) same (count_put marks lists i c.args.place c.args.r c.self.invariant.0)), c.put.ensures.sound)
 
 pub returns-clause-put : goal.returns-clause-put
-returns-clause-put c = view c ∙ ap (λ (b : List (List Entry)). with_list b c.args.t.0 (list_of b c.args.t.0 ++ (c.args.place, c.args.r) ∷ [])) c.self.view_is
-
-pub returns-clause-threads : goal.returns-clause-threads
-returns-clause-threads c = ap length (view c) ∙ length-set (lists c) (c.args.t.0 - 1) (list_of (lists c) c.args.t.0 ++ (c.args.place, c.args.r) ∷ []) ∙ ap length c.self.view_is
-
-pub returns-clause-sound : goal.returns-clause-sound
-returns-clause-sound c = sound c
+returns-clause-put c =
+    let i : ℕ = c.from.result - 1 in
+    let marks : List Mark = c.self.inside.marks.items in
+    let was : Mark = get_or marks i no_mark in
+    ap (λ (l : List (List Entry)). let v : ReadyView = record { lists = l; marks = marks_in c.count_in.new.marks.items } in v) c.put.ensures.put
+    ∙ ap (λ (l : List ℕ). let v : ReadyView = record { lists = with_list c.self.inside.lists c.args.t.0 (list_of c.self.inside.lists c.args.t.0 ++ (c.args.place, c.args.r) ∷ []); marks = l } in v) (ap marks_in c.count_in.ensures ∙ marks_kept marks i (one_more (nat_le was.from c.args.place) was.count))
+    ∙ ap (λ (v : ReadyView). let w : ReadyView = record v { lists = with_list v.lists c.args.t.0 (list_of v.lists c.args.t.0 ++ (c.args.place, c.args.r) ∷ []) } in w) c.self.view_is

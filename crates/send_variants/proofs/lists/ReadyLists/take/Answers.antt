@@ -1,94 +1,45 @@
-use Rattle.std.proofs.Common.{◌≡◌, ◌≤◌, ◌<◌, ◌-◌, ◌∙◌, ◌∷◌, [], ℕ, suc, List, Some, None, drop, length, get_or, set, slice_get, sym, ap, subst, arith}
-use Rattle.std.proofs.lemmas.List.{length-set}
-use Rattle.send_variants.specs.declared.slot.Slot.{Slot}
-use Rattle.send_variants.specs.declared.slot.Ends.{Ends}
-use Rattle.send_variants.specs.Lists.{Entry, IsSound, list_of, with_list}
-use Rattle.send_variants.specs.Tables.{IsRow, IsTable, IsTaken, Linked, entries_at, entry_of, first_key, lists_in, no_ends, seen}
-use Rattle.send_variants.proofs.Entries.{sound-take}
-use Rattle.send_variants.proofs.Joins.{first_parts}
-use Rattle.send_variants.proofs.Tables.{ends_at, lists_length, seen_is}
-use Rattle.send_variants.proofs.Steps.{old_parts, take_view, take_table}
+use Rattle.std.proofs.Common.{◌≡◌, ◌∙◌, ◌<◌, ◌-◌, ◌∷◌, [], ℕ, List, Some, drop, length, get_or, set, slice_get, sym, ap, subst, arith}
+use Rattle.std.specs.Prelude.{nat_le}
+use Rattle.queue_status.specs.Counts.{one_less}
+use Rattle.send_variants.specs.Lists.{Entry, IsThread, ReadyView, list_of, with_list}
+use Rattle.send_variants.specs.Counts.{AreCounted, marks_in, no_mark}
+use Rattle.send_variants.specs.declared.mark.Mark.{Mark}
+use Rattle.send_variants.proofs.Counts.{count_less, first_of, fresh_there, mark_within, marks_kept, may_leave}
 use Rattle.send_variants.proofs.lists.ReadyLists.take.Goals as goal
 
-module _ (c : goal.After-take_at) where
-  abbrev s : List Slot
-  s = c.self.inside.slots.items
+pub count_out-requires-clause-at : goal.count_out-requires-clause-at
+count_out-requires-clause-at c =
+    let here : c.from.result - 1 < length c.self.inside.marks.items = mark_within c.self.inside.marks.items c.self.inside.lists c.args.t.0 c.from.result c.self.invariant.0 (subst (λ (v : ReadyView). IsThread v.lists c.args.t.0) (sym c.self.view_is) c.requires) c.from.ensures in
+    omega (arith, here, c.self.inside.marks.ok)
 
-  abbrev ends : List Ends
-  ends = c.self.inside.ends.items
+pub count_out-requires-clause-sound : goal.count_out-requires-clause-sound
+count_out-requires-clause-sound c = fresh_there c.self.inside.marks.items c.self.inside.lists (c.from.result - 1) c.self.invariant.0
 
-  abbrev lists : List (List Entry)
-  lists = lists_in s ends
+-- what was taken was the first of its list
+taken : (lists : List (List Entry)) (t n : ℕ) (e : Entry) → n ≡ t → Some e ≡ slice_get (list_of lists t) 0 → get_or lists (n - 1) [] ≡ e ∷ drop 1 (get_or lists (n - 1) [])
+taken lists t n e same is = first_of (get_or lists (n - 1) []) e (ap (λ m. slice_get (get_or lists (m - 1) []) 0) same ∙ sym is)
 
-  abbrev i : ℕ
-  i = c.from-at.result - 1
+pub count_out-requires-clause-some : goal.count_out-requires-clause-some
+count_out-requires-clause-some c =
+    let lists : List (List Entry) = c.self.inside.lists in
+    let i : ℕ = c.from.result - 1 in
+    may_leave c.self.inside.marks.items lists i [] (drop 1 (get_or lists i [])) (c.in_ok-place.place, c.in_ok-place.ready) c.self.invariant.0 (taken lists c.args.t.0 c.from.result (c.in_ok-place.place, c.in_ok-place.ready) c.from.ensures c.in_ok-place.ensures.taken)
 
-  abbrev key : ℕ
-  key = c.in_ok-key.key
-
-  i_is : i ≡ c.args.t.0 - 1
-  i_is = ap (λ n. n - 1) c.from-at.ensures
-
-  high : c.args.t.0 ≤ length lists
-  high = subst (λ (b : List (List Entry)). c.args.t.0 ≤ length b) (sym c.self.view_is) c.requires.1
-
-  within : i < length ends
-  within = omega (arith, i_is, high, c.requires.0, lists_length s ends)
-
-  row : IsRow s (suc i) (get_or ends i no_ends) (c.self.invariant.0.rows i)
-  row = c.self.invariant.0.row i within
-
-  first_is : first_key (c.self.invariant.0.rows i) None ≡ Some key
-  first_is = sym row.first ∙ ap (λ (e : Ends). e.first) (sym (ends_at ends i c.index.result.now within c.index.ensures)) ∙ c.in_ok-key.was
-
-  abbrev cut : (p : ℕ) × (vs : List (ℕ × ℕ)) × (c.self.invariant.0.rows i ≡ (p, key) ∷ vs)
-  cut = first_parts (c.self.invariant.0.rows i) key first_is
-
-  linked : Linked (seen s (suc i)) None 0 ((cut.0, key) ∷ cut.1) None
-  linked = subst (λ (es : List (ℕ × ℕ)). Linked (seen s (suc i)) None 0 es None) cut.2 row.linked
-
-  abbrev was : Slot
-  was = linked.0.held
-
-  here : slice_get s key ≡ Some was
-  here = (seen_is s (suc i) key was linked.0.here).0
-
-  abbrev told : (pair : Ends) × IsTaken s c.take_at.new.slots.items c.self.inside.free c.take_at.new.free (get_or ends i no_ends) pair key was c.take_at.result × (c.take_at.new.ends.items ≡ set ends i pair)
-  told = c.take_at.ensures was here
-
-  old : list_of lists c.args.t.0 ≡ entry_of was ∷ entries_at (seen s (suc i)) cut.1
-  old =
-      ap (λ n. get_or lists n []) (sym i_is)
-      ∙ old_parts s c.take_at.new.slots.items ends i key c.self.inside.free c.take_at.new.free told.0 c.self.invariant.0 within [] cut.1 cut.0 cut.2 was c.take_at.result here told.1
-
-  view : lists_in c.take_at.new.slots.items c.take_at.new.ends.items ≡ with_list lists c.args.t.0 (drop 1 (list_of lists c.args.t.0))
-  view =
-      ap (lists_in c.take_at.new.slots.items) told.2
-      ∙ take_view s c.take_at.new.slots.items ends i key c.self.inside.free c.take_at.new.free told.0 c.self.invariant.0 within [] cut.1 cut.0 cut.2 was c.take_at.result here told.1
-      ∙ ap (λ n. set lists n (entries_at (seen s (suc i)) cut.1)) i_is
-      ∙ ap (λ (es : List Entry). with_list lists c.args.t.0 (drop 1 es)) (sym old)
-
-  table : IsTable c.take_at.new.slots.items c.take_at.new.ends.items c.take_at.new.free
-  table = subst (λ (es : List Ends). IsTable c.take_at.new.slots.items es c.take_at.new.free) (sym told.2)
-      (take_table s c.take_at.new.slots.items ends i key c.self.inside.free c.take_at.new.free told.0 c.self.invariant.0 within [] cut.1 cut.0 cut.2 was c.take_at.result here told.1)
-
-  sound : IsSound (lists_in c.take_at.new.slots.items c.take_at.new.ends.items)
-  sound = subst IsSound (sym view) (sound-take lists c.args.t.0 c.self.invariant.1 c.requires.0 high)
-
-pub invariant_of-self : goal.invariant_of-self
-invariant_of-self c = (table c, sound c)
-
-pub returns-clause-taken : goal.returns-clause-taken
-returns-clause-taken c =
-    (told c).1.entry_is
-    ∙ sym (ap (λ (es : List Entry). slice_get es 0) (old c))
-    ∙ ap (λ (b : List (List Entry)). slice_get (list_of b c.args.t.0) 0) c.self.view_is
+pub invariant_of-self-2 : goal.invariant_of-self-2
+invariant_of-self-2 c =
+    let lists : List (List Entry) = c.self.inside.lists in
+    let marks : List Mark = c.self.inside.marks.items in
+    let i : ℕ = c.from.result - 1 in
+    let same : set lists i (drop 1 (get_or lists i [])) ≡ c.take.new.self = ap (λ n. set lists (n - 1) (drop 1 (get_or lists (n - 1) []))) c.from.ensures ∙ sym c.in_ok-place.ensures.rest in
+    let left : AreCounted (set marks i (let was : Mark = get_or marks i no_mark in record was { count = one_less (nat_le was.from c.in_ok-place.place) was.count })) (set lists i (drop 1 (get_or lists i []))) =
+    count_less marks lists i [] (drop 1 (get_or lists i [])) (c.in_ok-place.place, c.in_ok-place.ready) c.self.invariant.0 (taken lists c.args.t.0 c.from.result (c.in_ok-place.place, c.in_ok-place.ready) c.from.ensures c.in_ok-place.ensures.taken) in
+    (subst (λ (ms : List Mark). AreCounted ms c.take.new.self) (sym c.count_out.ensures) (subst (AreCounted (set marks i (let was : Mark = get_or marks i no_mark in record was { count = one_less (nat_le was.from c.in_ok-place.place) was.count }))) same left), c.in_ok-place.ensures.sound)
 
 pub returns-clause-rest : goal.returns-clause-rest
-returns-clause-rest c = view c ∙ ap (λ (b : List (List Entry)). with_list b c.args.t.0 (drop 1 (list_of b c.args.t.0))) c.self.view_is
-
-pub returns-clause-threads : goal.returns-clause-threads
-returns-clause-threads c = ap length (view c) ∙ length-set (lists c) (c.args.t.0 - 1) (drop 1 (list_of (lists c) c.args.t.0)) ∙ ap length c.self.view_is
-
-pub returns-clause-sound : goal.returns-clause-sound
-returns-clause-sound c = sound c
+returns-clause-rest c =
+    let i : ℕ = c.from.result - 1 in
+    let marks : List Mark = c.self.inside.marks.items in
+    let was : Mark = get_or marks i no_mark in
+    ap (λ (l : List (List Entry)). let v : ReadyView = record { lists = l; marks = marks_in c.count_out.new.marks.items } in v) c.in_ok-place.ensures.rest
+    ∙ ap (λ (l : List ℕ). let v : ReadyView = record { lists = with_list c.self.inside.lists c.args.t.0 (drop 1 (list_of c.self.inside.lists c.args.t.0)); marks = l } in v) (ap marks_in c.count_out.ensures ∙ marks_kept marks i (one_less (nat_le was.from c.in_ok-place.place) was.count))
+    ∙ ap (λ (v : ReadyView). let w : ReadyView = record v { lists = with_list v.lists c.args.t.0 (drop 1 (list_of v.lists c.args.t.0)) } in w) c.self.view_is

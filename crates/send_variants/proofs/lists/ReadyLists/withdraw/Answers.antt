@@ -1,111 +1,45 @@
-use Rattle.std.proofs.Common.{◌≡◌, ◌≤◌, ◌<◌, ◌∙◌, ◌++◌, ◌∷◌, [], ℕ, suc, true, List, Some, None, length, get_or, set, slice_get, option_map, sym, ap, subst, arith}
-use Rattle.std.proofs.lemmas.Bool.{eq-eqb}
-use Rattle.send_variants.specs.declared.slot.Slot.{Slot}
-use Rattle.send_variants.specs.declared.slot.Ends.{Ends}
-use Rattle.send_variants.specs.Lists.{Entry, IsSound, all_without, count_in, named_by, names, place_in, place_on, without}
-use Rattle.send_variants.specs.Tables.{IsReached, IsRow, IsTable, IsTaken, entries_at, entry_of, jump, lists_in, no_ends, seen}
-use Rattle.send_variants.proofs.Entries.{count-total, length-all, sound-withdraw}
-use Rattle.send_variants.proofs.Named.{count_middle, without_middle, all_none, all_one}
-use Rattle.send_variants.proofs.Tables.{list_within, jumped}
-use Rattle.send_variants.proofs.Steps.{old_parts, take_view, take_table}
+use Rattle.std.proofs.Common.{◌∙◌, ℕ, List, length, get_or, set, sym, ap, subst, arith}
+use Rattle.std.specs.Prelude.{nat_le}
+use Rattle.queue_status.specs.Counts.{one_less}
+use Rattle.send_variants.specs.Lists.{Entry, ReadyView, all_without}
+use Rattle.send_variants.specs.Counts.{AreCounted, marks_in, no_mark}
+use Rattle.send_variants.specs.declared.mark.Mark.{Mark}
+use Rattle.send_variants.proofs.Counts.{count_less, fresh_there, marks_kept, may_leave, same_length}
+use Rattle.send_variants.proofs.Entries.{length-all}
 use Rattle.send_variants.proofs.lists.ReadyLists.withdraw.Goals as goal
 
-pub returns-in_err-at-clause-place : goal.returns-in_err-at-clause-place
-returns-in_err-at-clause-place c =
-    c.from_residual.ensures
-    ∙ sym (all_none c.args.s.0 (lists_in c.self.inside.slots.items c.self.inside.ends.items) c.in_err-at.ensures.none).1
-    ∙ ap (place_on c.args.s.0) c.self.view_is
+pub count_out-requires-clause-at : goal.count_out-requires-clause-at
+count_out-requires-clause-at c = omega (arith, c.in_ok-at.ensures.from.within, same_length c.self.inside.marks.items c.self.inside.lists c.self.invariant.0, c.self.inside.marks.ok)
 
-pub returns-in_err-at-clause-rest : goal.returns-in_err-at-clause-rest
-returns-in_err-at-clause-rest c =
-    sym c.self.view_is
-    ∙ sym (all_none c.args.s.0 (lists_in c.self.inside.slots.items c.self.inside.ends.items) c.in_err-at.ensures.none).0
-    ∙ ap (all_without c.args.s.0) c.self.view_is
+pub count_out-requires-clause-sound : goal.count_out-requires-clause-sound
+count_out-requires-clause-sound c = fresh_there c.self.inside.marks.items c.self.inside.lists c.in_ok-at.at c.self.invariant.0
 
-module _ (c : goal.After-place_of) where
-  abbrev s : List Slot
-  s = c.self.inside.slots.items
-
-  abbrev ends : List Ends
-  ends = c.self.inside.ends.items
-
-  abbrev lists : List (List Entry)
-  lists = lists_in s ends
-
-  abbrev i : ℕ
-  i = c.in_ok-at.at
-
-  abbrev key : ℕ
-  key = c.in_ok-at.key
-
-  within : i < length ends
-  within = c.in_ok-at.ensures.some.0
-
-  abbrev way : IsReached s (get_or ends i no_ends).first c.args.s.0 key
-  way = c.in_ok-at.ensures.some.1
-
-  row : IsRow s (suc i) (get_or ends i no_ends) (c.self.invariant.0.rows i)
-  row = c.self.invariant.0.row i within
-
-  abbrev cut : (us : List (ℕ × ℕ)) × (vs : List (ℕ × ℕ)) × (p : ℕ) × (c.self.invariant.0.rows i ≡ us ++ (p, key) ∷ vs)
-  cut = jumped s (suc i) way.steps key None 0 (c.self.invariant.0.rows i) row.linked (ap (jump (slice_get s) way.steps) (sym row.first) ∙ way.way)
-
-  abbrev was : Slot
-  was = way.found
-
-  abbrev told : (pair : Ends) × IsTaken s c.take_at.new.slots.items c.self.inside.free c.take_at.new.free (get_or ends i no_ends) pair key was c.take_at.result × (c.take_at.new.ends.items ≡ set ends i pair)
-  told = c.take_at.ensures was way.here
-
-  abbrev xs : List Entry
-  xs = entries_at (seen s (suc i)) cut.0
-
-  abbrev ys : List Entry
-  ys = entries_at (seen s (suc i)) cut.1
-
-  old : get_or lists i [] ≡ xs ++ entry_of was ∷ ys
-  old = old_parts s c.take_at.new.slots.items ends i key c.self.inside.free c.take_at.new.free told.0 c.self.invariant.0 within cut.0 cut.1 cut.2 cut.3 was c.take_at.result way.here told.1
-
-  named : names c.args.s.0 (entry_of was) ≡ true
-  named = eq-eqb (named_by was.ready) c.args.s.0 way.named
-
-  once : count_in c.args.s.0 (xs ++ entry_of was ∷ ys) ≤ 1
-  once = omega (arith, ap (count_in c.args.s.0) old, count-total c.args.s.0 lists i, c.self.invariant.1.once c.args.s.0)
-
-  abbrev parted : (without c.args.s.0 (xs ++ entry_of was ∷ ys) ≡ xs ++ ys) × (place_in c.args.s.0 (xs ++ entry_of was ∷ ys) ≡ Some was.place)
-  parted = without_middle c.args.s.0 xs ys (entry_of was) named once
-
-  one : (set lists i (without c.args.s.0 (get_or lists i [])) ≡ all_without c.args.s.0 lists) × (place_on c.args.s.0 lists ≡ Some was.place)
-  one = all_one c.args.s.0 lists i was.place (list_within s ends i within) (ap (place_in c.args.s.0) old ∙ parted.1) (omega (arith, ap (count_in c.args.s.0) old, count_middle c.args.s.0 xs ys (entry_of was) named)) (c.self.invariant.1.once c.args.s.0)
-
-  view : lists_in c.take_at.new.slots.items c.take_at.new.ends.items ≡ all_without c.args.s.0 lists
-  view =
-      ap (lists_in c.take_at.new.slots.items) told.2
-      ∙ take_view s c.take_at.new.slots.items ends i key c.self.inside.free c.take_at.new.free told.0 c.self.invariant.0 within cut.0 cut.1 cut.2 cut.3 was c.take_at.result way.here told.1
-      ∙ ap (λ (es : List Entry). set lists i es) (sym (ap (without c.args.s.0) old ∙ parted.0))
-      ∙ one.0
-
-  table : IsTable c.take_at.new.slots.items c.take_at.new.ends.items c.take_at.new.free
-  table = subst (λ (es : List Ends). IsTable c.take_at.new.slots.items es c.take_at.new.free) (sym told.2)
-      (take_table s c.take_at.new.slots.items ends i key c.self.inside.free c.take_at.new.free told.0 c.self.invariant.0 within cut.0 cut.1 cut.2 cut.3 was c.take_at.result way.here told.1)
-
-  sound : IsSound (lists_in c.take_at.new.slots.items c.take_at.new.ends.items)
-  sound = subst IsSound (sym view) (sound-withdraw lists c.args.s.0 c.self.invariant.1)
+pub count_out-requires-clause-some : goal.count_out-requires-clause-some
+count_out-requires-clause-some c =
+    let w = c.in_ok-at.ensures.from in
+    may_leave c.self.inside.marks.items c.self.inside.lists c.in_ok-at.at w.before w.after (c.in_ok-at.place, w.ready) c.self.invariant.0 w.was
 
 pub invariant_of-self : goal.invariant_of-self
-invariant_of-self c = (table c, sound c)
+invariant_of-self c = (subst (AreCounted c.self.inside.marks.items) (sym c.in_err-at.ensures.same) c.self.invariant.0, c.in_err-at.ensures.sound)
 
-pub returns-clause-place : goal.returns-clause-place
-returns-clause-place c =
-    c.place_of.ensures
-    ∙ ap (option_map (λ (e : Entry). e.0)) (told c).1.entry_is
-    ∙ sym (one c).1
-    ∙ ap (place_on c.args.s.0) c.self.view_is
+pub returns-in_err-at-clause-threads : goal.returns-in_err-at-clause-threads
+returns-in_err-at-clause-threads c = ap length c.in_err-at.ensures.same ∙ ap (λ (v : ReadyView). length v.lists) c.self.view_is
 
-pub returns-clause-rest : goal.returns-clause-rest
-returns-clause-rest c = view c ∙ ap (all_without c.args.s.0) c.self.view_is
+pub invariant_of-self-2 : goal.invariant_of-self-2
+invariant_of-self-2 c =
+    let w = c.in_ok-at.ensures.from in
+    let marks : List Mark = c.self.inside.marks.items in
+    let i : ℕ = c.in_ok-at.at in
+    (subst (λ (ms : List Mark). AreCounted ms c.withdraw.new.self) (sym c.count_out.ensures) (subst (AreCounted (set marks i (let was : Mark = get_or marks i no_mark in record was { count = one_less (nat_le was.from c.in_ok-at.place) was.count }))) (sym w.is) (count_less marks c.self.inside.lists i w.before w.after (c.in_ok-at.place, w.ready) c.self.invariant.0 w.was)), c.in_ok-at.ensures.sound)
 
 pub returns-clause-threads : goal.returns-clause-threads
-returns-clause-threads c = ap length (view c) ∙ length-all c.args.s.0 (lists c) ∙ ap length c.self.view_is
+returns-clause-threads c = ap length c.in_ok-at.ensures.rest ∙ length-all c.args.s.0 c.self.inside.lists ∙ ap (λ (v : ReadyView). length v.lists) c.self.view_is
 
-pub returns-clause-sound : goal.returns-clause-sound
-returns-clause-sound c = sound c
+pub returns-clause-rest : goal.returns-clause-rest
+returns-clause-rest c =
+    let i : ℕ = c.in_ok-at.at in
+    let marks : List Mark = c.self.inside.marks.items in
+    let was : Mark = get_or marks i no_mark in
+    ap (λ (l : List (List Entry)). let v : ReadyView = record { lists = l; marks = marks_in c.count_out.new.marks.items } in v) c.in_ok-at.ensures.rest
+    ∙ ap (λ (l : List ℕ). let v : ReadyView = record { lists = all_without c.args.s.0 c.self.inside.lists; marks = l } in v) (ap marks_in c.count_out.ensures ∙ marks_kept marks i (one_less (nat_le was.from c.in_ok-at.place) was.count))
+    ∙ ap (λ (v : ReadyView). let w : ReadyView = record v { lists = all_without c.args.s.0 v.lists } in w) c.self.view_is
