@@ -51,7 +51,6 @@ use Rattle.look_state.specs.Looks.{AreLooksAt, LookView, moment_at}
 use Rattle.user_model.specs.Places.{clock}
 use Rattle.user_model.specs.Posts.{posts}
 use Rattle.user_model.specs.Inputs.{inputs}
-use Rattle.user_model.specs.Sends.{sends as sends_of}
 use Rattle.thread_queues.specs.Queues.{EachBy, IsOne}
 use Rattle.window_state.proofs.ClassSteps.{classes_after, fits_naming, fits_unregister}
 use Rattle.core_state.proofs.Deliveries.{both_changes, fits_post, fits_posting, running_is_one}
@@ -214,22 +213,16 @@ sends_step setup past p e tree1 sends1 sends2 place st right made begun left her
     (sends_now setup past p e place (st.lawful, right) st here)
 
 -- how far the past with the entry comes
-pub moment_step : (setup : Setup) (past : Past) (p : Parts) (e : Entry) (progress : Progress) (sends2 : SendParts) (place begun : ℕ) (m : Moment) → Stands setup past p → e.answer ≡ reply setup past e.who.0 e.call
+pub moment_step : (setup : Setup) (past : Past) (p : Parts) (e : Entry) (progress : Progress) (m : Moment) → Stands setup past p → e.answer ≡ reply setup past e.who.0 e.call
     → progress ≡ record { posts = count_kept e.answer p.post_count; inputs = counted_with e.answer p.input_count; time = time_kept e p.time; cursor = cursor_with e.answer e.call p.cursor }
-    → PartsStand setup (e ∷ past) sends2 → place ≡ place_after past → begun ≡ sends2.book.begun → m ≡ moment_of (place + 1) begun progress → m ≡ moment_at (e ∷ past)
-moment_step setup past p e progress sends2 place begun m st right went sends here counted is =
-    let entries : place + 1 ≡ length (e ∷ past) = omega (arith, here) in
+    → m ≡ moment_of progress → m ≡ moment_at (e ∷ past)
+moment_step setup past p e progress m st right went is =
     let injected : progress.inputs ≡ length (inputs (e ∷ past)) = ap (λ (q : Progress). q.inputs) went ∙ ap (counted_with e.answer) st.injected ∙ counted_with-next setup past e right in
     let time : progress.time ≡ clock (e ∷ past) = ap (λ (q : Progress). q.time) went ∙ ap (time_kept e) st.clock ∙ time_kept-next e past in
-    let sent : begun ≡ length (sends_of (e ∷ past)) = counted ∙ sends.book.begun in
-    is
-    ∙ ap (λ n. made n progress.inputs begun progress.time) entries
-    ∙ ap (λ n. made (length (e ∷ past)) n begun progress.time) injected
-    ∙ ap (λ n. made (length (e ∷ past)) (length (inputs (e ∷ past))) n progress.time) sent
-    ∙ ap (λ n. made (length (e ∷ past)) (length (inputs (e ∷ past))) (length (sends_of (e ∷ past))) n) time
+    is ∙ ap (λ n. made n progress.time) injected ∙ ap (λ n. made (length (inputs (e ∷ past))) n) time
   where
-    made : ℕ → ℕ → ℕ → ℕ → Moment
-    made entries inputs sends time = record { entries = entries; inputs = inputs; sends = sends; time = time }
+    made : ℕ → ℕ → Moment
+    made inputs time = record { inputs = inputs; time = time }
 
 -- the parts that were brought up to date stand for the past with the entry
 pub stands_step : (setup : Setup) (past : Past) (p : Parts) (shift : Bool) (meant : Meant) (e : Entry) (classes1 classes2 : ClassTable) (tree1 tree2 : Windows) (order1 order2 : Layers) (display2 : Shown) (threads1 threads2 threads3 threads4 : List ThreadView) (timers2 : List Setting) (groups2 : Kept) (inputs1 inputs2 : List KeptElement) (progress : Progress) (sends1 sends2 : SendParts) (first : Option Cause) (lost : ℕ) (tally : Tally) (stories1 stories2 stories3 : List SendStory) (looks2 : List LookView) (dialogs2 : List (ℕ × Dialog)) (place : ℕ)

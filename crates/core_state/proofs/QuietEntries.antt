@@ -274,9 +274,8 @@ module _ (setup : Setup) (past : Past) (p : Parts) (e : Entry) (calm : IsCalm e.
   quiet_sends = sends_step setup past p e p.tree p.sends p.sends (length past) st right (calm.tree e.who.0 e.call p.tree) (calm.sends p.tree.live p.time (length past) e.who e.call p.sends) (calm.sends_later p.tree.live (length past) e.who.0 e.call p.sends) refl
 
   -- how far the past with the entry comes
-  pub quiet_moment : (place begun : ℕ) (m : Moment) (progress : Progress) → progress ≡ come (count_kept e.answer p.post_count) p.input_count p.time p.cursor → place ≡ length past → begun ≡ p.sends.book.begun → m ≡ moment_of (place + 1) begun progress → m ≡ moment_at (e ∷ past)
-  quiet_moment place begun m progress went here counted is =
-      moment_step setup past p e progress p.sends place begun m st right (gone_on progress went) quiet_sends here counted is
+  pub quiet_moment : (m : Moment) (progress : Progress) → progress ≡ come (count_kept e.answer p.post_count) p.input_count p.time p.cursor → m ≡ moment_of progress → m ≡ moment_at (e ∷ past)
+  quiet_moment m progress went is = moment_step setup past p e progress m st right (gone_on progress went) is
 
   -- the parts with the threads, marks and looks after the entry
   pub quiet_step : (threads1 threads2 threads3 threads4 : List ThreadView) (progress : Progress) (sends2 : SendParts) (looks2 : List LookView)

@@ -1,5 +1,4 @@
 -- How far a past has come, before an entry and after it.
-use Rattle.std.specs.Prelude.{ℕ}
 use Rattle.user_model.specs.declared.entry.Entry.{Entry}
 use Rattle.user_model.specs.Places.{corner_of_screen}
 use Rattle.thread_queues.specs.Changes.{count_kept, time_kept}
@@ -15,6 +14,6 @@ no_progress = record { posts = 0; inputs = 0; time = 0; cursor = corner_of_scree
 abbrev pub progressed : Entry → Progress → Progress
 progressed e p = record { posts = count_kept e.answer p.posts; inputs = counted_with e.answer p.inputs; time = time_kept e p.time; cursor = cursor_with e.answer e.call p.cursor }
 
--- how far a history has come that has so many entries and sends
-abbrev pub moment_of : ℕ → ℕ → Progress → Moment
-moment_of entries sends p = record { entries = entries; inputs = p.inputs; sends = sends; time = p.time }
+-- what a look keeps of it
+abbrev pub moment_of : Progress → Moment
+moment_of p = record { inputs = p.inputs; time = p.time }

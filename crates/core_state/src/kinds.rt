@@ -1,10 +1,12 @@
 //! Kinds of messages (Microsoft, GetQueueStatus function).
 
 ghost use Rattle.std.specs.Prelude.{◌≡◌, ◌≤◌};
-ghost use Rattle.user_model.specs.Status.{bit_where};
-ghost use Rattle.core_state.specs.Status.{bits_of, is_of_kind};
+ghost use Rattle.queue_status.specs.Counts.{none_there};
+ghost use Rattle.queue_status.specs.Kinds.{changed, count_of};
+ghost use Rattle.core_state.specs.Status.{bits_of, is_of_kind, one_where};
 
 use crate::mouse::is_of_mouse;
+use queue_status::Bits;
 use win_num::names::{
     QS_KEY, QS_MOUSEBUTTON, QS_MOUSEMOVE, QS_PAINT, QS_POSTMESSAGE, QS_SENDMESSAGE, QS_TIMER,
     WM_MOUSEMOVE,
@@ -60,20 +62,25 @@ impl Found {
         ensures value { result ≡ bits_of self }
         ensures most { result ≤ 127 }
     {
-        bit_where(self.key, QS_KEY)
-            + bit_where(self.moved, QS_MOUSEMOVE)
-            + bit_where(self.button, QS_MOUSEBUTTON)
-            + bit_where(self.posted, QS_POSTMESSAGE)
-            + bit_where(self.timer, QS_TIMER)
-            + bit_where(self.paint, QS_PAINT)
-            + bit_where(self.sent, QS_SENDMESSAGE)
+        let mut bits = Bits::new();
+        come_where(&mut bits, self.key, QS_KEY);
+        come_where(&mut bits, self.moved, QS_MOUSEMOVE);
+        come_where(&mut bits, self.button, QS_MOUSEBUTTON);
+        come_where(&mut bits, self.posted, QS_POSTMESSAGE);
+        come_where(&mut bits, self.timer, QS_TIMER);
+        come_where(&mut bits, self.paint, QS_PAINT);
+        come_where(&mut bits, self.sent, QS_SENDMESSAGE);
+        u64::from(bits.now())
     }
 }
 
-/// A bit, where there is what it stands for.
-fn bit_where(test: bool, bit: u64) -> u64
-    ensures value { result ≡ bit_where test bit }
-    ensures most { result ≤ bit }
+/// One of the kind with this bit comes, where there is what it stands for.
+fn come_where(bits: &mut Bits, test: bool, bit: u64)
+    requires none { count_of bit bits.old ≡ none_there }
+    requires bit { bit ≤ 64 }
+    ensures { bits.new ≡ changed bit (one_where test) bits.old }
 {
-    if test { bit } else { 0 }
+    if test {
+        bits.came(bit as u16);
+    }
 }

@@ -48,14 +48,12 @@ impl Progress {
         }
     }
 
-    /// How far a history has come that has so many entries and sends.
-    pub fn moment(self, entries: u32, sends: u32) -> Moment
-        ensures { result ≡ moment_of entries sends self }
+    /// What a look keeps of it.
+    pub fn moment(self) -> Moment
+        ensures { result ≡ moment_of self }
     {
         Moment {
-            entries,
             inputs: self.inputs,
-            sends,
             time: self.time,
         }
     }

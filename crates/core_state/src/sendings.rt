@@ -7,13 +7,12 @@ ghost use Rattle.send_frames.specs.Book.{IsThread};
 ghost use Rattle.send_state.specs.Parts.{lost_count};
 ghost use Rattle.send_state.specs.Stories.{EachStory, noted_answer, noted_loss, with_begun};
 ghost use Rattle.thread_queues.specs.Deliveries.{goes_with};
-ghost use Rattle.user_model.specs.Past.{is_refusal};
 ghost use Rattle.core_state.specs.Sendings.{AreTold, FitsCallback, FitsDropped, FitsLeave, FitsLook, FitsLosing, FitsOption, FitsReply, FitsSending, FitsSendEffect, FitsWait, begun_with, called_back, dropped_count, dropped_losses, dropped_sends, ended_sends, is_looking, is_of, left_by_call, looked_by, losses_by, noted_losses, replied_by_call, row_to, sending, affected_sends, waited};
 
-use look_state::is_look;
 use send_state::{SendRow, SendState, add_story, note_answer};
 use std::alloc::AllocError;
 use thread_queues::Stamp;
+use thread_state::{is_look, is_refusal};
 use user_model::{Answer, Call, Entry, SendStory};
 use win_num::{Cause, Fault, Hwnd, Kind, SendId, Thread};
 use win_tree::Tree;
@@ -176,13 +175,6 @@ pub fn note_look(sends: &mut SendState, entry: Entry, place: u32)
     if is_look(entry.call) && !is_refusal(entry.answer) {
         sends.look(entry.who, place);
     }
-}
-
-/// Whether an answer is a refusal.
-fn is_refusal(answer: Answer) -> bool
-    ensures { result ≡ is_refusal answer }
-{
-    matches!(answer, Answer::Refused(_))
 }
 
 /// Leaves an own procedure, whose callback procedure runs, or runs the one that is ready.

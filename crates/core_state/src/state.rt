@@ -867,7 +867,7 @@ impl CoreState {
         self.progress = self.progress.followed_by(entry);
         mark_look(&mut self.threads, entry, self.progress.posts);
         self.tally = self.tally.with(entry.answer, first, lost);
-        let after = self.progress.moment(stamp.place + 1, self.sends.begun());
+        let after = self.progress.moment();
         self.looks.follow(entry, after, seen);
         note_look(&mut self.sends, entry, stamp.place + 1);
         self.history.push(entry).unwrap();

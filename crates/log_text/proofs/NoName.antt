@@ -1,6 +1,6 @@
--- Numbers that are beyond all rows of a table.
-use Rattle.std.proofs.Common.{◌≡◌, ℕ, ◌≤◌, ◌<◌, ◌||◌, Bool, true, false, eqb, ltb, List, [], ◌∷◌, Some, None, refl, ap, ◌∙◌, arith, cond}
-use Rattle.std.specs.Prelude.{find, ◌==◌, option_map}
+-- Numbers that are beyond all rows of a table, and how long the names of messages are.
+use Rattle.std.proofs.Common.{◌≡◌, ℕ, ◌≤◌, ◌<◌, ◌||◌, Bool, true, false, eqb, ltb, List, [], ◌∷◌, Some, None, length, refl, ap, ◌∙◌, arith, cond}
+use Rattle.std.specs.Prelude.{Option, find, ◌==◌, option_map, unwrap_or}
 use Rattle.std.proofs.lemmas.Bool.{false≢true}
 use Rattle.std.proofs.lemmas.Bool.Decides.{nat_tests}
 use Rattle.name_table.specs.Rows.{Named, name_in}
@@ -46,3 +46,26 @@ all_outside (r ∷ rows) n h above below =
 -- no message between WM_USER and WM_APP has one
 pub no_user_message : (n : ℕ) → 1024 < n → n < 32768 → name_in message_rows n ≡ None
 no_user_message n above below = ap (option_map (λ (r : Named). r.name)) (all_outside message_rows n refl above below)
+
+-- whether all rows have names of at most 20 bytes
+abbrev are_short : List Named → Bool
+are_short [] = true
+are_short (r ∷ rows) = cond (ltb (length r.name) 21) (are_short rows) false
+
+-- the bytes of the name of a row, or none
+abbrev name_bytes : Option Named → List ℕ
+name_bytes found = unwrap_or (option_map (λ (r : Named). r.name) found) []
+
+either : (hit : Bool) (r : Named) (rest : Option Named) → length r.name ≤ 20 → length (name_bytes rest) ≤ 20 → length (name_bytes (cond hit (Some r) rest)) ≤ 20
+either true r rest own others = own
+either false r rest own others = others
+
+all_short : (rows : List Named) (n : ℕ) → are_short rows ≡ true → length (name_bytes (find (λ r. r.number == n) rows)) ≤ 20
+all_short [] n h = omega arith
+all_short (r ∷ rows) n h =
+    let parts = below (ltb (length r.name) 21) (are_short rows) h in
+    either (eqb r.number n) r (find (λ x. x.number == n) rows) (grind (arith, nat_tests, parts.0)) (all_short rows n parts.1)
+
+-- no message has a longer name
+pub short_name : (n : ℕ) → length (unwrap_or (name_in message_rows n) []) ≤ 20
+short_name n = all_short message_rows n refl

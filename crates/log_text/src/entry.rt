@@ -4,9 +4,10 @@
 ghost use Rattle.std.specs.Prelude.{◌∷◌, OnOk};
 ghost use Rattle.std.specs.List.{flat_map};
 ghost use Rattle.user_io.specs.Text.{Adds};
-ghost use Rattle.log_text.specs.Entries.{counted, code_text, value_text, call_text, answer_text, entry_line};
+ghost use Rattle.log_text.specs.Entries.{counted, signed_text, code_text, value_text, call_text, answer_text, entry_line};
 
-use crate::frequent::{put_filter, put_got, put_pixel, put_post_number, put_posting, put_word};
+use crate::frequent::{prepend_answer, prepend_call, prepend_entry};
+use crate::line::Line;
 use crate::words::Words;
 use answer_table::{answer_form, split_answer};
 use call_fields::{Value, cause_word, code_word, source_word};
@@ -23,6 +24,22 @@ pub fn put_counted(out: &mut Vec<u8>, word: &[u8], number: u64) -> Result<(), Al
     put_text(out, word)?;
     put_operand(out, number)?;
     Ok(())
+}
+
+/// Adds a blank and a word.
+fn put_word(out: &mut Vec<u8>, word: &[u8]) -> Result<(), AllocError>
+    ensures { OnOk result (Adds out.old.items out.new.items (32 ∷ word.now)) }
+{
+    out.push(b' ')?;
+    put_text(out, word)?;
+    Ok(())
+}
+
+/// Adds a blank and a place in pixels.
+fn put_pixel(out: &mut Vec<u8>, pixel: i32) -> Result<(), AllocError>
+    ensures { OnOk result (Adds out.old.items out.new.items (signed_text pixel)) }
+{
+    put_signed(out, i64::from(pixel))
 }
 
 /// Adds a blank and the code of a refusal, by its word where it has one.
@@ -79,26 +96,15 @@ fn put_listed_call(out: &mut Vec<u8>, words: &Words, call: Call) -> Result<(), A
     Ok(())
 }
 
-/// Adds a call: its word and the values of its fields. Posts and gets, of which logs mostly consist, are not taken apart.
+/// Adds a call: its word and the values of its fields.
 pub fn put_call(out: &mut Vec<u8>, words: &Words, call: Call) -> Result<(), AllocError>
     ensures { OnOk result (Adds out.old.items out.new.items (call_text words.now.script.now call)) }
 {
-    match call {
-        Call::PostThread(thread, number, wparam, lparam) => {
-            put_text(out, b"post_thread")?;
-            put_posting(out, words, thread, number, wparam, lparam)?;
-        }
-        Call::Post(w, number, wparam, lparam) => {
-            put_text(out, b"post")?;
-            put_posting(out, words, w, number, wparam, lparam)?;
-        }
-        Call::Get(w, min, max) => {
-            put_text(out, b"get")?;
-            put_filter(out, words, w, min, max)?;
-        }
-        _ => put_listed_call(out, words, call)?,
+    let mut line = Line::new();
+    if prepend_call(&mut line, words, call) {
+        return put_text(out, line.bytes());
     }
-    Ok(())
+    put_listed_call(out, words, call)
 }
 
 /// Adds any answer, by the table of answers: its word and the values of its fields.
@@ -111,30 +117,19 @@ fn put_listed_answer(out: &mut Vec<u8>, words: &Words, answer: Answer) -> Result
     Ok(())
 }
 
-/// Adds an answer: its word and the values of its fields. That a message was posted or retrieved is not taken apart.
+/// Adds an answer: its word and the values of its fields.
 pub fn put_answer(out: &mut Vec<u8>, words: &Words, answer: Answer) -> Result<(), AllocError>
     ensures { OnOk result (Adds out.old.items out.new.items (answer_text words.now.script.now answer)) }
 {
-    match answer {
-        Answer::Posted(number) => {
-            put_text(out, b"posted")?;
-            put_post_number(out, words, number)?;
-        }
-        Answer::Got {
-            origin,
-            number,
-            msg,
-        } => {
-            put_text(out, b"got")?;
-            put_got(out, words, origin, number, msg)?;
-        }
-        _ => put_listed_answer(out, words, answer)?,
+    let mut line = Line::new();
+    if prepend_answer(&mut line, words, answer) {
+        return put_text(out, line.bytes());
     }
-    Ok(())
+    put_listed_answer(out, words, answer)
 }
 
-/// Adds the line of an entry.
-pub fn put_entry(out: &mut Vec<u8>, words: &Words, entry: Entry) -> Result<(), AllocError>
+/// Adds the line of any entry, piece by piece.
+fn put_any_entry(out: &mut Vec<u8>, words: &Words, entry: Entry) -> Result<(), AllocError>
     ensures { OnOk result (Adds out.old.items out.new.items (entry_line words.now.script.now entry)) }
 {
     put_number(out, u64::from(entry.who.0))?;
@@ -144,4 +139,15 @@ pub fn put_entry(out: &mut Vec<u8>, words: &Words, entry: Entry) -> Result<(), A
     put_answer(out, words, entry.answer)?;
     out.push(b'\n')?;
     Ok(())
+}
+
+/// Adds the line of an entry. A frequent line is made whole before it is added.
+pub fn put_entry(out: &mut Vec<u8>, words: &Words, entry: Entry) -> Result<(), AllocError>
+    ensures { OnOk result (Adds out.old.items out.new.items (entry_line words.now.script.now entry)) }
+{
+    let mut line = Line::new();
+    if prepend_entry(&mut line, words, entry) {
+        return put_text(out, line.bytes());
+    }
+    put_any_entry(out, words, entry)
 }

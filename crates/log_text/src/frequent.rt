@@ -1,112 +1,139 @@
-//! The values of the calls and answers of which logs mostly consist, without taking them apart.
-#![tactic(auto, using(user_io::proofs::Texts::two, user_io::proofs::Texts::none))]
+//! The lines of which logs mostly consist: posts and gets, each answered by a message that was posted or retrieved.
+//! They are made from their end, without taking the call and the answer apart.
 
-ghost use Rattle.std.specs.Prelude.{◌∷◌, [], OnOk};
+ghost use Rattle.std.specs.Prelude.{◌≡◌, ◌+◌, ◌≤◌, [], ◌∷◌, ◌++◌, length, codes, IsTrue};
 ghost use Rattle.std.specs.List.{flat_map};
-ghost use Rattle.user_io.specs.Text.{Adds};
 ghost use Rattle.call_fields.specs.Messages.{message_values};
 ghost use Rattle.call_fields.specs.declared.value.Value.TheVariants as values;
-ghost use Rattle.log_text.specs.Entries.{signed_text, value_text};
+ghost use Rattle.log_text.specs.Entries.{value_text, call_text, answer_text, entry_line};
 
+use crate::line::Line;
 use crate::words::Words;
 use call_fields::source_word;
-use std::alloc::AllocError;
-use user_io::text::{put_operand, put_signed, put_text};
-use user_model::Origin;
+use user_model::{Answer, Call, Entry, Origin};
 use win_num::{Msg, Point};
 
-/// Adds the values of a call that carries a message: its window or thread, its number and its parameters.
-pub fn put_posting(
-    out: &mut Vec<u8>,
-    words: &Words,
-    to: u64,
-    number: u64,
-    wparam: u64,
-    lparam: u64,
-) -> Result<(), AllocError>
-    ensures { OnOk result (Adds out.old.items out.new.items (flat_map (value_text words.now.script.now) (message_values to number wparam lparam))) }
+/// Puts the values of a call that carries a message before the line: its window or thread, its number and its parameters.
+fn prepend_posting(line: &mut Line, words: &Words, to: u64, number: u64, wparam: u64, lparam: u64)
+    requires { length line.old + 84 ≤ 320 }
+    ensures text { line.new ≡ flat_map (value_text words.now.script.now) (message_values to number wparam lparam) ++ line.old }
+    ensures room { length line.new ≤ length line.old + 84 }
 {
-    put_operand(out, to)?;
-    words.put_message(out, number)?;
-    put_operand(out, wparam)?;
-    put_operand(out, lparam)?;
-    Ok(())
+    line.prepend_operand(lparam);
+    line.prepend_operand(wparam);
+    words.prepend_message(line, number);
+    line.prepend_operand(to);
 }
 
-/// Adds the values of a get: a window, and the least and the greatest number of a message.
-pub fn put_filter(
-    out: &mut Vec<u8>,
-    words: &Words,
-    w: u64,
-    min: u64,
-    max: u64,
-) -> Result<(), AllocError>
-    ensures { OnOk result (Adds out.old.items out.new.items (flat_map (value_text words.now.script.now) (values.Number w ∷ values.Number min ∷ values.Number max ∷ []))) }
+/// Puts the values of a get before the line: a window, and the least and the greatest number of a message.
+fn prepend_filter(line: &mut Line, words: &Words, w: u64, min: u64, max: u64)
+    requires { length line.old + 63 ≤ 320 }
+    ensures text { line.new ≡ flat_map (value_text words.now.script.now) (values.Number w ∷ values.Number min ∷ values.Number max ∷ []) ++ line.old }
+    ensures room { length line.new ≤ length line.old + 63 }
 {
-    put_operand(out, w)?;
-    put_operand(out, min)?;
-    put_operand(out, max)?;
-    Ok(())
+    line.prepend_operand(max);
+    line.prepend_operand(min);
+    line.prepend_operand(w);
 }
 
-/// Adds a blank and a place in pixels.
-pub fn put_pixel(out: &mut Vec<u8>, pixel: i32) -> Result<(), AllocError>
-    ensures { OnOk result (Adds out.old.items out.new.items (signed_text pixel)) }
+/// Puts a point in pixels before the line.
+fn prepend_point(line: &mut Line, words: &Words, point: Point)
+    requires { length line.old + 44 ≤ 320 }
+    ensures text { line.new ≡ flat_map (value_text words.now.script.now) (values.Pixel point.x ∷ values.Pixel point.y ∷ []) ++ line.old }
+    ensures room { length line.new ≤ length line.old + 44 }
 {
-    put_signed(out, i64::from(pixel))
+    line.prepend_signed(i64::from(point.y));
+    line.prepend_signed(i64::from(point.x));
 }
 
-/// Adds a point in pixels.
-fn put_point(out: &mut Vec<u8>, words: &Words, point: Point) -> Result<(), AllocError>
-    ensures { OnOk result (Adds out.old.items out.new.items (flat_map (value_text words.now.script.now) (values.Pixel point.x ∷ values.Pixel point.y ∷ []))) }
+/// Puts a message that was retrieved before the line: its window, number and parameters, and when and where it came about.
+fn prepend_retrieved(line: &mut Line, words: &Words, msg: Msg)
+    requires { length line.old + 149 ≤ 320 }
+    ensures text { line.new ≡ flat_map (value_text words.now.script.now) (values.Window msg.hwnd ∷ values.ShortMessage msg.number ∷ values.Number msg.wparam ∷ values.Number msg.lparam ∷ values.Number msg.time ∷ values.Pixel msg.point.x ∷ values.Pixel msg.point.y ∷ []) ++ line.old }
+    ensures room { length line.new ≤ length line.old + 149 }
 {
-    put_pixel(out, point.x)?;
-    put_pixel(out, point.y)?;
-    Ok(())
+    prepend_point(line, words, msg.point);
+    line.prepend_operand(msg.time);
+    line.prepend_operand(msg.lparam);
+    line.prepend_operand(msg.wparam);
+    words.prepend_message(line, u64::from(msg.number));
+    line.prepend_operand(u64::from(msg.hwnd.0));
 }
 
-/// Adds the parameters of a message, and when and where it came about.
-fn put_rest(out: &mut Vec<u8>, words: &Words, msg: Msg) -> Result<(), AllocError>
-    ensures { OnOk result (Adds out.old.items out.new.items (flat_map (value_text words.now.script.now) (values.Number msg.wparam ∷ values.Number msg.lparam ∷ values.Number msg.time ∷ values.Pixel msg.point.x ∷ values.Pixel msg.point.y ∷ []))) }
+/// Puts a word and the number of a post before the line.
+fn prepend_got(line: &mut Line, words: &Words, origin: Origin, number: u32, msg: Msg)
+    requires { length line.old + 179 ≤ 320 }
+    ensures text { line.new ≡ flat_map (value_text words.now.script.now) (values.Source origin ∷ values.Count number ∷ values.Window msg.hwnd ∷ values.ShortMessage msg.number ∷ values.Number msg.wparam ∷ values.Number msg.lparam ∷ values.Number msg.time ∷ values.Pixel msg.point.x ∷ values.Pixel msg.point.y ∷ []) ++ line.old }
+    ensures room { length line.new ≤ length line.old + 179 }
 {
-    put_operand(out, msg.wparam)?;
-    put_operand(out, msg.lparam)?;
-    put_operand(out, msg.time)?;
-    put_point(out, words, msg.point)?;
-    Ok(())
+    prepend_retrieved(line, words, msg);
+    line.prepend_operand(u64::from(number));
+    line.prepend_text(source_word(origin));
+    line.prepend_text(b" ");
 }
 
-/// Adds the values of a message that was retrieved: where it came from, the number of its post or input, and the message.
-pub fn put_got(
-    out: &mut Vec<u8>,
-    words: &Words,
-    origin: Origin,
-    number: u32,
-    msg: Msg,
-) -> Result<(), AllocError>
-    ensures { OnOk result (Adds out.old.items out.new.items (flat_map (value_text words.now.script.now) (values.Source origin ∷ values.Count number ∷ values.Window msg.hwnd ∷ values.ShortMessage msg.number ∷ values.Number msg.wparam ∷ values.Number msg.lparam ∷ values.Number msg.time ∷ values.Pixel msg.point.x ∷ values.Pixel msg.point.y ∷ []))) }
+/// Puts a post or a get before the line, and tells whether the call is one.
+pub fn prepend_call(line: &mut Line, words: &Words, call: Call) -> bool
+    requires { length line.old + 95 ≤ 320 }
+    ensures text { IsTrue result → line.new ≡ call_text words.now.script.now call ++ line.old }
+    ensures room { length line.new ≤ length line.old + 95 }
 {
-    put_word(out, source_word(origin))?;
-    put_operand(out, u64::from(number))?;
-    put_operand(out, u64::from(msg.hwnd.0))?;
-    words.put_message(out, u64::from(msg.number))?;
-    put_rest(out, words, msg)?;
-    Ok(())
+    match call {
+        Call::PostThread(thread, number, wparam, lparam) => {
+            prepend_posting(line, words, thread, number, wparam, lparam);
+            line.prepend_text(b"post_thread");
+        }
+        Call::Post(w, number, wparam, lparam) => {
+            prepend_posting(line, words, w, number, wparam, lparam);
+            line.prepend_text(b"post");
+        }
+        Call::Get(w, min, max) => {
+            prepend_filter(line, words, w, min, max);
+            line.prepend_text(b"get");
+        }
+        _ => return false,
+    }
+    true
 }
 
-/// Adds the value of the answer that a message was posted: the number of the post.
-pub fn put_post_number(out: &mut Vec<u8>, words: &Words, number: u32) -> Result<(), AllocError>
-    ensures { OnOk result (Adds out.old.items out.new.items (flat_map (value_text words.now.script.now) (values.Count number ∷ []))) }
+/// Puts the answer that a message was posted or retrieved before the line, and tells whether the answer is one.
+pub fn prepend_answer(line: &mut Line, words: &Words, answer: Answer) -> bool
+    requires { length line.old + 182 ≤ 320 }
+    ensures text { IsTrue result → line.new ≡ answer_text words.now.script.now answer ++ line.old }
+    ensures room { length line.new ≤ length line.old + 182 }
 {
-    put_operand(out, u64::from(number))?;
-    Ok(())
+    match answer {
+        Answer::Posted(number) => {
+            line.prepend_operand(u64::from(number));
+            line.prepend_text(b"posted");
+        }
+        Answer::Got {
+            origin,
+            number,
+            msg,
+        } => {
+            prepend_got(line, words, origin, number, msg);
+            line.prepend_text(b"got");
+        }
+        _ => return false,
+    }
+    true
 }
 
-/// Adds a blank and a word.
-pub fn put_word(out: &mut Vec<u8>, word: &[u8]) -> Result<(), AllocError>
-    ensures { OnOk result (Adds out.old.items out.new.items (32 ∷ word.now)) }
+/// Makes the line of an entry, and tells whether the entry is a frequent one.
+pub fn prepend_entry(line: &mut Line, words: &Words, entry: Entry) -> bool
+    requires { line.old ≡ [] }
+    ensures { IsTrue result → line.new ≡ entry_line words.now.script.now entry }
 {
-    out.push(b' ')?;
-    put_text(out, word)?;
-    Ok(())
+    line.prepend_text(b"\n");
+    if !prepend_answer(line, words, entry.answer) {
+        return false;
+    }
+    line.prepend_text(b" = ");
+    if !prepend_call(line, words, entry.call) {
+        return false;
+    }
+    line.prepend_text(b" ");
+    line.prepend_number(u64::from(entry.who.0));
+    true
 }

@@ -14,6 +14,7 @@ mod ending;
 mod entry;
 mod frame;
 mod frequent;
+mod line;
 mod summary;
 mod words;
 mod writer;

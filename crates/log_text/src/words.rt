@@ -1,11 +1,12 @@
 //! What is printed by a name.
 
-ghost use Rattle.std.specs.Prelude.{◌≡◌, ◌≤◌, ◌^◌, option_map, slice_get, OnOk};
+ghost use Rattle.std.specs.Prelude.{◌≡◌, ◌+◌, ◌≤◌, ◌^◌, ◌++◌, [], length, unwrap_or, option_map, slice_get, OnOk};
 ghost use Rattle.name_table.specs.Rows.{name_in};
 ghost use Rattle.name_table.specs.Messages.{message_rows};
 ghost use Rattle.user_io.specs.Text.{Adds};
 ghost use Rattle.log_text.specs.Entries.{message_text, name_text, procedure_text};
 
+use crate::line::Line;
 use name_table::{NameTable, messages};
 use script_tree::Script;
 use std::alloc::AllocError;
@@ -40,7 +41,8 @@ impl<'s> Words<'s> {
     /// The name of a message, where it has one. Most messages of programs are WM_USER and those behind it, for
     /// which the table isn't asked.
     fn message(&self, number: u64) -> Option<&'static [u8]>
-        ensures { option_map (λ s. s.now) result ≡ name_in message_rows number }
+        ensures name { option_map (λ s. s.now) result ≡ name_in message_rows number }
+        ensures short { length (unwrap_or (option_map (λ s. s.now) result) []) ≤ 20 }
     {
         if number == WM_USER {
             return Some(b"WM_USER");
@@ -64,6 +66,21 @@ impl<'s> Words<'s> {
             None => put_number(out, number)?,
         }
         Ok(())
+    }
+
+    /// Puts a blank and a message before the line, by its name where it has one.
+    pub(crate) fn prepend_message(&self, line: &mut Line, number: u64)
+        requires { length line.old + 21 ≤ 320 }
+        ensures text { line.new ≡ message_text number ++ line.old }
+        ensures room { length line.new ≤ length line.old + 21 }
+    {
+        match self.message(number) {
+            Some(name) => {
+                line.prepend_text(name);
+                line.prepend_text(b" ");
+            }
+            None => line.prepend_operand(number),
+        }
     }
 
     /// Adds a blank and a name of the script, by its text where the list of names has it.

@@ -13,7 +13,6 @@ use Rattle.user_model.specs.Past.{Past, is_refused}
 use Rattle.user_model.specs.Places.{clock}
 use Rattle.user_model.specs.Windows.{thread_of}
 use Rattle.user_model.specs.Inputs.{inputs}
-use Rattle.user_model.specs.Sends.{sends}
 use Rattle.user_model.specs.Dirty.{is_dirty}
 use Rattle.user_model.specs.Status.{is_look, last_look}
 use Rattle.look_state.specs.declared.moment.Moment.{Moment}
@@ -21,7 +20,7 @@ use Rattle.look_state.specs.declared.seen.SeenWindow.{SeenWindow}
 
 -- how far a past has come
 abbrev pub moment_at : Past → Moment
-moment_at past = record { entries = length past; inputs = length (inputs past); sends = length (sends past); time = clock past }
+moment_at past = record { inputs = length (inputs past); time = clock past }
 
 -- ---- dirty pixels at a look
 

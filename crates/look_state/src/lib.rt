@@ -12,4 +12,4 @@ pub use look::Look;
 pub use looks::Looks;
 pub use moment::Moment;
 pub use pixels::has_new_pixel;
-pub use seen::{SeenWindow, is_look, seen_by};
+pub use seen::{SeenWindow, seen_by};

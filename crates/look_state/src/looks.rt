@@ -2,15 +2,15 @@
 
 ghost use Rattle.std.specs.Prelude.{◌≡◌, ◌==◌, ◌-◌, ◌<◌, ◌≤◌, if◌then◌else◌, [], All, IfOk, length, slice_index_or};
 ghost use Rattle.user_model.specs.declared.entry.Setup.{Setup};
-ghost use Rattle.user_model.specs.Past.{is_refusal};
 ghost use Rattle.look_state.specs.Looks.{AreLooksAt, EachLook, LookView, first_look, look_after, look_at};
 
 use crate::look::Look;
 use crate::moment::Moment;
-use crate::seen::{SeenWindow, is_look};
+use crate::seen::SeenWindow;
 use std::alloc::{AllocError, Global};
 use std::marker::Model;
-use user_model::{Answer, Entry};
+use thread_state::{is_look, is_refusal};
+use user_model::Entry;
 use win_num::Thread;
 
 /// What was there for each thread when it looked last, from thread 1 on.
@@ -67,13 +67,6 @@ fn fresh_looks(alloc: Global, count: u8) -> Result<Vec<Look>, AllocError>
         looks.push(Look::new(alloc))?;
     }
     Ok(looks)
-}
-
-/// Whether the answer is a refusal.
-fn is_refusal(answer: Answer) -> bool
-    ensures { result ≡ is_refusal answer }
-{
-    matches!(answer, Answer::Refused(_))
 }
 
 /// Notes what was there for a thread that looks.

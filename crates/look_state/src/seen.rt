@@ -8,7 +8,8 @@ ghost use Rattle.look_state.specs.Looks.{seen_entry, seen_of, seen_region};
 use band_region::Region;
 use dirty_windows::DirtyWindow;
 use std::alloc::{AllocError, Global};
-use user_model::{Call, Entry};
+use thread_state::is_look;
+use user_model::Entry;
 use win_num::{Hwnd, Thread};
 use win_tree::Tree;
 use window_state::thread_of;
@@ -19,18 +20,6 @@ pub struct SeenWindow {
     /// The window's number, which is above 0.
     pub window: Hwnd,
     pub region: Region,
-}
-
-/// Whether the call is a look at what is there: a get, a peek or a status (Microsoft, GetQueueStatus function).
-pub fn is_look(call: Call) -> bool
-    ensures { result ≡ is_look call }
-{
-    match call {
-        Call::Get(..) => true,
-        Call::Peek(..) => true,
-        Call::Status(_) => true,
-        _ => false,
-    }
 }
 
 /// The dirty pixels of the windows of the entry's thread, where the entry is a look. Want of memory is the only error.

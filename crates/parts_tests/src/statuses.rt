@@ -1,6 +1,12 @@
 //! Worked examples of counts for the status.
 
-use queue_status::Count;
+use queue_status::{Bits, Count};
+
+/// QS_POSTMESSAGE.
+const POSTED: u16 = 8;
+
+/// QS_SENDMESSAGE.
+const SENT: u16 = 64;
 
 /// What a count is told.
 #[derive(Clone, Copy)]
@@ -45,5 +51,46 @@ fn messages_come_and_go(rt: HostRuntime) {
         assert_eq!(rt; count, Count { there, fresh });
         assert_eq!(rt; count.is_there(), there > 0);
         assert_eq!(rt; count.is_fresh(), fresh > 0);
+    }
+}
+
+#[test]
+fn kinds_come_look_and_go(rt: HostRuntime) {
+    let mut bits = Bits::new();
+    let empty = (bits.now(), bits.since());
+    bits.came(POSTED);
+    bits.came(POSTED);
+    bits.came(SENT);
+    let full = (bits.now(), bits.since());
+    bits.gone(POSTED, true);
+    bits.looked();
+    let seen = (bits.now(), bits.since());
+    bits.came(SENT);
+    bits.gone(POSTED, false);
+    bits.gone(SENT, false);
+    let left = (bits.now(), bits.since());
+    assert_eq!(rt;
+        [empty, full, seen, left],
+        [(0, 0), (72, 72), (72, 0), (64, 64)]
+    );
+}
+
+/// The bits that a message of one kind alone gives, since a look and after another.
+fn alone(bit: u16) -> (u16, u16) {
+    let mut bits = Bits::new();
+    bits.came(bit);
+    let since = bits.since();
+    bits.looked();
+    (since, bits.now())
+}
+
+#[test]
+fn each_kind_has_its_bit(rt: HostRuntime) {
+    for bit in [1, 2, 4, 8, 16, 32, 64] {
+        assert_eq!(rt; alone(bit), (bit, bit));
+    }
+    // numbers that are no kind's bit
+    for bit in [0, 3, 128] {
+        assert_eq!(rt; alone(bit), (0, 0));
     }
 }

@@ -1,6 +1,6 @@
 -- What a holder of counts relies on: the count of a list follows what comes and goes, and tells whether there is one.
 use Rattle.std.proofs.Common.{◌≡◌, ◌∙◌, ℕ, zero, suc, ◌+◌, ◌-◌, ◌≤◌, Bool, true, false, cond, List, [], ◌∷◌, ◌++◌, length, length-append, zero-add, refl, sym, ap, arith}
-use Rattle.std.specs.Prelude.{◌||◌, filter, nat_lt, not}
+use Rattle.std.specs.Prelude.{◌||◌, nat_lt}
 use Rattle.std.specs.List.{AllByRecursion, count_by, list_any}
 use Rattle.std.proofs.lemmas.Bool.Decides.{nat_tests}
 use Rattle.std.proofs.lemmas.List.Sums.{count_by-le-length, sum_by-append}
@@ -86,26 +86,6 @@ fewer p xs = count_by-le-length p xs
 pub may_go : {A : Type 0} (is_new : A → Bool) (us vs : List A) (x : A) → MayGo (is_new x) (counted is_new (us ++ x ∷ vs))
 may_go is_new us vs x = may_by (is_new x) (length (us ++ x ∷ vs)) (length (us ++ vs)) (count_by is_new (us ++ x ∷ vs)) (count_by is_new (us ++ vs)) (more_by_one us vs x) (fresh_by_one is_new us vs x) (fewer is_new (us ++ vs))
 
-parted_lengths : {A : Type 0} (leaves : A → Bool) (xs : List A) → length xs ≡ length (filter (λ x. not (leaves x)) xs) + length (filter leaves xs)
-parted_lengths leaves [] = refl
-parted_lengths {A = A} leaves (x ∷ xs) = pick (leaves x) (filter (λ x. not (leaves x)) xs) (filter leaves xs) (parted_lengths leaves xs)
-  where
-    pick : (b : Bool) (us vs : List A) → length xs ≡ length us + length vs → suc (length xs) ≡ length (cond (not b) (x ∷ us) us) + length (cond b (x ∷ vs) vs)
-    pick true us vs h = omega (arith, h)
-    pick false us vs h = omega (arith, h)
-
-parted_news : {A : Type 0} (p leaves : A → Bool) (xs : List A) → count_by p xs ≡ count_by p (filter (λ x. not (leaves x)) xs) + count_by p (filter leaves xs)
-parted_news p leaves [] = refl
-parted_news {A = A} p leaves (x ∷ xs) = pick (leaves x) (filter (λ x. not (leaves x)) xs) (filter leaves xs) (parted_news p leaves xs)
-  where
-    pick : (b : Bool) (us vs : List A) → count_by p xs ≡ count_by p us + count_by p vs → count_by p (x ∷ xs) ≡ count_by p (cond (not b) (x ∷ us) us) + count_by p (cond b (x ∷ vs) vs)
-    pick true us vs h = omega (arith, h, count_first p x xs, count_first p x vs)
-    pick false us vs h = omega (arith, h, count_first p x xs, count_first p x us)
-
--- several go at once: the count of the list is that of those that stay and that of those that go
-pub parted : {A : Type 0} (is_new leaves : A → Bool) (xs : List A) → counted is_new xs ≡ both (counted is_new (filter (λ x. not (leaves x)) xs)) (counted is_new (filter leaves xs))
-parted is_new leaves xs = same_count (length xs) (length (filter (λ x. not (leaves x)) xs) + length (filter leaves xs)) (count_by is_new xs) (count_by is_new (filter (λ x. not (leaves x)) xs) + count_by is_new (filter leaves xs)) (parted_lengths leaves xs) (parted_news is_new leaves xs)
-
 none_new : {A : Type 0} (p : A → Bool) (xs : List A) → AllByRecursion (λ x. p x ≡ false) xs → count_by p xs ≡ 0
 none_new p [] h = refl
 none_new p (x ∷ xs) h = count_first p x xs ∙ ap (λ b. one b + count_by p xs) h.0 ∙ zero-add (count_by p xs) ∙ none_new p xs h.1
@@ -115,9 +95,6 @@ pub looks : {A : Type 0} (is_new was_new : A → Bool) (xs : List A) → AllByRe
 looks is_new was_new xs h = same_count (length xs) (length xs) (count_by is_new xs) 0 refl (none_new is_new xs h)
 
 -- ---- two counts taken as one
-
-pub swapped : (a b : Count) → both a b ≡ both b a
-swapped a b = same_count (a.there + b.there) (b.there + a.there) (a.fresh + b.fresh) (b.fresh + a.fresh) (omega arith) (omega arith)
 
 pub sound_beside : {A : Type 0} (is_new : A → Bool) (xs : List A) (c : Count) → c.fresh ≤ c.there → (both (counted is_new xs) c).fresh ≤ (both (counted is_new xs) c).there
 sound_beside is_new xs c h = omega (arith, h, fewer is_new xs)

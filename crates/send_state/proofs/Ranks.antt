@@ -5,12 +5,8 @@ use Rattle.std.specs.List.{list_any}
 use Rattle.std.proofs.lemmas.Bool.Decides.{leb_tells, nat_tests}
 use Rattle.user_model.specs.declared.entry.Setup.{Setup}
 use Rattle.user_model.specs.Past.{Past}
-use Rattle.user_model.specs.Sends.{sends}
 use Rattle.user_model.specs.Ready.{ReadyMsg, place_of, ready}
-use Rattle.user_model.specs.Since.{IsTail, is_since, ready_last}
 use Rattle.user_model.specs.Status.{has_send}
-use Rattle.user_model.specs.Legal.{IsLawful}
-use Rattle.user_model.proofs.StatusSends.{ready_since}
 use Rattle.send_variants.specs.Lists.{Entry as Item, list_of}
 use Rattle.send_state.specs.Parts.{rank}
 use Rattle.send_state.specs.Standing.{IsOurs, ListsStand, item, item_as, place_at}
@@ -50,8 +46,3 @@ came-stands setup look past lists t ours h = any-came (length look) (list_of lis
 -- there is an entry where something is ready
 pub some-stands : (setup : Setup) (past : Past) (lists : List (List Item)) (t : ℕ) → IsOurs setup t → ListsStand setup past lists → list_any (λ e. true) (list_of lists t) ≡ has_send past t []
 some-stands setup past lists t ours h = any-entry (list_of lists t) ∙ came-stands setup [] past lists t ours h
-
--- the same as the last that is ready tells it
-pub since-stands : (setup : Setup) (look past : Past) (lists : List (List Item)) (t : ℕ) → IsTail look past → IsLawful setup past → IsOurs setup t → ListsStand setup past lists
-    → list_any (λ e. nat_le (rank (length look) 0) e.0) (list_of lists t) ≡ is_since (length (sends look)) (length look) (ready_last past t)
-since-stands setup look past lists t tail lawful ours h = came-stands setup look past lists t ours h ∙ ready_since setup look past t tail lawful

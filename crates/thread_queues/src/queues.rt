@@ -6,13 +6,11 @@ ghost use Rattle.thread_queues.specs.Changes.{changed, count_kept, ends, marked,
 ghost use Rattle.thread_queues.specs.Deliveries.{goes_with, kin_in, removal};
 ghost use Rattle.thread_queues.specs.Queues.{HasRoom, IsOne};
 ghost use Rattle.thread_state.specs.Threads.{waiting_with};
-ghost use Rattle.user_model.specs.Past.{is_refusal};
-ghost use Rattle.user_model.specs.Status.{is_look};
 ghost use Rattle.thread_queues.specs.Queues.{EachBy};
 
 use crate::delivery::posting;
 use std::alloc::AllocError;
-use thread_state::ThreadState;
+use thread_state::{ThreadState, is_look, is_refusal};
 use user_model::{Answer, Call, Entry, Origin};
 use win_num::{Hwnd, Msg, Thread};
 use win_tree::Tree;
@@ -105,25 +103,6 @@ pub fn mark_look(threads: &mut Vec<ThreadState>, entry: Entry, count: u32)
         return;
     }
     threads[thread - 1].look(count);
-}
-
-/// Whether the answer is a refusal.
-fn is_refusal(answer: Answer) -> bool
-    ensures { result ≡ is_refusal answer }
-{
-    matches!(answer, Answer::Refused(_))
-}
-
-/// Whether the call is a look at what is there: a get, a peek or a status (Microsoft, GetQueueStatus function).
-fn is_look(call: Call) -> bool
-    ensures { result ≡ is_look call }
-{
-    match call {
-        Call::Get(..) => true,
-        Call::Peek(..) => true,
-        Call::Status(_) => true,
-        _ => false,
-    }
 }
 
 /// The call that an entry waits with.

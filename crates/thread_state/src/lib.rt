@@ -2,8 +2,10 @@
 //! waits with.
 #![tactic(auto)]
 
+mod looking;
 mod passing;
 mod thread;
 
+pub use looking::{is_look, is_refusal};
 pub use passing::{passes, passes_window};
 pub use thread::ThreadState;

@@ -39,7 +39,6 @@ pub mod SendStanding
 pub mod SendSteps
 pub mod SendStories
 pub mod StatusPosts
-pub mod StatusSends
 pub mod StatusTimers
 pub mod StepReplies
 pub mod Steps

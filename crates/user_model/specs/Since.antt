@@ -1,10 +1,9 @@
 -- What came after an earlier past, told by the clock and by what was counted then.
-use Rattle.std.specs.Prelude.{◌≡◌, ◌⊎◌, ℕ, ◌==◌, nat_le, nat_lt, Bool, false, ◌&&◌, List, [], ◌∷◌, Option, Some, None}
+use Rattle.std.specs.Prelude.{◌≡◌, ◌⊎◌, ℕ, ◌==◌, nat_lt, Bool, ◌&&◌, [], ◌∷◌}
 use Rattle.std.specs.List.{list_any}
 use Rattle.user_model.specs.declared.entry.Setup.{Setup}
 use Rattle.user_model.specs.Past.{Past}
 use Rattle.user_model.specs.Posts.{posted}
-use Rattle.user_model.specs.Ready.{ReadyMsg, to_enter, to_call_back, ready}
 use Rattle.user_model.specs.Inputs.{untaken}
 use Rattle.user_model.specs.Targets.{taker}
 use Rattle.user_model.specs.Timers.{timers_of, due_time, is_due}
@@ -25,23 +24,3 @@ has_input_above is_kind setup past t n = list_any (λ x. nat_lt n x.number && (i
 -- whether a timer of t is due, and later than this time
 abbrev pub has_due_after : Past → ℕ → ℕ → Bool
 has_due_after past t time = list_any (λ x. is_due past x && nat_lt time (due_time past x)) (timers_of past t)
-
--- the last of a list
-abbrev pub last_of : List ReadyMsg → Option ReadyMsg
-last_of [] = None
-last_of (r ∷ []) = Some r
-last_of (r ∷ q ∷ rs) = last_of (q ∷ rs)
-
--- what became ready for t last
-abbrev pub ready_last : Past → ℕ → Option ReadyMsg
-ready_last past t = last_of (ready past t)
-
--- whether a send has a number above this, or a result came at this place or later
-abbrev pub is_ready_since : ℕ → ℕ → ReadyMsg → Bool
-is_ready_since n place (to_enter x) = nat_lt n x.number
-is_ready_since n place (to_call_back x proc_no extra at) = nat_le place at
-
--- the same of what there may be
-abbrev pub is_since : ℕ → ℕ → Option ReadyMsg → Bool
-is_since n place None = false
-is_since n place (Some r) = is_ready_since n place r

@@ -114,7 +114,7 @@ impl CoreState {
         take_post(&mut self.threads, entry);
         note_wait(&mut self.threads, entry);
         mark_look(&mut self.threads, entry, self.progress.posts);
-        let after = self.progress.moment(place + 1, self.sends.begun());
+        let after = self.progress.moment();
         self.looks.follow(entry, after, seen);
         note_look(&mut self.sends, entry, place + 1);
         self.history.push(entry).unwrap();
