@@ -1,7 +1,9 @@
 //! Lines of words, both ways.
 
+ghost use Rattle.script_lines.specs.NameLimits.{AreKnown};
+
 use crate::texts::shown;
-use script_lines::{NameTables, Names, lines_at, put_line, texts_of};
+use script_lines::{Line, NameTables, Names, line_at, put_line, texts_of, words_into};
 use script_tree::{Body, Procedure, Script};
 use std::alloc::{AllocError, Global};
 use std::io::Print;
@@ -18,12 +20,33 @@ fn script_of(alloc: Global, names: Names) -> Result<Script, AllocError> {
     Ok(Script::new(8, 4, 1, order, names, procedures, threads))
 }
 
+/// The lines of a text, and the names in them; none where one of them is no line.
+fn lines_of(
+    alloc: Global,
+    tables: &NameTables,
+    names: &mut Names,
+    texts: &[&[u8]],
+) -> Result<Option<Vec<Line>>, AllocError>
+    requires { AreKnown names.old }
+{
+    let mut lines = Vec::new(alloc);
+    let mut words = Vec::new(alloc);
+    for text in texts {
+        words_into(&mut words, text)?;
+        let Some(line) = line_at(alloc, tables, names, &words)? else {
+            return Ok(None);
+        };
+        lines.push(line)?;
+    }
+    Ok(Some(lines))
+}
+
 /// The text of these lines after they were read; none where one of them is no line.
 fn written_again(alloc: Global, bytes: &[u8]) -> Result<Option<Vec<u8>>, AllocError> {
     let tables = NameTables::new();
     let texts = texts_of(alloc, bytes)?;
     let mut names = Names::new(alloc);
-    let Some(lines) = lines_at(alloc, &tables, &mut names, &texts)? else {
+    let Some(lines) = lines_of(alloc, &tables, &mut names, &texts)? else {
         return Ok(None);
     };
     let script = script_of(alloc, names)?;

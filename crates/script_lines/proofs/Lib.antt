@@ -7,3 +7,4 @@ pub mod TextsAgain
 pub mod RowsAgain
 pub mod LinesAgain
 pub mod NamesStay
+pub mod FrequentLines

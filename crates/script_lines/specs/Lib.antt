@@ -7,3 +7,4 @@ pub mod LineLimits
 pub mod NameLimits
 pub mod LineReading
 pub mod Forms
+pub mod Frequent

@@ -3,7 +3,7 @@
 ghost use Rattle.std.specs.Prelude.{◌≡◌, ◌≤◌, length, OnOk, IfOk, IfSome, map, option_map};
 ghost use Rattle.std.specs.List.{AllByRecursion};
 ghost use Rattle.script_lines.specs.LineLimits.{IsPart, IsLine};
-ghost use Rattle.script_lines.specs.LineReading.{word_at, split_at, texts_of, part_at, parts_from, line_at, lines_at};
+ghost use Rattle.script_lines.specs.LineReading.{word_at, split_at, texts_of, part_at, parts_from, line_at};
 ghost use Rattle.script_lines.specs.NameLimits.{AreKnown};
 
 use crate::line::Line;
@@ -27,7 +27,7 @@ pub fn split_at<'a>(alloc: Global, text: &'a [u8], byte: u8) -> Result<Vec<&'a [
 }
 
 /// Puts the words of a line in place of those that were there, in the same room.
-fn words_into<'a>(words: &mut Vec<&'a [u8]>, text: &'a [u8]) -> Result<(), AllocError>
+pub fn words_into<'a>(words: &mut Vec<&'a [u8]>, text: &'a [u8]) -> Result<(), AllocError>
     ensures { OnOk result (map (λ w. w.now) words.new.items ≡ split_at 32 text.now) }
 {
     words.clear();
@@ -122,29 +122,4 @@ pub fn line_at(alloc: Global, tables: &NameTables, known: &mut Names, words: &[&
         return Ok(None);
     };
     Ok(line_of_parts(command, &parts))
-}
-
-/// The lines of a text, and the names in them. None comes where one of them is no line, names a procedure
-/// whose `proc` line doesn't stand above, begins one a second time, or has a name too many.
-pub fn lines_at(
-    alloc: Global,
-    tables: &NameTables,
-    known: &mut Names,
-    texts: &[&[u8]],
-) -> Result<Option<Vec<Line>>, AllocError>
-    requires { AreKnown known.old }
-    ensures found { IfOk result (λ found. option_map (λ ls. (ls.items, known.new)) found ≡ lines_at known.old (map (λ w. w.now) texts.now)) }
-    ensures kept { AreKnown known.new }
-    ensures fits { IfOk result (λ found. IfSome found (λ ls. AllByRecursion IsLine ls.items)) }
-{
-    let mut lines = Vec::new(alloc);
-    let mut words = Vec::new(alloc);
-    for text in texts {
-        words_into(&mut words, text)?;
-        let Some(line) = line_at(alloc, tables, known, &words)? else {
-            return Ok(None);
-        };
-        lines.push(line)?;
-    }
-    Ok(Some(lines))
 }

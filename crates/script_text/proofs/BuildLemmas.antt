@@ -1,10 +1,9 @@
 -- Blocks and lines.
-use Rattle.std.proofs.Common.{◌≡◌, ℕ, ◌+◌, ◌<◌, ◌≤◌, Bool, true, false, not, List, [], ◌∷◌, ◌++◌, length, drop, get_or, Option, Some, None, Result, Ok, Err, refl, ap, sym, ◌∙◌, append_assoc, append-nil, arith, subst, inl, inr}
+use Rattle.std.proofs.Common.{◌≡◌, ℕ, ◌+◌, ◌<◌, ◌≤◌, Bool, true, false, not, List, [], ◌∷◌, ◌++◌, length, Option, Some, None, Result, Ok, Err, refl, ap, sym, ◌∙◌, append_assoc, append-nil, arith, subst, inl, inr}
 use Rattle.std.specs.Prelude.{nat_lt, ◌==◌, ◌&&◌, ◌||◌, if◌then◌else◌, IfOk}
 use Rattle.std.specs.List.{flat_map, list_any, AllByRecursion}
 use Rattle.std.proofs.lemmas.Bool.{false≢true, and_parts, cases_Bool}
 use Rattle.std.proofs.lemmas.Bool.Decides.{nat_tests}
-use Rattle.std.proofs.lemmas.List.{drop_more}
 use Rattle.std.proofs.lemmas.List.Concat.{flat_map-append}
 use Rattle.script_tree.specs.declared.statement.Statement.{Statement, Row_of-Statement, end_of-Statement, more_of-Statement, items-the_row-Statement}
 use Rattle.script_lines.specs.declared.line.Line.{Line}
@@ -14,7 +13,7 @@ use Rattle.script_text.specs.declared.builder.Opening.TheVariants as openings
 use Rattle.script_text.specs.declared.builder.Block.{Block}
 use Rattle.script_text.specs.Building.{kind_of, kinds, opening_lines, open_lines, built_lines, nest_of, IsSound}
 use Rattle.script_text.specs.Lines.{statement_lines, row_lines, body_lines, thread_lines, procedure_lines, numbered_lines, code_lines}
-use Rattle.script_text.specs.Nesting.{Kind, InProcedure, InThread, InIf, InElse, InWhile, Nest, IsNext, is_procedure, nested, nested_all, none_open, all_closed, nests, with_kinds, block_entered, block_opened, top_opened, else_opened, procedure_entered, procedure_opened, closed, start}
+use Rattle.script_text.specs.Nesting.{Kind, InProcedure, InThread, InIf, InElse, InWhile, Nest, IsNext, is_procedure, nested, nested_all, none_open, with_kinds, block_entered, block_opened, top_opened, else_opened, procedure_entered, procedure_opened, closed}
 
 pub length_kinds : (bs : List Block) → length (kinds bs) ≡ length bs
 length_kinds [] = refl
@@ -151,13 +150,6 @@ closed_procedure procedures threads new old rest b k (Ok t) was begun sound h to
     ∙ ap (λ (l : List Line). (all ++ l) ++ lines.End ∷ []) (sym stood)
     ∙ ap (λ (l : List Line). (l ++ open_lines old) ++ lines.End ∷ []) (sym before)
 closed_procedure procedures threads new old rest b k (Err x) was begun sound h top = h
-
--- a line that can't stand there
-pub refused : (ls : List Line) (i : ℕ) (d : Line) (n after : Nest) (taken : Bool) → i < length ls → taken ≡ false → (if taken then Some after else None) ≡ nested n (get_or ls i d) → nested_all (Some n) (drop i ls) ≡ nested_all (Some start) ls → nests ls ≡ false
-refused ls i d n after taken lt e step so_far =
-    let none : nested n (get_or ls i d) ≡ None = sym step ∙ ap (λ (b : Bool). if b then Some after else None) e in
-    let total : nested_all (Some start) ls ≡ None = sym so_far ∙ ap (nested_all (Some n)) (drop_more ls i d lt) ∙ ap (λ (o : Option Nest). nested_all o (drop (i + 1) ls)) none ∙ stays_none (drop (i + 1) ls) in
-    ap all_closed total
 
 -- ---- an open procedure has the next number
 

@@ -107,10 +107,6 @@ procedures_counted procedures threads = omega (arith, total_append 1 0 (numbered
 pub threads_counted : (procedures threads : List (List Statement)) → total 0 1 (code_lines procedures threads) ≡ length threads
 threads_counted procedures threads = omega (arith, total_append 0 1 (numbered_lines 0 procedures) (flat_map thread_lines threads), procedures_none 0 procedures, threads_one threads)
 
--- the same lines have as many threads
-pub same_threads : (a b c d : List (List Statement)) → code_lines a b ≡ code_lines c d → length b ≡ length d
-same_threads a b c d e = sym (threads_counted a b) ∙ ap (total 0 1) e ∙ threads_counted c d
-
 -- ---- procedures that begin
 
 some_same : (n m : ℕ) → (let x : Option ℕ = Some n in let y : Option ℕ = Some m in x ≡ y) → n ≡ m

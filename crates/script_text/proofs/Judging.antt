@@ -15,16 +15,18 @@ use Rattle.statement_table.specs.declared.part.Part.{Part}
 use Rattle.script_lines.specs.LineLimits.{IsLine}
 use Rattle.script_lines.specs.LineParts.{line_parts}
 use Rattle.script_lines.specs.LineReading.{split_at, texts_of, line_at}
+use Rattle.script_lines.specs.Frequent.{IsFrequent}
 use Rattle.script_lines.specs.LineTexts.{joined}
 use Rattle.script_lines.specs.NameLimits.{AreKnown, seen_after, begun_after}
 use Rattle.script_lines.specs.Words.{line_words}
+use Rattle.script_lines.proofs.FrequentLines.{frequent_read, rejoined}
 use Rattle.script_text.specs.declared.fault.Reason.{Reason}
 use Rattle.script_text.specs.declared.fault.Reason.TheVariants as reasons
 use Rattle.script_text.specs.declared.fault.Refusal.{Refusal}
 use Rattle.script_text.specs.declared.head.HeadLine.{HeadLine}
 use Rattle.script_text.specs.Grammar.{Stood, IsCode, IsWhole, Begins, Front, all_heads, rest_of, thread_of}
 use Rattle.script_text.specs.Heads.{is_head_text}
-use Rattle.script_text.specs.Judging.{IsBadAt}
+use Rattle.script_text.specs.Judging.{IsBadAt, Adds}
 use Rattle.script_text.specs.Nesting.{Nest, nested, start}
 use Rattle.script_text.specs.Reasons.{line_reason}
 use Rattle.script_text.specs.Refusals.{IsBadText, IsFirstBad}
@@ -224,6 +226,12 @@ begun_told a b c d lent parts p q r h =
 pub spelled_told : (a b : List ℕ) → bytes_eq a b ≡ true → a ≡ b
 spelled_told a b h = (bytes_eq-Decides a b).0 h
 
+-- by the last call, which may want memory
+pub added_last : {E : Type 0} (r : Result Bool E) (known k : Known) (ws : List (List ℕ)) (text : List ℕ) (l : Line) → (let o : Option (Line × Known) = Some (l, k) in o ≡ line_at known ws) → ws ≡ split_at 32 text → (before behind : List Line)
+    → IfOk r (λ t. t ≡ true → behind ≡ before ++ l ∷ []) → IfOk r (λ t. t ≡ true → Adds known before text k behind)
+added_last (Ok t) known k ws text l found e before behind h = λ yes. record { line = l; read = sym (found ∙ ap (line_at known) e); added = h yes }
+added_last (Err x) known k ws text l found e before behind h = h
+
 module _ (known k : Known) (ws : List (List ℕ)) (text : List ℕ) (l : Line) (found : (let o : Option (Line × Known) = Some (l, k) in o ≡ line_at known ws)) (e : ws ≡ split_at 32 text) (nest : Nest) (threads : ℕ) where
   same : (after : Known) (behind : Nest) (begun : ℕ) (s : IsStep known nest threads text after behind begun) → (l ≡ s.line) × (k ≡ after)
   same after behind begun s =
@@ -286,3 +294,26 @@ module _ (known k : Known) (ws : List (List ℕ)) (text : List ℕ) (l : Line) (
   unfinished (Ok true) behind step = λ e. absurd (false≢true (sym e))
   unfinished (Ok false) behind step = λ e. not_nested step
   unfinished (Err x) behind step = step
+
+-- ---- a frequent line taken
+
+module _ (known : Known) (ws : List (List ℕ)) (text : List ℕ) (l : Line) (h : IsFrequent ws l) (e : ws ≡ split_at 32 text) (named : AreKnown known) where
+  frequent_found : (let o : Option (Line × Known) = Some (l, known) in o ≡ line_at known ws)
+  frequent_found = sym (frequent_read known ws l h named)
+
+  no_thread : thread_of l ≡ 0
+  no_thread = ap thread_of h.is
+
+  frequent_spelled : joined (line_words known l) ≡ text
+  frequent_spelled = ap joined (h.spelled known ∙ e) ∙ rejoined text
+
+  pub frequent_taken : {E : Type 0} (r : Result Bool E) (nest behind : Nest) (threads : ℕ) → threads ≤ 15 → IfOk r (λ t. (if t then Some behind else None) ≡ nested nest l) → IfOk r (λ t. t ≡ true → IsStep known nest threads text known behind threads)
+  frequent_taken r nest behind threads few step =
+      finished known known ws text l frequent_found e nest threads r behind threads h.fits frequent_spelled (h.unnamed (length known.names) (Some (length known.names))) (h.unbegun (length known.procedures) (Some (length known.procedures)))
+      (omega (arith, no_thread)) few step
+
+  pub frequent_refused : {E : Type 0} (r : Result Bool E) (nest behind : Nest) (threads : ℕ) → IfOk r (λ t. (if t then Some behind else None) ≡ nested nest l) → IfOk r (λ t. t ≡ false → IsNoStep known nest threads text)
+  frequent_refused r nest behind threads step = unfinished known known ws text l frequent_found e nest threads r behind step
+
+  pub frequent_added : {E : Type 0} (r : Result Bool E) (before behind : List Line) → IfOk r (λ t. t ≡ true → behind ≡ before ++ l ∷ []) → IfOk r (λ t. t ≡ true → Adds known before text known behind)
+  frequent_added r before behind added = added_last r known known ws text l frequent_found e before behind added

@@ -12,4 +12,6 @@ pub mod HeadLines
 pub mod Judging
 pub mod WholeTexts
 pub mod ReadAgain
+pub mod LinesTaken
 pub mod FirstBad
+pub mod ReadWhole

@@ -6,30 +6,16 @@ use Rattle.std.proofs.lemmas.Bool.{false≢true}
 use Rattle.std.proofs.lemmas.Bool.Decides.{nat_tests}
 use Rattle.std.proofs.lemmas.List.{drop_more, length-map}
 use Rattle.script_tree.specs.Tree.{Tree}
-use Rattle.script_lines.specs.declared.line.Line.{Line}
 use Rattle.statement_table.specs.declared.part.Part.{Part}
 use Rattle.script_lines.specs.LineLimits.{IsLine}
-use Rattle.script_lines.specs.LineParts.{line_parts}
 use Rattle.script_lines.specs.Known.{known_of}
-use Rattle.script_lines.specs.NameLimits.{AreKnown, all_seen, seen_with_part, seen_after, seen_all, are_in_order, begun_with_part, begun_after, begun_all, are_procedures_in_order}
-use Rattle.script_lines.proofs.LinesAgain.{none_after, none_seen, none_begun, none_begun_after}
+use Rattle.script_lines.specs.NameLimits.{AreKnown, seen_with_part, seen_after, are_in_order, begun_with_part, begun_after, are_procedures_in_order}
+use Rattle.script_lines.proofs.LinesAgain.{none_after, none_begun_after}
 use Rattle.script_text.specs.Limits.{IsScript, is_turn, is_within}
 use Rattle.script_text.specs.Lines.{names_of, script_lines}
 use Rattle.script_text.specs.Nesting.{nests}
 use Rattle.script_text.specs.Programs.{IsFitting}
 use Rattle.script_text.specs.Spelling.{spelling}
-
--- a line with a name that is out of order
-pub unseen : (count : ℕ) (lines : List Line) (i : ℕ) (d : Line) (seen : ℕ) → i < length lines → seen_after count (Some seen) (line_parts (get_or lines i d)) ≡ None → seen_all count (Some seen) (drop i lines) ≡ seen_all count (Some 0) lines → are_in_order count lines ≡ false
-unseen count lines i d seen lt none so_far =
-    let total : seen_all count (Some 0) lines ≡ None = sym so_far ∙ ap (seen_all count (Some seen)) (drop_more lines i d lt) ∙ ap (λ (o : Option ℕ). seen_all count o (drop (i + 1) lines)) none ∙ none_seen count (drop (i + 1) lines) in
-    ap (all_seen count) total
-
--- a line with a procedure that is out of order
-pub unbegun : (count : ℕ) (lines : List Line) (i : ℕ) (d : Line) (begun : ℕ) → i < length lines → begun_after count (Some begun) (line_parts (get_or lines i d)) ≡ None → begun_all count (Some begun) (drop i lines) ≡ begun_all count (Some 0) lines → are_procedures_in_order count lines ≡ false
-unbegun count lines i d begun lt none so_far =
-    let total : begun_all count (Some 0) lines ≡ None = sym so_far ∙ ap (begun_all count (Some begun)) (drop_more lines i d lt) ∙ ap (λ (o : Option ℕ). begun_all count o (drop (i + 1) lines)) none ∙ none_begun count (drop (i + 1) lines) in
-    ap (all_seen count) total
 
 -- a part with a name that is out of order
 pub unseen_part : (count : ℕ) (parts : List Part) (i : ℕ) (d : Part) (seen : ℕ) (total : Option ℕ) → i < length parts → seen_with_part count (Some seen) (get_or parts i d) ≡ None → seen_after count (Some seen) (drop i parts) ≡ total → total ≡ None
@@ -40,10 +26,6 @@ unseen_part count parts i d seen total lt none so_far =
 pub unbegun_part : (count : ℕ) (parts : List Part) (i : ℕ) (d : Part) (begun : ℕ) (total : Option ℕ) → i < length parts → begun_with_part count (Some begun) (get_or parts i d) ≡ None → begun_after count (Some begun) (drop i parts) ≡ total → total ≡ None
 unbegun_part count parts i d begun total lt none so_far =
     sym so_far ∙ ap (begun_after count (Some begun)) (drop_more parts i d lt) ∙ ap (λ (o : Option ℕ). begun_after count o (drop (i + 1) parts)) none ∙ none_begun_after count (drop (i + 1) parts)
-
-pub and_false : (a b : Bool) → b ≡ false → (a && b) ≡ false
-and_false true b e = e
-and_false false b e = refl
 
 le_told : (a b : ℕ) → nat_le a b ≡ true → a ≤ b
 le_told a b h = grind (arith, nat_tests, h)

@@ -2,8 +2,8 @@
 use Rattle.std.proofs.Common.{◌≡◌, ℕ, ◌+◌, ◌-◌, ◌^◌, ◌≤◌, ◌<◌, true, List, [], ◌∷◌, ◌++◌, length, take, drop, get_or, Option, Some, None, refl, ap, sym, ◌∙◌, append_assoc, arith, length-append, append-nil, subst}
 use Rattle.std.proofs.Math.Seq.{get_or-append_seam}
 use Rattle.std.proofs.lemmas.List.{length-map, map-append}
-use Rattle.std.specs.Prelude.{codes, decimal, map, min, nat_le, ◌&&◌}
-use Rattle.std.specs.List.{AllByRecursion, list_all, flat_map, zip}
+use Rattle.std.specs.Prelude.{codes, decimal, map, min, nat_le}
+use Rattle.std.specs.List.{list_all, flat_map, zip}
 use Rattle.std.proofs.lemmas.Bool.{and_parts, and_from}
 use Rattle.std.proofs.lemmas.Bool.Decides.{nat_tests}
 use Rattle.std.proofs.lemmas.List.Concat.{flat_map-append}
@@ -12,14 +12,12 @@ use Rattle.script_tree.specs.declared.statement.Statement.{Statement}
 use Rattle.script_lines.specs.declared.line.Line.{Line}
 use Rattle.script_lines.specs.declared.line.Line.TheVariants as lines
 use Rattle.script_lines.specs.Known.{Known, nothing_known, known_of}
-use Rattle.script_lines.specs.LineLimits.{IsLine}
 use Rattle.script_lines.specs.LineReading.{Names, split_at, word_at, texts_of, lines_at}
 use Rattle.script_lines.specs.LineTexts.{blank_word, joined, line_text}
-use Rattle.script_lines.specs.NameLimits.{AreKnown, are_in_order, are_procedures_in_order}
+use Rattle.script_lines.specs.NameLimits.{are_procedures_in_order}
 use Rattle.script_lines.specs.Words.{line_words}
 use Rattle.script_text.specs.Limits.{IsScript, is_turn, is_within}
 use Rattle.script_text.specs.Lines.{body_lines, thread_lines, procedure_lines, numbered_lines, procedure_of, names_of, bodies_of, code_lines, script_lines}
-use Rattle.script_text.specs.Nesting.{nests}
 use Rattle.script_text.specs.Programs.{IsProgram, IsFitting}
 use Rattle.script_text.specs.Reading.{small_number_at, width_at, height_at, budget_at, order_at}
 use Rattle.script_text.specs.Refusals.{IsSame}
@@ -138,12 +136,6 @@ same_pair a c b d e =
 abbrev pub Texts : Known → List Line → List (List ℕ)
 Texts known lines = map joined (map (line_words known) lines)
 
-pub no_lines : (known seen : Known) (lines : List Line) (texts : List (List ℕ)) → seen ≡ nothing_known → IsProgram known lines → texts ≡ Texts known lines → None ≡ lines_at seen texts → ⊥
-no_lines known seen lines texts none h e clash = let f : None ≡ Some (lines, known) = clash ∙ program_found known seen lines texts none h e in absurd (cc f)
-
-pub these_lines : (known found seen : Known) (lines ls : List Line) (texts : List (List ℕ)) → seen ≡ nothing_known → IsProgram known lines → texts ≡ Texts known lines → Some (ls, found) ≡ lines_at seen texts → (ls ≡ lines) × (found ≡ known)
-these_lines known found seen lines ls texts none h e same = same_pair ls lines found known (same ∙ program_found known seen lines texts none h e)
-
 -- ---- procedures of names and bodies
 
 zipped_names : (names : Names) (bodies : List (List Statement)) → length names ≡ length bodies → names_of (map procedure_of (zip names bodies)) ≡ names
@@ -181,27 +173,6 @@ found_program known names made threads ls found h =
     let Q : List Line → Type 0 = IsProgram known in
     let same : known ≡ known_by names made = ap (λ (x : Names). record { names = x; procedures = known.procedures }) (sym found.0) ∙ ap (λ (x : Names). record { names = names; procedures = x }) (sym found.1) in
     subst P same (subst Q (sym found.2) h)
-
--- lines and names that are within the limits are a program
-pub is_program : (known : Known) (a b : ℕ) (ls lent built : List Line) → AreKnown known → AllByRecursion IsLine ls → a ≡ length known.names → b ≡ length known.procedures → lent ≡ ls → built ≡ ls → (are_in_order a lent && are_procedures_in_order b lent) ≡ true → nests built ≡ true → IsProgram known ls
-is_program known a b ls lent built named fits is_a is_b same both ordered nest =
-    let two = and_parts (are_in_order a lent) (are_procedures_in_order b lent) ordered in
-    record {
-      named = named;
-      fits = fits;
-      in_order = ap (λ (n : ℕ). are_in_order n ls) (sym is_a) ∙ ap (are_in_order a) (sym same) ∙ two.0;
-      procedures_in_order = ap (λ (n : ℕ). are_procedures_in_order n ls) (sym is_b) ∙ ap (are_procedures_in_order b) (sym same) ∙ two.1;
-      nested = ap nests (sym both) ∙ nest;
-    }
-
-pub order_kept : (known found : Known) (a b : ℕ) (lines ls lent : List Line) → IsProgram known lines → (ls ≡ lines) × (found ≡ known) → a ≡ length found.names → b ≡ length found.procedures → lent ≡ ls → (are_in_order a lent && are_procedures_in_order b lent) ≡ true
-order_kept known found a b lines ls lent h two is_a is_b same =
-    and_from _ _
-    (ap (are_in_order a) (same ∙ two.0) ∙ ap (λ (n : ℕ). are_in_order n lines) (is_a ∙ ap (λ (k : Known). length k.names) two.1) ∙ h.in_order)
-    (ap (are_procedures_in_order b) (same ∙ two.0) ∙ ap (λ (n : ℕ). are_procedures_in_order n lines) (is_b ∙ ap (λ (k : Known). length k.procedures) two.1) ∙ h.procedures_in_order)
-
-pub nests_kept : (known : Known) (lines ls lent : List Line) → IsProgram known lines → ls ≡ lines → lent ≡ ls → nests lent ≡ true
-nests_kept known lines ls lent h e same = ap nests (same ∙ e) ∙ h.nested
 
 -- ---- the tree that was found
 

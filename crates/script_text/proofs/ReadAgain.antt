@@ -1,11 +1,10 @@
 -- A whole text is taken apart into a tree that has this text.
-use Rattle.std.proofs.Common.{◌≡◌, ℕ, zero, suc, ◌≤◌, ◌<◌, true, List, [], ◌∷◌, ◌++◌, length, drop, refl, ap, sym, ◌∙◌, arith, subst, append_assoc, append-nil, length-drop, take, ◌-◌, inl, inr}
+use Rattle.std.proofs.Common.{◌≡◌, ℕ, suc, ◌≤◌, ◌<◌, true, List, [], ◌∷◌, ◌++◌, length, drop, refl, ap, sym, ◌∙◌, arith, subst, append_assoc, append-nil, take, ◌-◌, inl, inr}
 use Rattle.std.specs.Prelude.{map, decimal, codes, nat_le, nat_lt, ◌==◌, ◌&&◌, slice_index_or}
 use Rattle.std.specs.List.{list_all, flat_map, onto_first}
 use Rattle.std.proofs.lemmas.Bool.{false≢true, and_parts, and_from, cases_Bool}
 use Rattle.std.proofs.lemmas.Bool.Decides.{nat_tests}
 use Rattle.std.proofs.lemmas.Fmt.{decimal_digit}
-use Rattle.std.proofs.lemmas.List.{take_all, length-map}
 use Rattle.script_tree.specs.Tree.{ProcedureTree, Tree}
 use Rattle.script_tree.specs.declared.statement.Statement.{Statement}
 use Rattle.script_lines.specs.declared.line.Line.{Line}
@@ -14,7 +13,7 @@ use Rattle.script_lines.specs.LineReading.{Names, split_at, texts_of, word_at}
 use Rattle.script_lines.specs.LineTexts.{joined, line_text}
 use Rattle.script_lines.specs.Words.{line_words}
 use Rattle.script_text.specs.declared.head.HeadLine.TheVariants as heads
-use Rattle.script_text.specs.Grammar.{is_between, are_head_numbers, head_text, IsText, IsWhole, thread_count, rest_of}
+use Rattle.script_text.specs.Grammar.{is_between, are_head_numbers, head_text, IsText, thread_count, rest_of}
 use Rattle.script_text.specs.Limits.{is_turn, is_within}
 use Rattle.script_text.specs.Nesting.{Kind, none_open, all_closed}
 use Rattle.script_text.specs.Lines.{names_of, bodies_of, code_lines, script_lines}
@@ -24,7 +23,6 @@ use Rattle.script_text.specs.Spelling.{spelling}
 use Rattle.script_lines.proofs.TextsAgain.{is_word, decimal_word, words_again}
 use Rattle.script_text.proofs.Counting.{thread_total, threads_counted, total}
 use Rattle.script_text.proofs.PartsAgain.{small_again, turns_words, turns_again, tree_of, known_by, IsFound}
-use Rattle.script_text.proofs.Steps.{Texts}
 
 eq_told : (a b : ℕ) → (a == b) ≡ true → a ≡ b
 eq_told a b h = grind (arith, nat_tests, h)
@@ -280,25 +278,3 @@ module _ (texts : List (List ℕ)) (s : Says texts) where
         ∙ ap (λ (x : Names). head_of s.width s.height s.budget s.order ++ map (line_words (record { names = x; procedures = names_of procedures })) lines) found.0
         ∙ ap (λ (x : Names). head_of s.width s.height s.budget s.order ++ map (line_words (record { names = s.known.names; procedures = x })) lines) found.1
         ∙ ap (λ (x : List Line). head_of s.width s.height s.budget s.order ++ map (line_words s.known) x) found.2)
-
--- ---- through the code's slices
-
-map_drop : {R : Type 0} (read : R → List ℕ) (n : ℕ) (xs : List R) → map read (drop n xs) ≡ drop n (map read xs)
-map_drop read zero xs = refl
-map_drop read (suc n) [] = refl
-map_drop read (suc n) (x ∷ xs) = map_drop read n xs
-
-pub too_few : {R : Type 0} (read : R → List ℕ) (lent : List R) → IsText (map read lent) → length lent < 4 → ⊥
-too_few read lent t lt = omega (arith, t.long, length-map lent read)
-
-pub rest_said : {R : Type 0} (read : R → List ℕ) (lent : List R) (s : Says (map read lent)) → map read (take (length lent - 4) (drop 4 lent)) ≡ Texts s.known s.said
-rest_said {R = R} read lent s =
-    let len : length (drop 4 lent) ≤ length lent - 4 = omega (arith, length-drop 4 lent) in
-    ap (map read) (take_all (length lent - 4) (drop 4 lent) len) ∙ map_drop read 4 lent ∙ ap (drop 4) s.is
-
-pub text_lent : {R : Type 0} (read : R → List ℕ) (bytes : List ℕ) (own lent : List R) → IsWhole bytes → map read own ≡ texts_of bytes → lent ≡ own → IsText (map read lent)
-text_lent {R = R} read bytes own lent w split same = let P : List (List ℕ) → Type 0 = IsText in subst P (sym (ap (map read) same ∙ split)) w.text
-
-pub whole_spelled : {R : Type 0} (read : R → List ℕ) (bytes : List ℕ) (own lent : List R) → IsWhole bytes → map read own ≡ texts_of bytes → lent ≡ own → (s : Says (map read lent)) → bytes ≡ flat_map line_text (head_of s.width s.height s.budget s.order ++ map (line_words s.known) s.said)
-whole_spelled {R = R} read bytes own lent w split same s =
-    whole_is bytes (head_of s.width s.height s.budget s.order ++ map (line_words s.known) s.said) w.ended (sym (ap (map read) same ∙ split) ∙ s.is)

@@ -123,7 +123,7 @@ all_back P (x ∷ xs) ys h = all_back P xs ys h.1
 pub stood_read : (texts : List (List ℕ)) (known : Known) (nest : Nest) (threads : ℕ) (h : Stood texts known nest threads) → lines_at nothing_known texts ≡ Some (h.said, known)
 stood_read texts known nest threads h = ap (lines_at nothing_known) h.spelled ∙ lines_again known 0 0 h.said h.fits h.named (omega arith) (omega arith) h.in_order h.procedures_in_order
 
-pair_same : (a c : List Line) (b d : Known) → (let x : Option (List Line × Known) = Some (a, b) in let y : Option (List Line × Known) = Some (c, d) in x ≡ y) → (a ≡ c) × (b ≡ d)
+pub pair_same : (a c : List Line) (b d : Known) → (let x : Option (List Line × Known) = Some (a, b) in let y : Option (List Line × Known) = Some (c, d) in x ≡ y) → (a ≡ c) × (b ≡ d)
 pair_same a c b d e = let p = same_Some (a, b) (c, d) e in (ap (λ (q : List Line × Known). q.0) p, ap (λ (q : List Line × Known). q.1) p)
 
 pub first_nest : (o : Option Nest) (ls : List Line) (n : Nest) → nested_all o ls ≡ Some n → (m : Nest) × (o ≡ Some m)

@@ -28,7 +28,7 @@ le_true a b h = grind (arith, nat_tests)
 between : (least most n : ℕ) → least ≤ n → n ≤ most → (nat_le least n && nat_le n most) ≡ true
 between least most n a b = and_from _ _ (le_true least n a) (le_true n most b)
 
-no_kinds : (ks : List Kind) → none_open ks ≡ true → ks ≡ []
+pub no_kinds : (ks : List Kind) → none_open ks ≡ true → ks ≡ []
 no_kinds [] h = refl
 no_kinds (k ∷ ks) h = absurd (false≢true h)
 

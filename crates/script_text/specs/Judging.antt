@@ -1,10 +1,12 @@
 -- What a fold over the lines of a text keeps.
-use Rattle.std.specs.Prelude.{ℕ, List, take}
-use Rattle.script_lines.specs.Known.{Known}
+use Rattle.std.specs.Prelude.{◌≡◌, ℕ, List, [], ◌∷◌, ◌++◌, take, drop, Some}
+use Rattle.script_lines.specs.declared.line.Line.{Line}
+use Rattle.script_lines.specs.Known.{Known, nothing_known}
+use Rattle.script_lines.specs.LineReading.{split_at, line_at, lines_at}
 use Rattle.script_text.specs.declared.builder.Builder.{Builder}
 use Rattle.script_text.specs.declared.fault.Reason.{Reason}
-use Rattle.script_text.specs.declared.judge.Reading.{Reading}
-use Rattle.script_text.specs.Building.{nest_of, IsSound}
+use Rattle.script_text.specs.declared.reading.Reading.{Reading}
+use Rattle.script_text.specs.Building.{built_lines, nest_of, IsSound}
 use Rattle.script_text.specs.Grammar.{Front}
 use Rattle.script_text.specs.Nesting.{Nest}
 use Rattle.script_text.specs.Refusals.{IsBadText}
@@ -13,10 +15,21 @@ use Rattle.script_text.specs.Refusals.{IsBadText}
 abbrev pub nest_in : Builder → Nest
 nest_in b = nest_of b.procedures.items b.threads.items b.blocks.items
 
--- the reading is that of these lines
+-- the lines that a builder has taken
+abbrev pub lines_in : Builder → List Line
+lines_in b = built_lines b.procedures.items b.threads.items b.blocks.items
+
+-- a text is the line that was taken behind those before it, and these names are known then
+pub record Adds (known : Known) (before : List Line) (text : List ℕ) (after : Known) (behind : List Line) : Type 0 where
+  pub line : Line
+  pub read : line_at known (split_at 32 text) ≡ Some (line, after)
+  pub added : behind ≡ before ++ line ∷ []
+
+-- the reading is that of these lines, and what they say behind the head has been taken
 pub record IsReading (texts : List (List ℕ)) (r : Reading) : Type 0 where
   pub front : Front texts r.known (nest_in r.builder) r.threads
   pub sound : IsSound r.builder.procedures.items r.builder.threads.items r.builder.blocks.items
+  pub built : lines_at nothing_known (drop 4 texts) ≡ Some (lines_in r.builder, r.known)
 
 -- so many lines are good, and the next one isn't
 pub record IsBadAt (texts : List (List ℕ)) (before : ℕ) (reason : Reason) : Type 0 where

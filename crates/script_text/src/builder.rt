@@ -88,18 +88,10 @@ fn add_statement(blocks: &mut VecDeque<Block>, statement: Statement) -> Result<b
     ensures lines { IfOk result (λ taken. taken ≡ true → open_lines blocks.new.items ≡ open_lines blocks.old.items ++ statement_lines statement) }
     ensures kinds { IfOk result (λ taken. (if taken then Some (kinds blocks.new.items) else None) ≡ block_entered (kinds blocks.old.items)) }
 {
-    let Some(block) = blocks.pop_front() else {
+    let Some(block) = blocks.front_mut() else {
         return Ok(false);
     };
-    let Block {
-        opening,
-        mut statements,
-    } = block;
-    statements.push(statement)?;
-    blocks.push_front(Block {
-        opening,
-        statements,
-    })?;
+    block.statements.push(statement)?;
     Ok(true)
 }
 
@@ -334,7 +326,7 @@ impl Builder {
     }
 
     /// The bodies, where no block is open.
-    fn finish(self) -> Option<Bodies>
+    pub fn finish(self) -> Option<Bodies>
         ensures lines { IfSome result (λ bodies. code_lines bodies.procedures.items bodies.threads.items ≡ built_lines self.procedures.items self.threads.items self.blocks.items) }
         ensures open { is_some result ≡ none_open (kinds self.blocks.items) }
     {
@@ -347,19 +339,4 @@ impl Builder {
             None
         }
     }
-}
-
-/// The bodies with these lines. None comes where the lines aren't those of procedures and then of
-/// threads, each with what nests in it, at most 32 blocks deep.
-pub fn build(alloc: Global, lines: &[Line]) -> Result<Option<Bodies>, AllocError>
-    ensures lines { IfOk result (λ found. IfSome found (λ bodies. code_lines bodies.procedures.items bodies.threads.items ≡ lines.now)) }
-    ensures nests { IfOk result (λ found. is_some found ≡ nests lines.now) }
-{
-    let mut builder = Builder::new(alloc);
-    for line in lines {
-        if !builder.take(alloc, *line)? {
-            return Ok(None);
-        }
-    }
-    Ok(builder.finish())
 }

@@ -1,45 +1,22 @@
 //! The first bad line of a text, and what is wrong there: one fold over the lines.
 
-ghost use Rattle.std.specs.Prelude.{◌≡◌, ◌≤◌, ◌+◌, ◌++◌, ◌∷◌, ◌↔◌, [], List, ℕ, length, map, slice_get, true, false, Some, None, IsTrue, IfOk, IfSome};
-ghost use Rattle.script_lines.specs.NameLimits.{AreKnown, seen_after, begun_after};
-ghost use Rattle.script_text.specs.Building.{IsSound};
-ghost use Rattle.script_text.specs.Grammar.{thread_of, all_heads, IsWhole, Begins};
+ghost use Rattle.std.specs.Prelude.{◌≡◌, ◌≤◌, ◌+◌, [], length, map, None, IfOk, IfSome};
+ghost use Rattle.script_lines.specs.NameLimits.{AreKnown};
+ghost use Rattle.script_text.specs.Grammar.{IsWhole};
 ghost use Rattle.script_text.specs.Judging.{nest_in, IsReading, IsBadAt};
 ghost use Rattle.script_text.specs.Reasons.{stands, has_line, form_reason, code_reason, line_reason};
 ghost use Rattle.script_text.specs.Refusals.{IsFirstBad};
-ghost use Rattle.script_text.specs.Steps.{IsStep, IsNoStep};
 
 use crate::builder::Builder;
 use crate::fault::{Reason, Refusal};
-use crate::head::{HeadLine, head_reason, is_head};
-use crate::limits::{THREAD_LIMIT, begun_in, seen_in};
+use crate::head::head_reason;
+use crate::reading::{Reading, head_line};
 use script_lines::{
-    Command, Line, NameTables, Names, all_are_new, all_are_told, all_have_form, command_at,
-    command_places, has_empty_word, is_printable, is_text_of, line_at, line_of_parts, line_parts,
-    split_at, word_at,
+    Command, NameTables, Names, all_are_new, all_are_told, all_have_form, command_at,
+    command_places, has_empty_word, is_printable, line_of_parts, split_at, word_at,
 };
-use statement_table::{Part, Place};
+use statement_table::Place;
 use std::alloc::{AllocError, Global};
-
-/// What good lines of procedures and threads leave behind: the names in them, what stands open, and how many
-/// threads have begun.
-#[derive(Drop)]
-pub struct Reading {
-    known: Names,
-    builder: Builder,
-    threads: usize,
-}
-
-/// How many threads a line begins.
-fn thread_of(line: Line) -> usize
-    ensures value { result ≡ thread_of line }
-    ensures few { result ≤ 1 }
-{
-    match line {
-        Line::Thread => 1,
-        _ => 0,
-    }
-}
 
 /// Whether there is such a line: not each call has a statement.
 fn has_line(command: Command) -> bool
@@ -98,19 +75,6 @@ fn code_reason(tables: &NameTables, reading: &Reading, words: &[&[u8]]) -> Reaso
     form_reason(tables, &reading.known, &places, words)
 }
 
-/// The line before the procedures and threads that stands behind so many others.
-fn head_line(before: usize) -> Option<HeadLine>
-    ensures { result ≡ slice_get all_heads before }
-{
-    match before {
-        0 => Some(HeadLine::User),
-        1 => Some(HeadLine::Screen),
-        2 => Some(HeadLine::Budget),
-        3 => Some(HeadLine::Order),
-        _ => None,
-    }
-}
-
 /// What is wrong with a line that isn't good.
 fn line_reason(
     alloc: Global,
@@ -132,107 +96,25 @@ fn line_reason(
     }
 }
 
-/// Whether the names in a line's parts are those before it, or the next ones, and all after it.
-fn names_go_on(parts: &[Part], before: usize, after: usize) -> bool
-    ensures { IsTrue result ↔ (seen_after after (Some before) parts.now ≡ Some after) }
+/// The first of these lines with which no script begins: how many stand before it, and what is wrong there.
+fn first_bad(
+    reading: &mut Reading,
+    alloc: Global,
+    tables: &NameTables,
+    texts: &[&[u8]],
+) -> Result<Option<(usize, Reason)>, AllocError>
+    requires { IsReading [] reading.old }
+    ensures bad { IfOk result (λ found. IfSome found (λ x. IsBadAt (map (λ w. w.now) texts.now) x.0 x.1)) }
+    ensures good { IfOk result (λ found. found ≡ None → IsReading (map (λ w. w.now) texts.now) reading.new) }
 {
-    match seen_in(after, before, parts) {
-        Some(seen) => seen == after,
-        None => false,
-    }
-}
-
-/// Whether the procedures in a line's parts have begun before it, or are the next one, and all after it.
-fn procedures_go_on(parts: &[Part], before: usize, after: usize) -> bool
-    ensures { IsTrue result ↔ (begun_after after (Some before) parts.now ≡ Some after) }
-{
-    match begun_in(after, before, parts) {
-        Some(begun) => begun == after,
-        None => false,
-    }
-}
-
-impl Reading {
-    /// Nothing yet.
-    fn new(alloc: Global) -> Reading
-        ensures { IsReading [] result }
-    {
-        Reading {
-            known: Names::new(alloc),
-            builder: Builder::new(alloc),
-            threads: 0,
+    let mut words = Vec::new(alloc);
+    for (before, text) in texts.iter().enumerate() {
+        let reason = line_reason(alloc, tables, reading, before, text)?;
+        if !reading.take_next(alloc, tables, &mut words, before, text)? {
+            return Ok(Some((before, reason)));
         }
     }
-
-    /// Takes one line more of procedures and threads; false where the text is no line that can stand there.
-    fn take(&mut self, alloc: Global, tables: &NameTables, text: &[u8]) -> Result<bool, AllocError>
-        requires known { AreKnown self.old.known }
-        requires sound { IsSound self.old.builder.procedures.items self.old.builder.threads.items self.old.builder.blocks.items }
-        requires few { self.old.threads ≤ 15 }
-        ensures taken { IfOk result (λ taken. taken ≡ true → IsStep self.old.known (nest_in self.old.builder) self.old.threads text.now self.new.known (nest_in self.new.builder) self.new.threads) }
-        ensures refused { IfOk result (λ taken. taken ≡ false → IsNoStep self.old.known (nest_in self.old.builder) self.old.threads text.now) }
-        ensures kept { AreKnown self.new.known }
-        ensures sound { IfOk result (λ taken. taken ≡ true → IsSound self.new.builder.procedures.items self.new.builder.threads.items self.new.builder.blocks.items) }
-    {
-        let names = self.known.name_count();
-        let procedures = self.known.procedure_count();
-        let words = split_at(alloc, text, b' ')?;
-        let Some(line) = line_at(alloc, tables, &mut self.known, &words)? else {
-            return Ok(false);
-        };
-        if !is_text_of(alloc, tables, &self.known, line, text)? {
-            return Ok(false);
-        }
-        let parts = line_parts(line);
-        if !names_go_on(&parts, names, self.known.name_count())
-            || !procedures_go_on(&parts, procedures, self.known.procedure_count())
-            || self.threads + thread_of(line) > THREAD_LIMIT
-        {
-            return Ok(false);
-        }
-        self.threads += thread_of(line);
-        self.builder.take(alloc, line)
-    }
-
-    /// Takes one line more, behind so many others; false where no script begins so.
-    fn take_next(
-        &mut self,
-        alloc: Global,
-        tables: &NameTables,
-        before: usize,
-        text: &[u8],
-    ) -> Result<bool, AllocError>
-        requires known { AreKnown self.old.known }
-        requires sound { IsSound self.old.builder.procedures.items self.old.builder.threads.items self.old.builder.blocks.items }
-        requires few { self.old.threads ≤ 15 }
-        ensures good { IfOk result (λ taken. (texts : List (List ℕ)) → length texts ≡ before → IsReading texts self.old → taken ≡ true → IsReading (texts ++ text.now ∷ []) self.new) }
-        ensures bad { IfOk result (λ taken. (texts : List (List ℕ)) → length texts ≡ before → IsReading texts self.old → taken ≡ false → Begins (texts ++ text.now ∷ []) → ⊥) }
-    {
-        match head_line(before) {
-            Some(head) => is_head(alloc, head, text),
-            None => self.take(alloc, tables, text),
-        }
-    }
-
-    /// The first of these lines with which no script begins: how many stand before it, and what is wrong there.
-    fn first_bad(
-        &mut self,
-        alloc: Global,
-        tables: &NameTables,
-        texts: &[&[u8]],
-    ) -> Result<Option<(usize, Reason)>, AllocError>
-        requires { IsReading [] self.old }
-        ensures bad { IfOk result (λ found. IfSome found (λ x. IsBadAt (map (λ w. w.now) texts.now) x.0 x.1)) }
-        ensures good { IfOk result (λ found. found ≡ None → IsReading (map (λ w. w.now) texts.now) self.new) }
-    {
-        for (before, text) in texts.iter().enumerate() {
-            let reason = line_reason(alloc, tables, self, before, text)?;
-            if !self.take_next(alloc, tables, before, text)? {
-                return Ok(Some((before, reason)));
-            }
-        }
-        Ok(None)
-    }
+    Ok(None)
 }
 
 /// The refusal of the line behind so many others.
@@ -261,7 +143,7 @@ pub fn first_refusal(
         return Ok(refusal_at(0, Reason::End));
     };
     let mut reading = Reading::new(alloc);
-    if let Some((before, reason)) = reading.first_bad(alloc, tables, &texts)? {
+    if let Some((before, reason)) = first_bad(&mut reading, alloc, tables, &texts)? {
         return Ok(refusal_at(before, reason));
     }
     if rest.is_empty() {

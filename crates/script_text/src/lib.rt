@@ -55,6 +55,7 @@ mod laws;
 mod limits;
 mod parser;
 mod reader;
+mod reading;
 mod writer;
 
 pub use fault::{ReadFault, Reason, Refusal};

@@ -1,12 +1,8 @@
 //! The limits of a script.
 
-ghost use Rattle.std.specs.Prelude.{◌≡◌, ◌&&◌, Some};
-ghost use Rattle.std.specs.List.{list_all};
-ghost use Rattle.script_lines.specs.NameLimits.{seen_with, seen_with_part, seen_after, are_in_order, begun_with, begun_with_part, named_with, begun_after, are_procedures_in_order};
-ghost use Rattle.script_text.specs.Limits.{is_within, is_turn};
+ghost use Rattle.std.specs.Prelude.{◌≡◌, Some};
+ghost use Rattle.script_lines.specs.NameLimits.{seen_with, seen_with_part, seen_after, begun_with, begun_with_part, named_with, begun_after};
 
-use script_lines::{Line, line_parts};
-use script_tree::Script;
 use statement_table::Part;
 
 /// How many bytes the text of a script has at most.
@@ -14,38 +10,6 @@ pub const SCRIPT_LIMIT: usize = 1048576;
 
 /// How many threads a script has at most.
 pub const THREAD_LIMIT: usize = 15;
-
-/// Whether all numbers are those of threads.
-fn all_turns(order: &[u8]) -> bool
-    ensures { result ≡ list_all is_turn order.now }
-{
-    for turn in order {
-        if *turn < 1 || *turn > 15 {
-            return false;
-        }
-    }
-    true
-}
-
-/// Whether a script is within the limits of its head.
-pub fn fits(script: &Script) -> bool
-    ensures { result ≡ is_within script.now }
-{
-    let budget = script.budget();
-    let width = script.width();
-    let height = script.height();
-    let threads = script.threads();
-    1 <= width
-        && width <= 128
-        && 1 <= height
-        && height <= 64
-        && 1 <= budget
-        && budget <= 65536
-        && all_turns(script.order())
-        && script.order().len() <= 65536
-        && !threads.is_empty()
-        && threads.len() <= THREAD_LIMIT
-}
 
 /// How many names there are after one more, where there were so many. None comes where it is neither
 /// one of them nor the next.
@@ -125,24 +89,4 @@ pub fn begun_in(count: usize, before: usize, parts: &[Part]) -> Option<usize>
         begun = begun_with_part(count, begun, *part)?;
     }
     Some(begun)
-}
-
-/// Whether so many names and so many procedures stand in order in the lines.
-pub fn are_all_in_order(lines: &[Line], names: usize, procedures: usize) -> bool
-    ensures { result ≡ (are_in_order names lines.now && are_procedures_in_order procedures lines.now) }
-{
-    let mut seen = 0;
-    let mut begun = 0;
-    for line in lines {
-        let parts = line_parts(*line);
-        let Some(more_seen) = seen_in(names, seen, &parts) else {
-            return false;
-        };
-        let Some(more_begun) = begun_in(procedures, begun, &parts) else {
-            return false;
-        };
-        seen = more_seen;
-        begun = more_begun;
-    }
-    seen == names && begun == procedures
 }

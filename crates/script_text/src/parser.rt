@@ -1,21 +1,17 @@
-//! Taking a text apart, loosely: a number may have leading zeros, or be too large. Whether the text is
-//! the spelling of what was found is seen by spelling it again.
+//! The script that a text spells: its lines are read one by one, and the numbers of its head are taken from the lines
+//! that were found good.
 
-ghost use Rattle.std.specs.Prelude.{◌≡◌, List, IfOk, IfSome, length, map};
+ghost use Rattle.std.specs.Prelude.{◌≡◌, ◌≤◌, List, None, IfOk, IfSome, length, map};
 ghost use Rattle.std.specs.List.{zip};
-ghost use Rattle.script_lines.specs.declared.line.Line.{Line};
-ghost use Rattle.script_lines.specs.Known.{Known};
-ghost use Rattle.script_lines.specs.LineReading.{split_at, texts_of};
-ghost use Rattle.script_lines.specs.LineTexts.{joined};
-ghost use Rattle.script_lines.specs.Words.{line_words};
 ghost use Rattle.script_text.specs.Grammar.{IsWhole};
-ghost use Rattle.script_text.specs.Lines.{names_of, bodies_of, code_lines, procedure_of};
-ghost use Rattle.script_text.specs.Programs.{IsProgram, Finds, IsFitting, FindsText};
+ghost use Rattle.script_text.specs.Limits.{IsScript};
+ghost use Rattle.script_text.specs.Lines.{procedure_of};
+ghost use Rattle.script_text.specs.Programs.{tree_at};
 ghost use Rattle.script_text.specs.Reading.{small_number_at, width_at, height_at, budget_at, order_at};
+ghost use Rattle.script_text.specs.Spelling.{spelling};
 
-use crate::builder::build;
-use crate::limits::{are_all_in_order, fits};
-use script_lines::{NameTables, Names, lines_at, number_at, split_at, texts_of, word_at};
+use crate::reading::{Program, Reading};
+use script_lines::{NameTables, number_at, split_at, word_at};
 use script_tree::{Body, Name, Procedure, Script};
 use std::alloc::{AllocError, Global};
 
@@ -74,77 +70,55 @@ fn order_at(alloc: Global, texts: &[&[u8]]) -> Result<Vec<u8>, AllocError>
 /// Procedures of these names and bodies.
 fn procedures_of(
     alloc: Global,
-    names: Vec<Name>,
+    procedure_names: Vec<Name>,
     bodies: Vec<Body>,
 ) -> Result<Vec<Procedure>, AllocError>
-    ensures { IfOk result (λ v. v.items ≡ map procedure_of (zip names.items bodies.items)) }
+    ensures { IfOk result (λ v. v.items ≡ map procedure_of (zip procedure_names.items bodies.items)) }
 {
-    names
+    procedure_names
         .into_iter()
         .zip(bodies)
         .map(|(name, body)| Procedure::new(name, body))
         .collect(alloc)
 }
 
-/// The names, the procedures and the threads of a script.
-#[derive(Drop)]
-pub struct Program {
-    names: Vec<Name>,
-    procedures: Vec<Procedure>,
-    threads: Vec<Body>,
-}
-
-/// The names, the procedures and the threads that the lines may spell.
-fn program_at(
-    alloc: Global,
-    tables: &NameTables,
-    texts: &[&[u8]],
-) -> Result<Option<Program>, AllocError>
-    ensures fits { IfOk result (λ found. IfSome found (λ p. IsProgram (record { names = p.names.items; procedures = names_of p.procedures.items }) (code_lines (bodies_of p.procedures.items) p.threads.items))) }
-    ensures again { IfOk result (λ found. (known : Known) (lines : List Line) → IsProgram known lines → map (λ w. w.now) texts.now ≡ map joined (map (line_words known) lines) → Finds found known lines) }
+/// The script with this program whose text has these lines.
+fn script_of(alloc: Global, texts: &[&[u8]], program: Program) -> Result<Script, AllocError>
+    ensures { IfOk result (λ s. s ≡ tree_at (map (λ w. w.now) texts.now) program) }
 {
-    let mut known = Names::new(alloc);
-    let Some(lines) = lines_at(alloc, tables, &mut known, texts)? else {
-        return Ok(None);
-    };
-    let (names, procedures) = known.into_parts();
-    if !are_all_in_order(&lines, names.len(), procedures.len()) {
-        return Ok(None);
-    }
-    let Some(bodies) = build(alloc, &lines)? else {
-        return Ok(None);
-    };
-    let procedures = procedures_of(alloc, procedures, bodies.procedures)?;
-    Ok(Some(Program {
-        names,
-        procedures,
-        threads: bodies.threads,
-    }))
-}
-
-/// The script that a text may spell.
-pub fn parse(alloc: Global, tables: &NameTables, bytes: &[u8]) -> Result<Option<Script>, AllocError>
-    ensures fits { IfOk result (λ found. IfSome found IsFitting) }
-    ensures again { IfOk result (λ found. IsWhole bytes.now → FindsText found bytes.now) }
-{
-    let texts = texts_of(alloc, bytes)?;
-    let [_, _, _, _, lines @ ..] = texts.as_slice() else {
-        return Ok(None);
-    };
-    let Some(program) = program_at(alloc, tables, lines)? else {
-        return Ok(None);
-    };
-    let (width, height) = screen_at(alloc, &texts)?;
-    let budget = budget_at(alloc, &texts)?;
-    let order = order_at(alloc, &texts)?;
+    let (width, height) = screen_at(alloc, texts)?;
+    let budget = budget_at(alloc, texts)?;
+    let order = order_at(alloc, texts)?;
     let Program {
         names,
-        procedures,
-        threads,
+        procedure_names,
+        bodies,
     } = program;
-    let script = Script::new(width, height, budget, order, names, procedures, threads);
-    if !fits(&script) {
+    let procedures = procedures_of(alloc, procedure_names, bodies.procedures)?;
+    let threads = bodies.threads;
+    Ok(Script::new(width, height, budget, order, names, procedures, threads))
+}
+
+/// The script whose text the bytes are. None comes exactly where no script has this text, however long.
+pub fn parse(alloc: Global, tables: &NameTables, bytes: &[u8]) -> Result<Option<Script>, AllocError>
+    requires short { length bytes.now ≤ 1048576 }
+    ensures script { IfOk result (λ found. IfSome found IsScript) }
+    ensures text { IfOk result (λ found. IfSome found (λ s. bytes.now ≡ spelling s)) }
+    ensures none { IfOk result (λ found. found ≡ None → IsWhole bytes.now → ⊥) }
+{
+    let mut texts = split_at(alloc, bytes, b'\n')?;
+    let Some(rest) = texts.pop() else {
+        return Ok(None);
+    };
+    if !rest.is_empty() {
         return Ok(None);
     }
-    Ok(Some(script))
+    let mut reading = Reading::new(alloc);
+    if !reading.take_all(alloc, tables, &texts)? {
+        return Ok(None);
+    }
+    let Some(program) = reading.into_program() else {
+        return Ok(None);
+    };
+    Ok(Some(script_of(alloc, &texts, program)?))
 }

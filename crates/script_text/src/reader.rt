@@ -1,6 +1,6 @@
-//! Reading a script: its text is taken apart loosely, spelled again, and compared.
+//! Reading a script from its text, or telling why no script has it.
 
-ghost use Rattle.std.specs.Prelude.{◌≡◌, ◌↔◌, ◌≤◌, length, IsTrue, IfOk, IfErr};
+ghost use Rattle.std.specs.Prelude.{◌≡◌, ◌≤◌, length, IfOk, IfErr};
 ghost use Rattle.script_tree.specs.Tree.{Tree};
 ghost use Rattle.script_text.specs.Grammar.{IsWhole};
 ghost use Rattle.script_text.specs.Limits.{IsScript};
@@ -11,7 +11,6 @@ use crate::fault::{ReadFault, Reason, Refusal};
 use crate::judge::first_refusal;
 use crate::limits::SCRIPT_LIMIT;
 use crate::parser::parse;
-use crate::writer::write_with;
 use script_lines::NameTables;
 use script_tree::Script;
 use std::alloc::Global;
@@ -21,13 +20,6 @@ const TOO_LONG: ReadFault = ReadFault::Refused(Refusal {
     line: 0,
     reason: Reason::Long,
 });
-
-/// Whether two texts are the same.
-fn same_text(a: &[u8], b: &[u8]) -> bool
-    ensures { IsTrue result ↔ (a.now ≡ b.now) }
-{
-    a == b
-}
 
 /// A text is that of one script at most.
 pub fn one_tree()
@@ -63,9 +55,5 @@ pub fn read(alloc: Global, bytes: &[u8]) -> Result<Script, ReadFault>
     let Some(script) = parse(alloc, &tables, bytes)? else {
         return Err(refused(alloc, &tables, bytes));
     };
-    let text = write_with(alloc, &tables, &script)?;
-    if !same_text(&text, bytes) {
-        return Err(refused(alloc, &tables, bytes));
-    }
     Ok(script)
 }

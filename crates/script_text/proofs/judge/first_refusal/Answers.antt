@@ -32,7 +32,7 @@ returns-then-is_empty c =
     let lines = c.pop.new.self.items in
     let p = parted read c.args.bytes.now c.in_ok-texts.texts.items lines c.deref.result.now c.in-Some.rest c.in_ok-texts.ensures c.in-Some.ensures.items c.deref.ensures.value in
     let line : c.refusal_at-then-is_empty.result.line ≡ length lines + 1 = omega (arith, c.refusal_at-then-is_empty.ensures.0, c.len.ensures, c.pop.new.self.ok.0) in
-    ends_there read c.args.bytes.now lines c.deref.result.now c.in-Some.rest p c.first_bad.new.self (c.in_ok-before.ensures.good c.in_default-2.is) c.refusal_at-then-is_empty.result line (sym c.is_empty.ensures ∙ c.if-is_empty.true) c.requires.other c.refusal_at-then-is_empty.ensures.1
+    ends_there read c.args.bytes.now lines c.deref.result.now c.in-Some.rest p c.first_bad.new.reading (c.in_ok-before.ensures.good c.in_default-2.is) c.refusal_at-then-is_empty.result line (sym c.is_empty.ensures ∙ c.if-is_empty.true) c.requires.other c.refusal_at-then-is_empty.ensures.1
 
 pub refusal_at-requires-else-is_empty : goal.refusal_at-requires-else-is_empty
 refusal_at-requires-else-is_empty c =
@@ -47,4 +47,4 @@ returns c =
     let lines = c.pop.new.self.items in
     let p = parted read c.args.bytes.now c.in_ok-texts.texts.items lines c.deref.result.now c.in-Some.rest c.in_ok-texts.ensures c.in-Some.ensures.items c.deref.ensures.value in
     let line : c.refusal_at-else-is_empty.result.line ≡ length lines + 1 = omega (arith, c.refusal_at-else-is_empty.ensures.0, c.len-else-is_empty.ensures, c.pop.new.self.ok.0) in
-    cut_there read c.args.bytes.now lines c.deref.result.now c.in-Some.rest p c.first_bad.new.self (c.in_ok-before.ensures.good c.in_default-2.is) c.refusal_at-else-is_empty.result line (sym c.is_empty.ensures ∙ c.if-is_empty.false) c.refusal_at-else-is_empty.ensures.1
+    cut_there read c.args.bytes.now lines c.deref.result.now c.in-Some.rest p c.first_bad.new.reading (c.in_ok-before.ensures.good c.in_default-2.is) c.refusal_at-else-is_empty.result line (sym c.is_empty.ensures ∙ c.if-is_empty.false) c.refusal_at-else-is_empty.ensures.1

@@ -1,52 +1,48 @@
-use Rattle.std.proofs.Common.{ℕ, List, Bor, sym, ap, ◌∙◌}
-use Rattle.std.specs.Prelude.{map}
-use Rattle.script_text.specs.Reading.{width_at, height_at, budget_at, order_at}
-use Rattle.std.proofs.lemmas.Bool.{false≢true}
-use Rattle.script_text.proofs.PartsAgain.{fitting_tree}
-use Rattle.script_text.proofs.ReadAgain.{says, too_few, rest_said, text_lent, whole_spelled, found_within, found_spelled}
+use Rattle.std.proofs.Common.{◌≡◌, ℕ, true, false, List, Bor, refl, sym, ◌∙◌, arith}
+use Rattle.script_text.proofs.FirstBad.{parted, never_none}
+use Rattle.script_text.proofs.ReadWhole.{is_over, text_lines, no_rest, not_over, script_made, text_made}
 use Rattle.script_text.proofs.parser.parse.Goals as goal
 
-pub returns-in_default-clause-again : goal.returns-in_default-clause-again
-returns-in_default-clause-again c = λ w.
-    too_few (λ b. b.now) c.as_slice.result.now (text_lent (λ b. b.now) c.args.bytes.now c.in_ok-texts.texts.items c.as_slice.result.now w c.in_ok-texts.ensures c.as_slice.ensures.value) c.in_default.len_below
+pub returns-in_default-clause-none : goal.returns-in_default-clause-none
+returns-in_default-clause-none c = λ e w. never_none (λ b. b.now) c.args.bytes.now c.in_ok-texts.texts.items c.in_ok-texts.ensures (omega (arith, c.in_default.ensures.cases))
 
-pub returns-in_default-2-clause-again : goal.returns-in_default-2-clause-again
-returns-in_default-2-clause-again c = λ w.
-    let s = says _ (text_lent (λ b. b.now) c.args.bytes.now c.in_ok-texts.texts.items c.as_slice.result.now w c.in_ok-texts.ensures c.as_slice.ensures.value) in
-    let g = c.in_ok-program.ensures.again s.known s.said s.program (rest_said (λ b. b.now) c.as_slice.result.now s) in
-    rw c.in_default-2.is at g
-
-pub returns-then-not-fits-clause-again : goal.returns-then-not-fits-clause-again
-returns-then-not-fits-clause-again c = λ w.
+pub returns-then-not-is_empty-clause-none : goal.returns-then-not-is_empty-clause-none
+returns-then-not-is_empty-clause-none c = λ e w.
     let read : Bor (List ℕ) → List ℕ = λ b. b.now in
-    let lent = c.as_slice.result.now in
-    let s = says _ (text_lent read c.args.bytes.now c.in_ok-texts.texts.items lent w c.in_ok-texts.ensures c.as_slice.ensures.value) in
-    let g = c.in_ok-program.ensures.again s.known s.said s.program (rest_said read lent s) in
-    let found = rw c.in-Some.is at g in
-    let within = found_within (map read lent) s c.new-script.result c.in_ok-width.width c.in_ok-width.height c.in_ok-budget.budget c.in_ok-order.order.items c.in-Some.program.names.items c.in-Some.program.procedures.items c.in-Some.program.threads.items c.new-script.ensures
-    (c.in_ok-width.ensures.width ∙ ap (λ (l : List (Bor (List ℕ))). width_at (map read l)) (c.deref.ensures.value ∙ sym c.as_slice.ensures.value))
-    (c.in_ok-width.ensures.height ∙ ap (λ (l : List (Bor (List ℕ))). height_at (map read l)) (c.deref.ensures.value ∙ sym c.as_slice.ensures.value))
-    (c.in_ok-budget.ensures ∙ ap (λ (l : List (Bor (List ℕ))). budget_at (map read l)) (c.deref-2.ensures.value ∙ sym c.as_slice.ensures.value))
-    (c.in_ok-order.ensures ∙ ap (λ (l : List (Bor (List ℕ))). order_at (map read l)) (c.deref-3.ensures.value ∙ sym c.as_slice.ensures.value))
-    found in
-    false≢true (sym c.if-not-fits.true ∙ c.fits.ensures ∙ within)
+    let lines = c.pop.new.self.items in
+    let p = parted read c.args.bytes.now c.in_ok-texts.texts.items lines lines c.in-Some.rest c.in_ok-texts.ensures c.in-Some.ensures.items refl in
+    no_rest read c.args.bytes.now lines lines c.in-Some.rest p (sym c.is_empty.ensures ∙ c.if-not-is_empty.true) w
 
-pub returns-clause-again : goal.returns-clause-again
-returns-clause-again c = λ w.
+pub returns-then-not-branch-clause-none : goal.returns-then-not-branch-clause-none
+returns-then-not-branch-clause-none c = λ e w.
     let read : Bor (List ℕ) → List ℕ = λ b. b.now in
-    let lent = c.as_slice.result.now in
-    let s = says _ (text_lent read c.args.bytes.now c.in_ok-texts.texts.items lent w c.in_ok-texts.ensures c.as_slice.ensures.value) in
-    let g = c.in_ok-program.ensures.again s.known s.said s.program (rest_said read lent s) in
-    let found = rw c.in-Some.is at g in
-    let spelled = found_spelled (map read lent) s c.new-script.result c.in_ok-width.width c.in_ok-width.height c.in_ok-budget.budget c.in_ok-order.order.items c.in-Some.program.names.items c.in-Some.program.procedures.items c.in-Some.program.threads.items c.new-script.ensures
-    (c.in_ok-width.ensures.width ∙ ap (λ (l : List (Bor (List ℕ))). width_at (map read l)) (c.deref.ensures.value ∙ sym c.as_slice.ensures.value))
-    (c.in_ok-width.ensures.height ∙ ap (λ (l : List (Bor (List ℕ))). height_at (map read l)) (c.deref.ensures.value ∙ sym c.as_slice.ensures.value))
-    (c.in_ok-budget.ensures ∙ ap (λ (l : List (Bor (List ℕ))). budget_at (map read l)) (c.deref-2.ensures.value ∙ sym c.as_slice.ensures.value))
-    (c.in_ok-order.ensures ∙ ap (λ (l : List (Bor (List ℕ))). order_at (map read l)) (c.deref-3.ensures.value ∙ sym c.as_slice.ensures.value))
-    found in
-    spelled ∙ sym (whole_spelled read c.args.bytes.now c.in_ok-texts.texts.items lent w c.in_ok-texts.ensures c.as_slice.ensures.value s)
+    let p = parted read c.args.bytes.now c.in_ok-texts.texts.items c.pop.new.self.items c.deref.result.now c.in-Some.rest c.in_ok-texts.ensures c.in-Some.ensures.items c.deref.ensures.value in
+    c.in_ok-take_all.ensures.bad c.if-not-branch.true (text_lines read c.args.bytes.now c.pop.new.self.items c.deref.result.now c.in-Some.rest p w)
 
-pub returns-clause-fits : goal.returns-clause-fits
-returns-clause-fits c =
-    let program = rw c.in-Some.is at c.in_ok-program.ensures.fits in
-    fitting_tree c.new-script.result c.in_ok-width.width c.in_ok-width.height c.in_ok-budget.budget c.in_ok-order.order.items c.in-Some.program.names.items c.in-Some.program.procedures.items c.in-Some.program.threads.items c.new-script.ensures (sym c.fits.ensures ∙ c.if-not-fits.false) program
+pub returns-in_default-into_program-clause-none : goal.returns-in_default-into_program-clause-none
+returns-in_default-into_program-clause-none c = λ e w.
+    let read : Bor (List ℕ) → List ℕ = λ b. b.now in
+    let r = c.take_all.new.self in
+    let p = parted read c.args.bytes.now c.in_ok-texts.texts.items c.pop.new.self.items c.deref.result.now c.in-Some.rest c.in_ok-texts.ensures c.in-Some.ensures.items c.deref.ensures.value in
+    let miss : false ≡ is_over r = rw c.in_default-into_program.is at c.into_program.ensures.whole in
+    not_over read c.args.bytes.now c.pop.new.self.items c.deref.result.now c.in-Some.rest p r (c.in_ok-take_all.ensures.good c.if-not-branch.false) (sym miss) w
+
+pub returns-clause-script : goal.returns-clause-script
+returns-clause-script c =
+    let read : Bor (List ℕ) → List ℕ = λ b. b.now in
+    let r = c.take_all.new.self in
+    let lines = c.pop.new.self.items in
+    let p = parted read c.args.bytes.now c.in_ok-texts.texts.items lines c.deref.result.now c.in-Some.rest c.in_ok-texts.ensures c.in-Some.ensures.items c.deref.ensures.value in
+    let over : true ≡ is_over r = rw c.in-Some-into_program.is at c.into_program.ensures.whole in
+    let left = rw c.in-Some-into_program.is at c.into_program.ensures.program in
+    script_made read c.args.bytes.now lines c.deref.result.now c.in-Some.rest p r (c.in_ok-take_all.ensures.good c.if-not-branch.false) (sym over) (sym c.is_empty.ensures ∙ c.if-not-is_empty.false) c.in-Some-into_program.program left c.deref-2.result.now c.deref-2.ensures.value c.in_ok-script_of.field-0 c.in_ok-script_of.ensures c.requires.short
+
+pub returns-clause-text : goal.returns-clause-text
+returns-clause-text c =
+    let read : Bor (List ℕ) → List ℕ = λ b. b.now in
+    let r = c.take_all.new.self in
+    let lines = c.pop.new.self.items in
+    let p = parted read c.args.bytes.now c.in_ok-texts.texts.items lines c.deref.result.now c.in-Some.rest c.in_ok-texts.ensures c.in-Some.ensures.items c.deref.ensures.value in
+    let over : true ≡ is_over r = rw c.in-Some-into_program.is at c.into_program.ensures.whole in
+    let left = rw c.in-Some-into_program.is at c.into_program.ensures.program in
+    text_made read c.args.bytes.now lines c.deref.result.now c.in-Some.rest p r (c.in_ok-take_all.ensures.good c.if-not-branch.false) (sym over) (sym c.is_empty.ensures ∙ c.if-not-is_empty.false) c.in-Some-into_program.program left c.deref-2.result.now c.deref-2.ensures.value c.in_ok-script_of.field-0 c.in_ok-script_of.ensures

@@ -1,7 +1,7 @@
 use Rattle.std.proofs.Common.{take}
 use Rattle.std.specs.Prelude.{map}
 use Rattle.script_text.specs.Judging.{IsReading}
-use Rattle.script_text.proofs.judge.Reading.first_bad.Given as goal
+use Rattle.script_text.proofs.judge.first_bad.Given as goal
 
 abbrev pub invariant-loop-before : goal.invariant-loop-before
-invariant-loop-before l = IsReading (map (λ w. w.now) (take l.before l.texts)) l.self
+invariant-loop-before l = IsReading (map (λ w. w.now) (take l.before l.texts)) l.reading

@@ -3,7 +3,7 @@ use Rattle.std.specs.Prelude.{map}
 use Rattle.std.proofs.lemmas.List.{take_all}
 use Rattle.script_text.specs.Judging.{nest_in, IsReading}
 use Rattle.script_text.proofs.Judging.{one_taken, taken_length, bad_at}
-use Rattle.script_text.proofs.judge.Reading.first_bad.Goals as goal
+use Rattle.script_text.proofs.judge.first_bad.Goals as goal
 
 pub line_reason-requires : goal.line_reason-requires
 line_reason-requires c = c.loop-before.invariant.front.stood.named
@@ -20,7 +20,7 @@ returns-then-not-branch-clause-bad c =
     let read : Bor (List ℕ) → List ℕ = λ w. w.now in
     let texts = c.args.texts.now in
     let i = c.loop-before.before in
-    let r = c.loop-before.self in
+    let r = c.loop-before.reading in
     let bad = c.in_ok-take_next.ensures.bad (map read (take i texts)) (taken_length read texts i c.loop-before-test.true) c.loop-before.invariant c.if-not-branch.true in
     bad_at read texts i _ r.known (nest_in r.builder) r.threads c.in_ok-reason.reason c.loop-before-test.true c.loop-before.invariant.front bad c.in_ok-reason.ensures
 
@@ -36,5 +36,5 @@ loop-before-preserved c =
 pub returns-clause-good : goal.returns-clause-good
 returns-clause-good c = λ e.
     let read : Bor (List ℕ) → List ℕ = λ w. w.now in
-    let P : List (Bor (List ℕ)) → Type 0 = λ l. IsReading (map read l) c.loop-before.self in
+    let P : List (Bor (List ℕ)) → Type 0 = λ l. IsReading (map read l) c.loop-before.reading in
     subst P (take_all c.loop-before.before c.args.texts.now (omega arith)) c.loop-before.invariant
