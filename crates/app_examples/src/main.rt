@@ -2,13 +2,16 @@
 //! is called with these words, on a source that gives the text in pieces of so many bytes and fails at its call FAIL, counted from 0
 //! (`-`: at none), and on a sink that has room for so many bytes. A line `turns TEXT` makes turns of a script's first thread; `pool LEFT:
 //! TEXT` runs all of its threads at a machine that wants memory once after LEFT calls (`-`: never); `faults WORDS: TEXT` calls the program, also
-//! by threads, on each of some sources and sinks that fail. In a text `/` ends a line. Each line
-//! is written again, and below it what came of it, with `/` in the place of an end of a line.
+//! by threads, on each of some sources and sinks that fail. `json TEXT` runs the script, and its log goes to standard output as lines of JSON; `meeting
+//! TEXT` runs it by two groups of threads that wait for each other. In a text `/` ends a line. Each line
+//! is written again, and below it what came of it, with `/` in the place of an end of a line, but for lines `json`.
 #![tactic(auto)]
 
 ghost use Rattle.std.specs.Prelude.{◌<◌};
 
 mod faults;
+mod json;
+mod meetings;
 mod pools;
 mod texts;
 mod turns;
@@ -70,6 +73,12 @@ fn run_line<R: Print + Threads + Wait + Sync>(
     }
     if let Some(rest) = line.strip_prefix("pool ") {
         return pools::tell(rt, alloc, rest);
+    }
+    if let Some(text) = line.strip_prefix("json ") {
+        return json::tell(rt, alloc, text);
+    }
+    if let Some(text) = line.strip_prefix("meeting ") {
+        return meetings::tell(rt, alloc, text);
     }
     let Some((outside, rest)) = line.split_once(": ") else {
         return Ok(());

@@ -1,12 +1,12 @@
 //! The shortest program with a worker: the thread of a script, run by hand. Its worker tells the next call, the machine makes it, and
 //! the worker takes the answer, until the thread has ended.
-#![tactic(auto)]
 
 ghost use Rattle.script_text.specs.Limits.{IsScript};
 
 use script_proc::{Program, Worker};
 use script_text::{Script, read};
 use std::alloc::Global;
+use std::io::Print;
 use user_core::User;
 use user_model::{Machine, Setup};
 
@@ -62,10 +62,10 @@ fn run_first(rt: &impl Print, alloc: Global, script: &Script) -> anyhow::Result<
     told
 }
 
-fn main(rt: HostRuntime) -> anyhow::Result<()> {
-    let alloc = rt.alloc();
+/// Reads the script, and runs its thread at a new machine.
+pub fn show(rt: &impl Print, alloc: Global) -> anyhow::Result<()> {
     match read(alloc, SCRIPT.as_bytes()) {
-        Ok(script) => run_first(&rt, alloc, &script),
+        Ok(script) => run_first(rt, alloc, &script),
         Err(fault) => anyhow::bail!("{fault:?}"),
     }
 }

@@ -1,11 +1,12 @@
-//! Runs the script of standard input by two groups of threads that the gate makes wait for each other: at each of their first
-//! turns both are at the gate at once, so no body that runs one group after the other gets by. What is printed doesn't
-//! depend on who moves when.
-#![tactic(auto)]
+//! Runs by two groups of threads that the gate makes wait for each other: at each of their first turns both are at the gate at once,
+//! so no body that runs one group after the other gets by. What is told doesn't depend on who moves when.
 
-use std::alloc::{AllocError, Global};
+use crate::texts::{lines_of, words_of};
+use std::alloc::Global;
 use std::io::Print;
+use std::sync::Wait;
 use std::sync::atomic::{AtomicU64, Ordering};
+use std::thread::Threads;
 use std::{hint, str};
 use user_app::io::{Gate, MemSink, StdSource};
 use user_app::user_threads;
@@ -73,37 +74,33 @@ impl Gate for Meeting {
     }
 }
 
-/// The words of a run by two groups.
-fn words(alloc: Global) -> Result<Vec<String>, AllocError> {
-    let mut words = Vec::new(alloc);
-    for word in ["threads", "2"] {
-        words.push(String::from_str(alloc, word)?)?;
-    }
-    Ok(words)
-}
-
 /// Tells the last line of a log.
 fn tell_last(rt: &impl Print, log: &[u8]) -> anyhow::Result<()> {
     let text = str::from_utf8(log)?;
     match text.lines().last() {
-        Some(line) => println!(rt; "{line}")?,
+        Some(line) => println!(rt; "  {line}")?,
         None => anyhow::bail!("nothing was written"),
     }
     Ok(())
 }
 
-fn main(rt: HostRuntime) -> anyhow::Result<()> {
-    let alloc = rt.alloc();
-    let words = words(alloc)?;
+/// Runs the script that a line has by two groups, and tells how that ended. It's an error where they haven't met at each turn.
+pub fn tell<R: Print + Threads + Wait + Sync>(
+    rt: &R,
+    alloc: Global,
+    text: &str,
+) -> anyhow::Result<()> {
+    let words = words_of(alloc, "threads 2")?;
+    let script = lines_of(alloc, text)?;
     let meeting = Meeting::new();
-    let mut source = StdSource::new(rt.stdin());
+    let mut source = StdSource::new(script.as_bytes());
     let mut sink = MemSink::new(alloc, ROOM)?;
-    let status = user_threads(&rt, alloc, &words, &mut source, &mut sink, &meeting);
-    println!(rt; "{status:?}")?;
-    tell_last(&rt, sink.bytes())?;
+    let status = user_threads(rt, alloc, &words, &mut source, &mut sink, &meeting);
+    println!(rt; "  {status:?} {}", status.number())?;
+    tell_last(rt, sink.bytes())?;
     if !meeting.is_whole() {
         anyhow::bail!("the groups haven't met at each turn");
     }
-    println!(rt; "both groups met at each of {TURNS} turns")?;
+    println!(rt; "  both groups met at each of {TURNS} turns")?;
     Ok(())
 }
