@@ -28,6 +28,13 @@ abbrev mutual
   row_lines end_of-Statement = []
   row_lines (more_of-Statement s rest) = statement_lines s ++ row_lines rest
 
+-- the statement has no body
+abbrev pub IsAlone : Statement → Type 0
+IsAlone (If' t k a) = ⊥
+IsAlone (IfElse' t k a j b) = ⊥
+IsAlone (While' t k a) = ⊥
+IsAlone s = Unit {0}
+
 -- the lines of statements
 abbrev pub body_lines : List Statement → List Line
 body_lines = flat_map statement_lines

@@ -1,12 +1,33 @@
 //! Lines of bodies.
 
 ghost use Rattle.std.specs.Prelude.{◌≡◌, ◌++◌, ◌∷◌, [], OnOk, IfOk};
-ghost use Rattle.script_text.specs.Lines.{statement_lines, body_lines};
+ghost use Rattle.script_text.specs.Lines.{IsAlone, statement_lines, body_lines};
 ghost use Rattle.script_lines.specs.declared.line.Line.TheVariants.{End};
 
 use script_lines::Line;
 use script_tree::{Body, Statement};
 use std::alloc::{AllocError, Global};
+
+/// The line of a statement without a body.
+fn alone(statement: &Statement) -> Line
+    requires { IsAlone statement.now }
+    ensures { statement_lines statement.now ≡ result ∷ [] }
+{
+    match statement {
+        Statement::Let(letter, value) => Line::Let(*letter, *value),
+        Statement::Compute(letter, left, operator, right) => {
+            Line::Compute(*letter, *left, *operator, *right)
+        }
+        Statement::Return(value) => Line::Return(*value),
+        Statement::Call(call) => Line::Call(*call),
+        Statement::Sleep(time) => Line::Sleep(*time),
+        Statement::Create(creation) => Line::Create(*creation),
+        Statement::Destroy(window) => Line::Destroy(*window),
+        Statement::Compound(compound) => Line::Compound(*compound),
+        Statement::Default => Line::Default,
+        _ => unreachable!(),
+    }
+}
 
 /// Adds the lines of a statement.
 #[cycle(flatten)]
@@ -14,10 +35,6 @@ fn put_statement(statement: &Statement, lines: &mut Vec<Line>) -> Result<(), All
     ensures { OnOk result (lines.new.items ≡ lines.old.items ++ statement_lines statement.now) }
 {
     match statement {
-        Statement::Let(letter, value) => lines.push(Line::Let(*letter, *value))?,
-        Statement::Compute(letter, left, operator, right) => {
-            lines.push(Line::Compute(*letter, *left, *operator, *right))?
-        }
         Statement::If(test, body) => {
             lines.push(Line::If(*test))?;
             put_body(body, lines)?;
@@ -35,13 +52,7 @@ fn put_statement(statement: &Statement, lines: &mut Vec<Line>) -> Result<(), All
             put_body(body, lines)?;
             lines.push(Line::End)?
         }
-        Statement::Return(value) => lines.push(Line::Return(*value))?,
-        Statement::Call(call) => lines.push(Line::Call(*call))?,
-        Statement::Sleep(time) => lines.push(Line::Sleep(*time))?,
-        Statement::Create(creation) => lines.push(Line::Create(*creation))?,
-        Statement::Destroy(window) => lines.push(Line::Destroy(*window))?,
-        Statement::Compound(compound) => lines.push(Line::Compound(*compound))?,
-        Statement::Default => lines.push(Line::Default)?,
+        _ => lines.push(alone(statement))?,
     }
     Ok(())
 }

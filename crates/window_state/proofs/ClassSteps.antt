@@ -22,9 +22,6 @@ use Rattle.window_state.proofs.ClassLaws.{changes_classes, register_not_refused,
 
 -- no change by any other call
 unchanged : (a : Answer) (call : Call) (t : ClassTable) → changes_classes call ≡ false → affected_classes a call (added_classes a call t) ≡ t
-unchanged (answers.Value v) (calls.Register name proc_no colour) t h = absurd (true≢false h)
-unchanged (answers.Value v) (calls.Message name) t h = absurd (true≢false h)
-unchanged answers.Okay (calls.Unregister name) t h = absurd (true≢false h)
 unchanged (answers.Value v) call t h = by_value call h
   where
     by_value : (call : Call) → changes_classes call ≡ false → affected_classes (answers.Value v) call (added_classes (answers.Value v) call t) ≡ t

@@ -11,9 +11,9 @@ use Rattle.script_text.proofs.flatten.+flatten.Goals as goal
 pub put_statement-returns-in_ok-push-in-If-2 : goal.put_statement-returns-in_ok-push-in-If-2
 put_statement-returns-in_ok-push-in-If-2 t c =
     let old = c.args.lines.now.items in
-    let a = c.push-in-If.new.self.items in
+    let a = c.push.new.self.items in
     let shape : statement_lines c.args.statement.now ≡ If c.in-If.test ∷ (body_lines c.in-If.body.items ++ End ∷ []) = rw c.in-If.is (search (rules, the_lemmas, row_is)) in
-    block_put old a c.put_body.new.lines.items c.push-in-If-2.new.self.items (body_lines c.in-If.body.items) (If c.in-If.test) End
+    block_put old a c.put_body.new.lines.items c.push-in-If.new.self.items (body_lines c.in-If.body.items) (If c.in-If.test) End
     c.in_ok-push-in-If.ensures.items (c.in_ok-put_body-in-If.ensures ∙ ap (λ (l : List Statement). a ++ body_lines l) c.deref.ensures.value) c.in_ok-push-in-If-2.ensures.items
     ∙ ap (λ (l : List Line). old ++ l) (sym shape)
 
