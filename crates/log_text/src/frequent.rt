@@ -1,29 +1,17 @@
-//! The lines of which logs mostly consist: posts and gets, each answered by a message that was posted or retrieved.
+//! The lines of which logs mostly consist: posts and gets, each answered by a message that was posted or retrieved, and what sends add.
 //! They are made from their end, without taking the call and the answer apart.
 
 ghost use Rattle.std.specs.Prelude.{◌≡◌, ◌+◌, ◌≤◌, [], ◌∷◌, ◌++◌, length, codes, IsTrue};
 ghost use Rattle.std.specs.List.{flat_map};
-ghost use Rattle.call_fields.specs.Messages.{message_values};
 ghost use Rattle.call_fields.specs.declared.value.Value.TheVariants as values;
 ghost use Rattle.log_text.specs.Entries.{value_text, call_text, answer_text, entry_line};
 
+use crate::frequent_sends::{prepend_posting, prepend_send_answer, prepend_send_call};
 use crate::line::Line;
 use crate::words::Words;
 use call_fields::source_word;
 use user_model::{Answer, Call, Entry, Origin};
 use win_num::{Msg, Point};
-
-/// Puts the values of a call that carries a message before the line: its window or thread, its number and its parameters.
-fn prepend_posting(line: &mut Line, words: &Words, to: u64, number: u64, wparam: u64, lparam: u64)
-    requires { length line.old + 84 ≤ 320 }
-    ensures text { line.new ≡ flat_map (value_text words.now.script.now) (message_values to number wparam lparam) ++ line.old }
-    ensures room { length line.new ≤ length line.old + 84 }
-{
-    line.prepend_operand(lparam);
-    line.prepend_operand(wparam);
-    words.prepend_message(line, number);
-    line.prepend_operand(to);
-}
 
 /// Puts the values of a get before the line: a window, and the least and the greatest number of a message.
 fn prepend_filter(line: &mut Line, words: &Words, w: u64, min: u64, max: u64)
@@ -72,7 +60,7 @@ fn prepend_got(line: &mut Line, words: &Words, origin: Origin, number: u32, msg:
     line.prepend_text(b" ");
 }
 
-/// Puts a post or a get before the line, and tells whether the call is one.
+/// Puts a post, a get or a call of sends before the line, and tells whether the call is one.
 pub fn prepend_call(line: &mut Line, words: &Words, call: Call) -> bool
     requires { length line.old + 95 ≤ 320 }
     ensures text { IsTrue result → line.new ≡ call_text words.now.script.now call ++ line.old }
@@ -91,12 +79,12 @@ pub fn prepend_call(line: &mut Line, words: &Words, call: Call) -> bool
             prepend_filter(line, words, w, min, max);
             line.prepend_text(b"get");
         }
-        _ => return false,
+        _ => return prepend_send_call(line, words, call),
     }
     true
 }
 
-/// Puts the answer that a message was posted or retrieved before the line, and tells whether the answer is one.
+/// Puts the answer that a message was posted or retrieved, or an answer of sends, before the line, and tells whether the answer is one.
 pub fn prepend_answer(line: &mut Line, words: &Words, answer: Answer) -> bool
     requires { length line.old + 182 ≤ 320 }
     ensures text { IsTrue result → line.new ≡ answer_text words.now.script.now answer ++ line.old }
@@ -115,7 +103,7 @@ pub fn prepend_answer(line: &mut Line, words: &Words, answer: Answer) -> bool
             prepend_got(line, words, origin, number, msg);
             line.prepend_text(b"got");
         }
-        _ => return false,
+        _ => return prepend_send_answer(line, words, answer),
     }
     true
 }

@@ -14,6 +14,8 @@ mod ending;
 mod entry;
 mod frame;
 mod frequent;
+mod frequent_plain;
+mod frequent_sends;
 mod line;
 mod summary;
 mod words;

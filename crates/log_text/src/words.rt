@@ -1,6 +1,6 @@
 //! What is printed by a name.
 
-ghost use Rattle.std.specs.Prelude.{◌≡◌, ◌+◌, ◌≤◌, ◌^◌, ◌++◌, [], length, unwrap_or, option_map, slice_get, OnOk};
+ghost use Rattle.std.specs.Prelude.{◌≡◌, ◌+◌, ◌≤◌, ◌^◌, ◌++◌, [], length, unwrap_or, option_map, slice_get, OnOk, IsTrue};
 ghost use Rattle.name_table.specs.Rows.{name_in};
 ghost use Rattle.name_table.specs.Messages.{message_rows};
 ghost use Rattle.user_io.specs.Text.{Adds};
@@ -17,6 +17,9 @@ const WM_USER: u64 = 1024;
 
 /// The number of WM_APP, which is the next one that has a name.
 const WM_APP: u64 = 32768;
+
+/// How many bytes the name of a procedure has at most to be put before a line. The names of scripts have no more.
+const NAME_ROOM: usize = 32;
 
 /// The names of messages, which are those of Windows (Microsoft, About Messages and Message Queues),
 /// and the names of a script.
@@ -105,5 +108,26 @@ impl<'s> Words<'s> {
             None => put_number(out, u64::from(procedure))?,
         }
         Ok(())
+    }
+
+    /// Puts a blank and a procedure before the line, by its name where the list of procedures has it, and tells whether
+    /// that has room.
+    pub(crate) fn prepend_procedure(&self, line: &mut Line, procedure: u32) -> bool
+        requires { length line.old + 33 ≤ 320 }
+        ensures text { IsTrue result → line.new ≡ procedure_text self.now.script.now procedure ++ line.old }
+        ensures room { length line.new ≤ length line.old + 33 }
+    {
+        match self.script.procedures().get(procedure as usize) {
+            Some(procedure) => {
+                let name = procedure.name().text();
+                if name.len() > NAME_ROOM {
+                    return false;
+                }
+                line.prepend_text(name);
+                line.prepend_text(b" ");
+            }
+            None => line.prepend_operand(u64::from(procedure)),
+        }
+        true
     }
 }
