@@ -1,5 +1,5 @@
-//! The lines of which logs mostly consist: posts and gets, each answered by a message that was posted or retrieved, and what sends add.
-//! They are made from their end, without taking the call and the answer apart.
+//! The lines of which logs mostly consist: posts and gets, each answered by a message that was posted or retrieved, and those of
+//! calls and answers that the other two modules make. They are made from their end, without taking the call and the answer apart.
 
 ghost use Rattle.std.specs.Prelude.{◌≡◌, ◌+◌, ◌≤◌, [], ◌∷◌, ◌++◌, length, codes, IsTrue};
 ghost use Rattle.std.specs.List.{flat_map};
@@ -60,7 +60,7 @@ fn prepend_got(line: &mut Line, words: &Words, origin: Origin, number: u32, msg:
     line.prepend_text(b" ");
 }
 
-/// Puts a post, a get or a call of sends before the line, and tells whether the call is one.
+/// Puts a frequent call before the line, and tells whether the call is one.
 pub fn prepend_call(line: &mut Line, words: &Words, call: Call) -> bool
     requires { length line.old + 95 ≤ 320 }
     ensures text { IsTrue result → line.new ≡ call_text words.now.script.now call ++ line.old }
@@ -84,7 +84,7 @@ pub fn prepend_call(line: &mut Line, words: &Words, call: Call) -> bool
     true
 }
 
-/// Puts the answer that a message was posted or retrieved, or an answer of sends, before the line, and tells whether the answer is one.
+/// Puts a frequent answer before the line, and tells whether the answer is one.
 pub fn prepend_answer(line: &mut Line, words: &Words, answer: Answer) -> bool
     requires { length line.old + 182 ≤ 320 }
     ensures text { IsTrue result → line.new ≡ answer_text words.now.script.now answer ++ line.old }

@@ -1,4 +1,4 @@
-//! Calls and answers without a field, or with one number, of which short programs consist.
+//! Frequent calls without a field, and frequent answers without a field or of one number.
 //! They are made from their end, as posts and gets are.
 
 ghost use Rattle.std.specs.Prelude.{◌≡◌, ◌+◌, ◌≤◌, ◌++◌, length, IsTrue};
