@@ -43,7 +43,7 @@ fn run(
             break;
         };
         let answer = machine.step(worker.thread(), call)?;
-        worker.take(call, answer);
+        worker.take(&call, &answer);
         println!(rt; "{call:?} = {answer:?}")?;
     }
     Ok(())

@@ -102,7 +102,7 @@ fn thread_move<M: Machine>(
         return Ok(Some(Why::Call(call)));
     }
     let answer = machine.step(entry.who, call)?;
-    worker.take(call, answer);
+    worker.take(&call, &answer);
     Ok(answer_fault(entry.answer, answer))
 }
 

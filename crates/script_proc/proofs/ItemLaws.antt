@@ -3,15 +3,14 @@ use Rattle.std.proofs.Common.{◌≡◌, ℕ, zero, suc, ◌+◌, ◌-◌, ◌*�
 use Rattle.std.specs.Prelude.{◌⊎◌, slice_get, if◌then◌else◌, unwrap_or, max}
 use Rattle.user_model.specs.declared.call.Call.{Call}
 use Rattle.user_model.specs.declared.call.Call.TheVariants.{Yield}
-use Rattle.user_model.specs.declared.entry.Answer.{Answer}
 use Rattle.script_tree.specs.declared.operand.Test.{Test}
 use Rattle.script_tree.specs.declared.statement.Statement.{Statement, items-the_row-Statement}
 use Rattle.script_tree.specs.declared.statement.Statement.TheVariants as tree
 use Rattle.script_tree.specs.declared.variables.Variables.{Variables}
 use Rattle.script_tree.specs.declared.frame.Run.{Run}
 use Rattle.script_tree.specs.Tree.{Tree, procedure_of}
-use Rattle.script_tree.specs.Values.{holds, inside_of, settled}
-use Rattle.script_tree.specs.Pieces.{Piece, Lines, One, PassEnd, Making, Settle as SettlePiece, Quiet, Running as RunningPiece, Leaving as LeavingPiece, Restore as RestorePiece, State, Going, Returning, Given, Becomes}
+use Rattle.script_tree.specs.Values.{holds, inside_of}
+use Rattle.script_tree.specs.Pieces.{Piece, Lines, One, PassEnd, Making, Quiet, Running as RunningPiece, Leaving as LeavingPiece, Again as AgainPiece, Restore as RestorePiece, State, Going, Returning, Given, Becomes}
 use Rattle.script_tree.specs.Steps.{step, passes, statement}
 use Rattle.script_tree.specs.Weights.{weight, lines_weight, costs, steps_left}
 use Rattle.script_tree.proofs.Falls.{falls}
@@ -19,11 +18,11 @@ use Rattle.script_proc.specs.declared.program.Line.{Line}
 use Rattle.script_proc.specs.declared.program.Line.TheVariants.{If, Else, While, End}
 use Rattle.script_proc.specs.declared.program.Program.{Program}
 use Rattle.script_proc.specs.declared.item.Item.{Item}
-use Rattle.script_proc.specs.declared.item.Item.TheVariants.{At, Once, PassEnd as PassEndItem, Making as MakingItem, Stating, Settle, Quiet as QuietItem, Running, Leaving, Restore}
+use Rattle.script_proc.specs.declared.item.Item.TheVariants.{At, Once, PassEnd as PassEndItem, Making as MakingItem, Settle, Quiet as QuietItem, Running, Leaving, Restore}
 use Rattle.script_proc.specs.declared.item.Mode.{Mode}
 use Rattle.script_proc.specs.declared.item.Mode.TheVariants.{Going as GoingMode, Returning as ReturningMode, Given as GivenMode}
 use Rattle.script_proc.specs.Programs.{Says, Stands, lines_at}
-use Rattle.script_proc.specs.Items.{piece, Covers, AllCover, IsLoop, loops, above, state_of, Keeps, IsSilent, IsPlain, ArePlain, IsSettling, IsPlaceless, ArePlaceless}
+use Rattle.script_proc.specs.Items.{piece, Covers, AllCover, IsLoop, loops, above, state_of, Keeps, IsPlain, ArePlain, IsSettling, IsThrough, IsPlaceless, ArePlaceless}
 use Rattle.script_proc.specs.Works.{statements, no_tree, as_long, all_long, Moves, Steps}
 use Rattle.script_proc.proofs.StandLaws.{drop_here, drop_past, within, drop_behind, IsSimple, says, said_weight, nothing_stands, are_lines, keeps_on, by_step, lines_pass, alone_goes, else_goes, end_goes, then_goes, otherwise_goes, IsWhile, is_while, while_comes}
 
@@ -32,23 +31,20 @@ piece_covers : (p : Program) (item : Item) → IsPlaceless item → Covers p ite
 piece_covers p (At at) h = absurd h
 piece_covers p (Once at) h = absurd h
 piece_covers p (PassEndItem at began) h = absurd h
-piece_covers p (Stating call) h = absurd h
 piece_covers p item h = refl
 
 cover_is : (p : Program) (item : Item) (qs : List Piece) → IsPlain item → Covers p item qs → qs ≡ piece item ∷ []
 cover_is p (At at) qs h c = absurd h
 cover_is p (Once at) qs h c = absurd h
 cover_is p (PassEndItem at began) qs h c = absurd h
-cover_is p (Stating call) qs h c = absurd h
 cover_is p item qs h c = c
 
-pub is_plain : (item : Item) → ((at : ℕ) → item ≡ At at → ⊥) → ((at : ℕ) → item ≡ Once at → ⊥) → ((at began : ℕ) → item ≡ PassEndItem at began → ⊥) → ((run : Run) → item ≡ Running run → ⊥) → ((call : Call) → item ≡ Stating call → ⊥) → IsPlain item
-is_plain (At at) a b c d e = a at refl
-is_plain (Once at) a b c d e = b at refl
-is_plain (PassEndItem at began) a b c d e = c at began refl
-is_plain (Running run) a b c d e = d run refl
-is_plain (Stating call) a b c d e = e call refl
-is_plain item a b c d e = tt
+pub is_plain : (item : Item) → ((at : ℕ) → item ≡ At at → ⊥) → ((at : ℕ) → item ≡ Once at → ⊥) → ((at began : ℕ) → item ≡ PassEndItem at began → ⊥) → ((run : Run) → item ≡ Running run → ⊥) → IsPlain item
+is_plain (At at) a b c d = a at refl
+is_plain (Once at) a b c d = b at refl
+is_plain (PassEndItem at began) a b c d = c at began refl
+is_plain (Running run) a b c d = d run refl
+is_plain item a b c d = tt
 
 pub settling_plain : (item : Item) → IsSettling item → IsPlain item
 settling_plain (Settle call) h = tt
@@ -71,7 +67,6 @@ is_placeless : (item : Item) → IsPlain item → IsPlaceless item
 is_placeless (At at) h = absurd h
 is_placeless (Once at) h = absurd h
 is_placeless (PassEndItem at began) h = absurd h
-is_placeless (Stating call) h = absurd h
 is_placeless item h = tt
 
 are_placeless : (few : List Item) → ArePlain few → ArePlaceless few
@@ -80,6 +75,9 @@ are_placeless (item ∷ few) h = (is_placeless item h.0, are_placeless few h.1)
 
 pub same_line : {a b : Line} → Some a ≡ Some b → a ≡ b
 same_line e = cc
+
+pub same_item : {a b : Item} → Some a ≡ Some b → a ≡ b
+same_item e = cc
 
 -- the weight of so many statements
 weighs : (k : ℕ) → lines_weight (statements k) ≡ 5 * k
@@ -96,7 +94,6 @@ module _ (size n : ℕ) where
   plain_long (Once at) h = absurd h
   plain_long (PassEndItem at began) h = absurd h
   plain_long (Running run) h = absurd h
-  plain_long (Stating call) h = absurd h
   plain_long item h = refl
 
   few_long : (few : List Item) → ArePlain few → all_long size n few ≡ above few
@@ -172,33 +169,6 @@ module _ (p : Program) (n : ℕ) where
     fewer = λ left.
         let line' = says line i in
         simple_falls (length p.lines.items) n line'.0 at few left v st (said_weight line line'.0 line'.1) (within p.lines.items at line h) f (e line'.0 n line'.1);
-  })
-
-  -- a statement that makes a call
-  pub call_moves : (at : ℕ) (line : Line) (call : Call) (v : Variables) → slice_get p.lines.items at ≡ Some line → IsSimple line → ((line' : Statement) (k : ℕ) → Says line line' → Becomes (Making call ∷ SettlePiece call ∷ []) (Going v) ≡ statement line' v k) → Moves p n (At at) (Going v) (At (at + 1) ∷ Stating call ∷ []) (Going v)
-  call_moves at line call v h i e = record {
-    keeps = λ s of qs left c.
-        let r = alone_goes s n left v i (here at line qs h c) in
-        let rs = r.2.0 in (
-          Making call ∷ SettlePiece call ∷ rs,
-          (Making call ∷ SettlePiece call ∷ [], rs, refl, r.2.1, ([], Making call ∷ SettlePiece call ∷ [], refl, refl, refl)),
-          keeps_on s n _ _ _ _ _ _ r.2.2 (by_step s n (One r.0) (rs ++ left) (Going v) (Making call ∷ SettlePiece call ∷ []) (Going v) (sym (e r.0 n r.1))),
-        );
-    fewer = λ left. let size = length p.lines.items in omega (arith, weighs (size - (at + 1)), weighs (size - at), within p.lines.items at line h);
-  }
-
-  -- the end of such a statement
-  pub stating_moves : (call : Call) (mode : Mode) (v : Variables) (st : State) → (mode ≡ GoingMode → ⊥) → IsSilent (Stating call) mode → ((a : Answer) (x : ℕ) → mode ≡ GivenMode a x → st ≡ Going (settled v call a x)) → Moves p n (Stating call) (state_of v mode) [] st
-  stating_moves call GoingMode v st h i e = absurd (h refl)
-  stating_moves call (ReturningMode x) v st h i e = absurd i
-  stating_moves call (GivenMode a x) v st h i e = subst (λ y. Moves p n (Stating call) (Given v a x) [] y) (sym (e a x refl)) (record {
-    keeps = λ s of qs left c. (
-      [],
-      refl,
-      subst (λ ps. Keeps s (ps ++ left) (Given v a x) left (Going (settled v call a x)) n) (sym c)
-          (keeps_on s n _ _ _ _ _ _ (by_step s n (Making call) (SettlePiece call ∷ left) (Given v a x) [] (Given v a x) refl) (by_step s n (SettlePiece call) left (Given v a x) [] (Going (settled v call a x)) refl)),
-    );
-    fewer = λ left. omega arith;
   })
 
   -- what comes next stands for these pieces
@@ -311,6 +281,19 @@ module _ (p : Program) (n : ℕ) where
         subst (λ b. steps_left no_tree n (Lines (statements (size - at)) ∷ left) (Going v) < steps_left no_tree n ((if b then PassEnd tree.Default began else Lines (statements (size - at + 1))) ∷ left) (Going v)) (sym y)
         (omega (arith, weighs (size - at), weighs (size - at + 1)));
   }
+
+  -- and after it comes what the `while` does once more
+  pub pass_on : (at began : ℕ) (v : Variables) (few : List Item) → (n == began) ≡ false → Moves p n (Once at) (Going v) few (Going v) → Moves p n (PassEndItem at began) (Going v) few (Going v)
+  pass_on at began v few y m =
+      let first = pass_moves at began v y in
+      record {
+        keeps = λ s of qs left c.
+            let r = first.keeps s of qs left c in
+            let same : r.0 ≡ r.1.1 = r.1.2 ∙ ap (λ xs. xs ++ r.1.1) r.1.4 in
+            let q = m.keeps s of r.1.1 left r.1.3 in
+            (q.0, q.1, keeps_on s n _ _ _ _ _ _ (subst (λ xs. Keeps s (qs ++ left) (Going v) (xs ++ left) (Going v) n) same r.2) q.2);
+        fewer = λ left. omega (arith, first.fewer left, m.fewer left);
+      }
 
   yield_falls : (at began : ℕ) (left : List Piece) (b : Bool) → b ≡ true → (n == began) ≡ b → 0 < (costs no_tree n ((if b then PassEnd tree.Default began else Lines (statements (length p.lines.items - at + 1))) ∷ left)).going
   yield_falls at began left true h y = subst (λ z. 0 < (if z then 1 else 2 + 3 + max (costs no_tree n left).going (costs no_tree n left).returning)) (sym y) (omega arith)
@@ -426,3 +409,23 @@ module _ (p : Program) (n : ℕ) where
 
   pub going_from : (items new : List Item) (st : State) (v : Variables) (mode : Mode) → mode ≡ GoingMode → Steps p n items (state_of v mode) new st → Steps p n items (Going v) new st
   going_from items new st v mode e h = subst (λ x. Steps p n items (state_of v x) new st) e h
+
+-- an item in whose place nothing comes has no place in the program
+pub through_plain : (item : Item) (mode : Mode) → IsThrough item mode → IsPlain item
+through_plain (At at) mode h = absurd h
+through_plain (Once at) mode h = absurd h
+through_plain (PassEndItem at began) mode h = absurd h
+through_plain (Running run) mode h = absurd h
+through_plain item mode h = tt
+
+-- an answer passes the end of a procedure
+pub leaving_given : (run : Run) (mode : Mode) (v : Variables) (s : Tree) (n : ℕ) → (mode ≡ GoingMode → ⊥) → ((x : ℕ) → mode ≡ ReturningMode x → ⊥) → Becomes [] (state_of v mode) ≡ step s (LeavingPiece run) (state_of v mode) n
+leaving_given run GoingMode v s n h k = absurd (h refl)
+leaving_given run (ReturningMode x) v s n h k = absurd (k x refl)
+leaving_given run (GivenMode a x) v s n h k = refl
+
+-- and a call that is made once more
+pub again_given : (call : Call) (mode : Mode) (v : Variables) (s : Tree) (n : ℕ) → (mode ≡ GoingMode → ⊥) → ((x : ℕ) → mode ≡ ReturningMode x → ⊥) → Becomes [] (state_of v mode) ≡ step s (AgainPiece call) (state_of v mode) n
+again_given call GoingMode v s n h k = absurd (h refl)
+again_given call (ReturningMode x) v s n h k = absurd (k x refl)
+again_given call (GivenMode a x) v s n h k = refl

@@ -1,6 +1,6 @@
 -- The last of a list of items.
 use Rattle.std.proofs.Common.{◌≡◌, ℕ, suc, ◌-◌, ◌<◌, get_or, sym, subst, List, [], ◌∷◌, ◌++◌, length, take, Result, Ok, Err, IsOk, refl, ap, ◌∙◌, arith, append_assoc, length-append}
-use Rattle.std.specs.Prelude.{slice_set, is_ok, if◌then◌else◌}
+use Rattle.std.specs.Prelude.{slice_get, slice_set, Some, is_ok, if◌then◌else◌}
 
 set_seam : {A : Type 0} (below : List A) (item : A) (rest : List A) (a : A) → slice_set (below ++ item ∷ rest) (length below) a ≡ below ++ a ∷ rest
 set_seam [] item rest a = refl
@@ -48,7 +48,7 @@ grown (Ok x) a b new h e = e
 grown (Err x) a b new h e = absurd cc
 
 -- a list has one last element
-same_last : {A : Type 0} (below under : List A) (item other : A) → below ++ item ∷ [] ≡ under ++ other ∷ [] → item ≡ other
+pub same_last : {A : Type 0} (below under : List A) (item other : A) → below ++ item ∷ [] ≡ under ++ other ∷ [] → item ≡ other
 same_last [] [] item other e = cc
 same_last [] (y ∷ under) item other e = absurd (omega (arith, ap length e, length-append under (other ∷ [])))
 same_last (x ∷ below) [] item other e = absurd (omega (arith, ap length e, length-append below (item ∷ [])))
@@ -57,3 +57,13 @@ same_last (x ∷ below) (y ∷ under) item other e = let f : below ++ item ∷ [
 -- what holds of it
 pub last_only : {A : Type 0} (P : A → Type 0) (xs below : List A) (item : A) → xs ≡ below ++ item ∷ [] → P item → (under : List A) (other : A) → xs ≡ under ++ other ∷ [] → P other
 last_only P xs below item e h under other f = subst P (same_last below under item other (sym e ∙ f)) h
+
+get_seam : {A : Type 0} (below : List A) (item : A) → slice_get (below ++ item ∷ []) (length below) ≡ Some item
+get_seam [] item = refl
+get_seam (x ∷ below) item = get_seam below item
+
+-- it stands at the last place
+pub get_last : {A : Type 0} (xs below : List A) (item : A) (n : ℕ) → xs ≡ below ++ item ∷ [] → n ≡ length xs → slice_get xs (n - 1) ≡ Some item
+get_last xs below item n e h =
+    let place : n - 1 ≡ length below = omega (arith, ap length e, length-append below (item ∷ [])) in
+    ap (λ ys. slice_get ys (n - 1)) e ∙ ap (λ k. slice_get (below ++ item ∷ []) k) place ∙ get_seam below item

@@ -18,7 +18,7 @@ use Rattle.script_tree.specs.Traces.{silent}
 use Rattle.script_tree.specs.Weights.{weight}
 use Rattle.script_proc.specs.declared.program.Line.{Line}
 use Rattle.script_proc.specs.declared.program.Line.TheVariants.{Let, Compute, If, Else, While, End, Return, Call, Sleep, Create, Destroy, Compound, Default}
-use Rattle.script_proc.specs.Programs.{Says, IsQuiet, IsCompound, Stands, alone, branch, branches, loop, out, over_else, end}
+use Rattle.script_proc.specs.Programs.{Says, IsSetting, IsCompound, Stands, alone, branch, branches, loop, out, over_else, end}
 use Rattle.script_proc.specs.Items.{Keeps}
 
 -- the list from a place on is the element there and the list behind it
@@ -79,10 +79,9 @@ is_compound (Compound k) h a b c d = tt
 is_compound Default h a b c d = tt
 is_compound line h a b c d = absurd h
 
-pub is_quiet : (line : Line) → (((x : Letter) × (e : Operand) × (line ≡ Let x e)) ⊎ (((x : Letter) × (e : Operand) × (op : Operator) × (f : Operand) × (line ≡ Compute x e op f)) ⊎ ((e : Operand) × (line ≡ Return e)))) → IsQuiet line × IsSimple line
-is_quiet line (inl x) = subst (λ l. IsQuiet l × IsSimple l) (sym x.2) (tt, tt)
-is_quiet line (inr (inl x)) = subst (λ l. IsQuiet l × IsSimple l) (sym x.4) (tt, tt)
-is_quiet line (inr (inr x)) = subst (λ l. IsQuiet l × IsSimple l) (sym x.1) (tt, tt)
+pub is_setting : (line : Line) → (((x : Letter) × (e : Operand) × (line ≡ Let x e)) ⊎ ((x : Letter) × (e : Operand) × (op : Operator) × (f : Operand) × (line ≡ Compute x e op f))) → IsSetting line × IsSimple line
+is_setting line (inl x) = subst (λ l. IsSetting l × IsSimple l) (sym x.2) (tt, tt)
+is_setting line (inr x) = subst (λ l. IsSetting l × IsSimple l) (sym x.4) (tt, tt)
 
 -- it says a statement
 pub says : (line : Line) → IsSimple line → (line' : Statement) × Says line line'

@@ -5,23 +5,24 @@ use Rattle.user_model.specs.declared.call.Call.{Call}
 use Rattle.user_model.specs.declared.entry.Answer.{Answer}
 use Rattle.script_tree.specs.declared.variables.Variables.{Variables}
 use Rattle.script_tree.specs.Tree.{Tree}
-use Rattle.script_tree.specs.Pieces.{Piece, Making, Settle, Leaves, State, Going, Given, Trace, End, Whole, Cut, Asks}
+use Rattle.script_tree.specs.Pieces.{Piece, Making, Settle, State, Going, Given, Trace, End, Whole, Cut, Asks}
 use Rattle.script_tree.specs.Steps.{step, follows, answered, result_of, variables_of}
 use Rattle.script_tree.specs.Traces.{Makes, IsTrace, over, entry, cut}
 use Rattle.script_tree.specs.Weights.{steps_left}
 use Rattle.script_proc.specs.declared.program.Program.{Program}
 use Rattle.script_proc.specs.declared.item.Item.{Item}
-use Rattle.script_proc.specs.declared.item.Item.TheVariants.{At, Once, Making as MakingItem, Stating, Settle as SettleItem, Leaves as LeavesItem}
+use Rattle.script_proc.specs.declared.item.Item.TheVariants.{At, Making as MakingItem, Settle as SettleItem, Leaves as LeavesItem}
 use Rattle.script_proc.specs.declared.item.Next.{Next}
-use Rattle.script_proc.specs.declared.item.Next.TheVariants.{Top, Line as LineNext, Loop}
+use Rattle.script_proc.specs.declared.item.Next.TheVariants.{Top, Line as LineNext}
 use Rattle.script_proc.specs.declared.item.Mode.{Mode}
 use Rattle.script_proc.specs.declared.item.Mode.TheVariants.{Going as GoingMode, Returning as ReturningMode, Given as GivenMode}
-use Rattle.script_proc.specs.Programs.{IsProgramOf}
-use Rattle.script_proc.specs.Items.{piece, Covers, AllCover, apart, IsStating, hands_on, above, state_of, with_next, IsInMode, asks, ArePlaceless, Keeps, KeepsAll, Asking, IsReady}
+use Rattle.script_proc.specs.Programs.{IsProgramOf, Stands, lines_at}
+use Rattle.script_proc.specs.Items.{piece, Covers, AllCover, hands_on, above, state_of, state_at, with_next, asks, ArePlaceless, Keeps, KeepsAll, Asking, IsReady}
 use Rattle.script_proc.specs.Works.{no_tree, as_long, all_long, work, Moves, Steps}
 use Rattle.script_proc.specs.Workers.{end_of}
 use Rattle.script_proc.proofs.StandLaws.{by_step}
 use Rattle.script_proc.proofs.Following.{nothing_follows, given_on}
+use Rattle.script_proc.proofs.Lasts.{same_last}
 use Rattle.script_proc.proofs.ItemLaws.{plain_cover, long_more}
 use Rattle.script_tree.specs.Values.{received, settled}
 
@@ -80,36 +81,16 @@ module _ (p : Program) where
     step_fewer items new st st' h = last_fewer items h.below new h.item h.few st st' h.last h.put h.moves
 
     -- a step of what is next above the items
-    pub line_steps : (items taken new : List Item) (next : Next) (at : ℕ) (v : Variables) (mode : Mode) (st : State) → next ≡ LineNext at → taken ≡ items → IsInMode next mode → Steps p n (taken ++ At at ∷ []) (Going v) new st → Steps p n (with_next items next) (state_of v mode) new st
-    line_steps items taken new next at v mode st e f m h =
-        let g : mode ≡ GoingMode = subst (λ x. IsInMode x mode) e m in
-        subst (λ x. Steps p n (with_next items x) (state_of v mode) new st) (sym e)
-        (subst (λ x. Steps p n (items ++ At at ∷ []) (state_of v x) new st) (sym g)
-        (subst (λ xs. Steps p n (xs ++ At at ∷ []) (Going v) new st) f h))
-
-    pub loop_steps : (items taken new : List Item) (next : Next) (at : ℕ) (v : Variables) (mode : Mode) → next ≡ Loop at → taken ≡ items → IsInMode next mode → Steps p n (taken ++ Once at ∷ []) (Going v) new (Going v) → Steps p n (with_next items next) (state_of v mode) new (state_of v mode)
-    loop_steps items taken new next at v mode e f m h =
-        let g : mode ≡ GoingMode = subst (λ x. IsInMode x mode) e m in
-        subst (λ x. Steps p n (with_next items x) (state_of v mode) new (state_of v mode)) (sym e)
-        (subst (λ x. Steps p n (items ++ Once at ∷ []) (state_of v x) new (state_of v x)) (sym g)
-        (subst (λ xs. Steps p n (xs ++ Once at ∷ []) (Going v) new (Going v)) f h))
-
-    -- what comes after it gets nothing
-    any_going : (next : Next) → IsInMode next GoingMode
-    any_going Top = tt
-    any_going (LineNext at) = refl
-    any_going (Loop at) = refl
-
-    pub loop_mode : (next new : Next) (at : ℕ) (mode : Mode) → next ≡ Loop at → IsInMode next mode → IsInMode new mode
-    loop_mode next new at mode e m =
-        let g : mode ≡ GoingMode = subst (λ x. IsInMode x mode) e m in
-        subst (λ x. IsInMode new x) (sym g) (any_going new)
+    pub line_steps : (items taken new : List Item) (call : Call) (next : Next) (at : ℕ) (v : Variables) (mode : Mode) (st : State) → next ≡ LineNext at → taken ≡ items → Steps p n (taken ++ At at ∷ []) (Going v) new st → Steps p n (with_next items call next) (state_at v mode next) new st
+    line_steps items taken new call next at v mode st e f h =
+        subst (λ x. Steps p n (with_next items call x) (state_at v mode x) new st) (sym e)
+        (subst (λ xs. Steps p n (xs ++ At at ∷ []) (Going v) new st) f h)
 
     -- and of the last item
-    pub top_steps : (items taken new : List Item) (next : Next) (st st' : State) → next ≡ Top → taken ≡ items → Steps p n taken st new st' → Steps p n (with_next items next) st new st'
-    top_steps items taken new next st st' e f h =
-        subst (λ x. Steps p n (with_next items x) st new st') (sym e)
-        (subst (λ xs. Steps p n xs st new st') f h)
+    pub top_steps : (items taken new : List Item) (call : Call) (next : Next) (v : Variables) (mode : Mode) (st : State) → next ≡ Top → taken ≡ items → Steps p n taken (state_of v mode) new st → Steps p n (with_next items call next) (state_at v mode next) new st
+    top_steps items taken new call next v mode st e f h =
+        subst (λ x. Steps p n (with_next items call x) (state_at v mode x) new st) (sym e)
+        (subst (λ xs. Steps p n xs (state_of v mode) new st) f h)
 
     pub keeps_same : (s : Tree) (items mid new : List Item) (a b : State) → new ≡ mid → KeepsAll s p n items a mid b → KeepsAll s p n items a new b
     keeps_same s items mid new a b e h = subst (λ xs. KeepsAll s p n items a xs b) (sym e) h
@@ -120,59 +101,37 @@ module _ (p : Program) where
         let q = k r.0 r.1 in
         (q.0, q.1, record { by = λ tr e m. r.2.by tr e (q.2.by tr e m) })
 
-  -- an item that stands for one piece where it asks for a call
-  abbrev pub IsSingle : Item → Type 0
-  IsSingle (Stating call) = ⊥
-  IsSingle item = Unit {0}
-
   -- the item that asks for a call makes it
-  asks_so : (s : Tree) (item : Item) (mode : Mode) (call : Call) (v : Variables) (n : ℕ) → IsSingle item → asks item mode ≡ Some call → step s (piece item) (state_of v mode) n ≡ Asks call
-  asks_so s (MakingItem c) GoingMode call v n i h = let e : c ≡ call = cc in ap Asks e
-  asks_so s (MakingItem c) (ReturningMode x) call v n i h = let e : c ≡ call = cc in ap Asks e
-  asks_so s (LeavesItem frame x) GoingMode call v n i h = cc
-  asks_so s (Stating c) mode call v n i h = absurd i
-  asks_so s item mode call v n i h = absurd cc
+  asks_so : (s : Tree) (item : Item) (mode : Mode) (call : Call) (v : Variables) (n : ℕ) → asks item mode ≡ Some call → step s (piece item) (state_of v mode) n ≡ Asks call
+  asks_so s (MakingItem c) GoingMode call v n h = let e : c ≡ call = cc in ap Asks e
+  asks_so s (MakingItem c) (ReturningMode x) call v n h = let e : c ≡ call = cc in ap Asks e
+  asks_so s (LeavesItem frame x) GoingMode call v n h = cc
+  asks_so s item mode call v n h = absurd cc
 
-  asks_covers : (item : Item) (mode : Mode) (call : Call) (qs : List Piece) → IsSingle item → asks item mode ≡ Some call → Covers p item qs → qs ≡ piece item ∷ []
-  asks_covers (MakingItem c) mode call qs i h k = k
-  asks_covers (LeavesItem frame x) mode call qs i h k = k
-  asks_covers (Stating c) mode call qs i h k = absurd i
-  asks_covers item mode call qs i h k = absurd cc
+  asks_covers : (item : Item) (mode : Mode) (call : Call) (qs : List Piece) → asks item mode ≡ Some call → Covers p item qs → qs ≡ piece item ∷ []
+  asks_covers (MakingItem c) mode call qs h k = k
+  asks_covers (LeavesItem frame x) mode call qs h k = k
+  asks_covers item mode call qs h k = absurd cc
 
-  -- a statement's call is the first of two pieces
-  stating_asks : (s : Tree) (c : Call) (mode : Mode) (call : Call) (v : Variables) (n : ℕ) → asks (Stating c) mode ≡ Some call → (c ≡ call) × (step s (Making c) (state_of v mode) n ≡ Asks call)
-  stating_asks s c GoingMode call v n h = let e : c ≡ call = cc in (e, ap Asks e)
-  stating_asks s c (ReturningMode x) call v n h = let e : c ≡ call = cc in (e, ap Asks e)
-  stating_asks s c (GivenMode a x) call v n h = absurd cc
+  -- the call of a statement is ready
+  pub stating_ready : (items : List Item) (at : ℕ) (call : Call) → Asking (items ++ At at ∷ SettleItem call ∷ MakingItem call ∷ []) GoingMode call
+  stating_ready items at call = (items ++ At at ∷ SettleItem call ∷ [], MakingItem call, sym (append_assoc items (At at ∷ SettleItem call ∷ []) (MakingItem call ∷ [])), refl)
 
-  -- the first piece of what an item stands for that asks for a call makes it
-  first_asks : (s : Tree) (item : Item) (mode : Mode) (call : Call) (v : Variables) (n : ℕ) (qs : List Piece) → asks item mode ≡ Some call → Covers p item qs → (first : Piece) × (rest : List Piece) × (qs ≡ first ∷ rest) × (step s first (state_of v mode) n ≡ Asks call)
-  first_asks s (MakingItem c) mode call v n qs h k = (Making c, [], k, asks_so s (MakingItem c) mode call v n tt h)
-  first_asks s (LeavesItem frame x) mode call v n qs h k = (Leaves frame x, [], k, asks_so s (LeavesItem frame x) mode call v n tt h)
-  first_asks s (Stating c) mode call v n qs h k = (Making c, Settle c ∷ [], k, (stating_asks s c mode call v n h).1)
-  first_asks s item mode call v n qs h k = absurd cc
+  -- and it is asked for
+  pub stated_call : (items : List Item) (at : ℕ) (c call : Call) → Asking (items ++ At at ∷ SettleItem c ∷ MakingItem c ∷ []) GoingMode call → c ≡ call
+  stated_call items at c call r =
+      let same : MakingItem c ≡ r.1 = same_last (items ++ At at ∷ SettleItem c ∷ []) r.0 (MakingItem c) r.1 (append_assoc items (At at ∷ SettleItem c ∷ []) (MakingItem c ∷ []) ∙ r.2) in
+      let asked : asks (MakingItem c) GoingMode ≡ Some call = subst (λ x. asks x GoingMode ≡ Some call) (sym same) r.3 in
+      cc
 
-  apart_cover : (item : Item) (qs : List Piece) → Covers p item qs → AllCover p (apart item) qs
-  apart_cover (Stating c) qs h = (Making c ∷ [], Settle c ∷ [], h, refl, ([], Making c ∷ [], refl, refl, refl))
-  apart_cover item qs h = ([], qs, refl, h, refl)
-
-  making_asks : (c : Call) (mode : Mode) (call : Call) → asks (Stating c) mode ≡ Some call → asks (MakingItem c) mode ≡ Some call
-  making_asks c GoingMode call h = h
-  making_asks c (ReturningMode x) call h = h
-  making_asks c (GivenMode a x) call h = absurd cc
-
-  -- a statement's call stands for the same apart from what it sets
-  pub apart_covers : (items below : List Item) (item : Item) (ps : List Piece) → items ≡ below ++ item ∷ [] → AllCover p items ps → AllCover p (below ++ apart item) ps
-  apart_covers items below item ps e h =
-      let r = last_cover items below item ps e h in
-      subst (λ xs. AllCover p (below ++ apart item) xs) (sym r.2) (join_cover below (apart item) r.0 r.1 r.4 (apart_cover item r.0 r.3))
-
-  -- and its call is then asked for
-  pub apart_asks : (below : List Item) (item : Item) (mode : Mode) (call : Call) (new : List Item) → new ≡ below ++ apart item → asks item mode ≡ Some call → (r : Asking new mode call) × IsSingle r.1
-  apart_asks below (Stating c) mode call new e h = ((below ++ SettleItem c ∷ [], MakingItem c, e ∙ sym (append_assoc below (SettleItem c ∷ []) (MakingItem c ∷ [])), making_asks c mode call h), tt)
-  apart_asks below (MakingItem c) mode call new e h = ((below, MakingItem c, e, h), tt)
-  apart_asks below (LeavesItem frame x) mode call new e h = ((below, LeavesItem frame x, e, h), tt)
-  apart_asks below item mode call new e h = absurd cc
+  -- its pieces
+  stated_pieces : (at : ℕ) (c : Call) (qs : List Piece) → AllCover p (At at ∷ SettleItem c ∷ MakingItem c ∷ []) qs → (behind : List Piece) × (qs ≡ Making c ∷ Settle c ∷ behind) × Stands (lines_at p at) behind
+  stated_pieces at c qs h =
+      let settle = h.4 in
+      let making = settle.4 in
+      let made : settle.0 ≡ Making c ∷ [] = making.2 ∙ ap (λ xs. xs ++ making.1) making.4 ∙ making.3 in
+      let both : h.0 ≡ Making c ∷ Settle c ∷ [] = settle.2 ∙ ap (λ xs. xs ++ settle.1) made ∙ ap (λ xs. Making c ∷ xs) settle.3 in
+      (h.1, h.2 ∙ ap (λ xs. xs ++ h.1) both, h.3)
 
   state_variables : (v : Variables) (mode : Mode) → variables_of (state_of v mode) ≡ v
   state_variables v GoingMode = refl
@@ -188,19 +147,18 @@ module _ (p : Program) where
     ready_end items ps v mode n None c h = let none : ps ≡ [] = subst (λ xs. AllCover p xs ps) h c in subst (λ xs. Makes s xs (state_of v mode) n [] Whole) (sym none) over
     ready_end items ps v mode n (Some call) c h =
         let r = last_cover items h.0 h.1 ps h.2 c in
-        let f = first_asks s h.1 mode call v n r.0 h.3 r.3 in
-        let first : ps ≡ f.0 ∷ f.1 ++ r.1 = r.2 ∙ ap (λ xs. xs ++ r.1) f.2 in
-        subst (λ xs. Makes s xs (state_of v mode) n [] (Cut call)) (sym first) (cut call f.3)
+        let first : ps ≡ piece h.1 ∷ r.1 = r.2 ∙ ap (λ xs. xs ++ r.1) (asks_covers h.1 mode call r.0 h.3 r.3) in
+        subst (λ xs. Makes s xs (state_of v mode) n [] (Cut call)) (sym first) (cut call (asks_so s h.1 mode call v n h.3))
 
     -- what is ready is how the trace ends
     pub ready_ends : (tr : Trace) (items : List Item) (ps : List Piece) (v : Variables) (mode : Mode) (n : ℕ) (o : Option Call) → AllCover p items ps → Completes tr ps (state_of v mode) n → IsReady items mode o → IsTrace s t tr (end_of o)
     ready_ends tr items ps v mode n o c h r = subst (λ xs. IsTrace s t xs (end_of o)) (append-nil tr) (h [] (end_of o) (ready_end items ps v mode n o c r))
 
     -- what follows an answer, in the place of the item that made the call
-    pub entered : (tr : Trace) (items new : List Item) (few : List Item) (ps : List Piece) (v v' : Variables) (mode mode' : Mode) (n : ℕ) (call : Call) (a : Answer) → (r : Asking items mode call) → IsSingle r.1 → new ≡ r.0 ++ few → ArePlaceless few → above few ≡ follows call a → state_of v' mode' ≡ answered call a v → AllCover p items ps → Completes tr ps (state_of v mode) n → (qs : List Piece) × AllCover p new qs × Completes (tr ++ (call, a) ∷ []) qs (state_of v' mode') (suc n)
-    entered tr items new few ps v v' mode mode' n call a r one f i g st c h =
+    pub entered : (tr : Trace) (items new : List Item) (few : List Item) (ps : List Piece) (v v' : Variables) (mode mode' : Mode) (n : ℕ) (call : Call) (a : Answer) → (r : Asking items mode call) → new ≡ r.0 ++ few → ArePlaceless few → above few ≡ follows call a → state_of v' mode' ≡ answered call a v → AllCover p items ps → Completes tr ps (state_of v mode) n → (qs : List Piece) × AllCover p new qs × Completes (tr ++ (call, a) ∷ []) qs (state_of v' mode') (suc n)
+    entered tr items new few ps v v' mode mode' n call a r f i g st c h =
         let l = last_cover items r.0 r.1 ps r.2 c in
-        let first : ps ≡ piece r.1 ∷ l.1 = l.2 ∙ ap (λ xs. xs ++ l.1) (asks_covers r.1 mode call l.0 one r.3 l.3) in
+        let first : ps ≡ piece r.1 ∷ l.1 = l.2 ∙ ap (λ xs. xs ++ l.1) (asks_covers r.1 mode call l.0 r.3 l.3) in
         let states : state_of v' mode' ≡ answered call a (variables_of (state_of v mode)) = st ∙ ap (answered call a) (sym (state_variables v mode)) in (
           above few ++ l.1,
           subst (λ xs. AllCover p xs (above few ++ l.1)) (sym f) (join_cover r.0 few (above few) l.1 l.4 (plain_cover p few i)),
@@ -208,28 +166,29 @@ module _ (p : Program) where
               subst (λ x. IsTrace s t x e) (sym (append_assoc tr ((call, a) ∷ []) more))
               (h ((call, a) ∷ more) e
               (subst (λ xs. Makes s xs (state_of v mode) n ((call, a) ∷ more) e) (sym first)
-              (entry call a (asks_so s r.1 mode call v n one r.3)
+              (entry call a (asks_so s r.1 mode call v n r.3)
               (subst (λ x. Makes s (follows call a ++ l.1) x (suc n) more e) states
               (subst (λ xs. Makes s (xs ++ l.1) (state_of v' mode') (suc n) more e) g m))))),
         )
 
     -- a statement whose call is answered is over
-    pub stated : (tr : Trace) (items new : List Item) (ps : List Piece) (v : Variables) (mode : Mode) (st : State) (n : ℕ) (call : Call) (a : Answer) → (r : Asking items mode call) → IsStating r.1 → new ≡ r.0 → hands_on call a ≡ true → st ≡ Going (settled (received v a) call a (result_of a)) → AllCover p items ps → Completes tr ps (state_of v mode) n → (qs : List Piece) × AllCover p new qs × Completes (tr ++ (call, a) ∷ []) qs st (suc n)
-    stated tr items new ps v mode st n call a (below, Stating c, last, asking) i f on is cover h =
-        let l = last_cover items below (Stating c) ps last cover in
-        let made = stating_asks s c mode call v n asking in
-        let first : ps ≡ Making c ∷ Settle c ∷ l.1 = l.2 ∙ ap (λ xs. xs ++ l.1) l.3 in
-        let states : answered call a (variables_of (state_of v mode)) ≡ Given (received v a) a (result_of a) = ap (answered call a) (state_variables v mode) ∙ given_on call a v on in (
-          l.1,
-          subst (λ xs. AllCover p xs l.1) (sym f) l.4,
+    pub stated : (tr : Trace) (items : List Item) (ps : List Piece) (v : Variables) (n : ℕ) (c call : Call) (a : Answer) (at : ℕ) → Asking (items ++ At at ∷ SettleItem c ∷ MakingItem c ∷ []) GoingMode call → hands_on call a ≡ true → AllCover p (items ++ At at ∷ SettleItem c ∷ MakingItem c ∷ []) ps → Completes tr ps (Going v) n → (qs : List Piece) × AllCover p (items ++ At at ∷ []) qs × Completes (tr ++ (call, a) ∷ []) qs (Going (settled (received v a) call a (result_of a))) (suc n)
+    stated tr items ps v n c call a at asking on cover h =
+        let l = split_cover items (At at ∷ SettleItem c ∷ MakingItem c ∷ []) ps cover in
+        let same = stated_call items at c call asking in
+        let up = stated_pieces at c l.0 l.4 in
+        let left = up.0 ++ l.1 in
+        let first : ps ≡ Making call ∷ Settle call ∷ left = l.2 ∙ ap (λ xs. xs ++ l.1) up.1 ∙ ap (λ x. Making x ∷ Settle x ∷ left) same in
+        let given = Given (received v a) a (result_of a) in
+        let ended = Going (settled (received v a) call a (result_of a)) in (
+          left,
+          join_cover items (At at ∷ []) up.0 l.1 l.3 ([], up.0, refl, up.2, refl),
           λ more e m.
               subst (λ x. IsTrace s t x e) (sym (append_assoc tr ((call, a) ∷ []) more))
               (h ((call, a) ∷ more) e
-              (subst (λ xs. Makes s xs (state_of v mode) n ((call, a) ∷ more) e) (sym first)
-              (entry call a made.1
-              (subst (λ x. Makes s (follows call a ++ Settle c ∷ l.1) x (suc n) more e) (sym states)
-              (subst (λ xs. Makes s (xs ++ Settle c ∷ l.1) (Given (received v a) a (result_of a)) (suc n) more e) (nothing_follows call a on)
-              ((by_step s (suc n) (Settle c) l.1 (Given (received v a) a (result_of a)) [] (Going (settled (received v a) c a (result_of a))) refl).by more e
-              (subst (λ x. Makes s l.1 x (suc n) more e) (is ∙ ap (λ x. Going (settled (received v a) x a (result_of a))) (sym made.0)) m))))))),
+              (subst (λ xs. Makes s xs (Going v) n ((call, a) ∷ more) e) (sym first)
+              (entry call a refl
+              (subst (λ x. Makes s (follows call a ++ Settle call ∷ left) x (suc n) more e) (sym (given_on call a v on))
+              (subst (λ xs. Makes s (xs ++ Settle call ∷ left) given (suc n) more e) (nothing_follows call a on)
+              ((by_step s (suc n) (Settle call) left given [] ended refl).by more e m)))))),
         )
-    stated tr items new ps v mode st n call a (below, item, last, asking) i f on is cover h = absurd i

@@ -10,12 +10,12 @@ use Rattle.script_proc.specs.declared.worker.Worker.{Worker}
 use Rattle.script_proc.specs.declared.item.Item.{Item}
 use Rattle.script_proc.specs.declared.item.Mode.{Mode}
 use Rattle.script_proc.specs.Programs.{IsProgramOf}
-use Rattle.script_proc.specs.Items.{state_of, KeepsAll, IsReady}
-use Rattle.script_proc.specs.Workers.{IsWorkerOf, end_of}
+use Rattle.script_proc.specs.Items.{state_of, state_at, KeepsAll, IsReady}
+use Rattle.script_proc.specs.Workers.{items_of, IsWorkerOf, end_of}
 use Rattle.script_proc.proofs.WorkerLaws.{ready_ends}
 
 -- what is ready is how the trace ends that it stands for
-pub next_ends : {E : Type 0} (p : Program) (w : Worker) (items : List Item) (v : Variables) (mode : Mode) (r : Result (Option Call) E) → ((s : Tree) → IsProgramOf s p → KeepsAll s p w.used w.items.items (state_of w.variables w.mode) items (state_of v mode)) → IfOk r (IsReady items mode) → IfOk r (λ next. (s : Tree) (t : ℕ) (tr : Trace) → IsWorkerOf s p t tr w → IsTrace s t tr (end_of next))
+pub next_ends : {E : Type 0} (p : Program) (w : Worker) (items : List Item) (v : Variables) (mode : Mode) (r : Result (Option Call) E) → ((s : Tree) → IsProgramOf s p → KeepsAll s p w.used (items_of w) (state_at w.variables w.mode w.next) items (state_of v mode)) → IfOk r (IsReady items mode) → IfOk r (λ next. (s : Tree) (t : ℕ) (tr : Trace) → IsWorkerOf s p t tr w → IsTrace s t tr (end_of next))
 next_ends p w items v mode (Ok o) kept ready = λ s t tr h.
     let k = kept s h.program h.left h.stands in
     ready_ends p s t tr items k.0 v mode w.used o k.1 (λ more e m. h.by more e (k.2.by more e m)) ready

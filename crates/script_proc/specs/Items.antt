@@ -1,5 +1,5 @@
 -- The pieces that a worker's items stand for.
-use Rattle.std.specs.Prelude.{◌≡◌, ◌≤◌, ℕ, suc, ◌+◌, List, [], ◌∷◌, ◌++◌, Option, Some, None, Bool, true, false, not, if◌then◌else◌, drop, slice_get}
+use Rattle.std.specs.Prelude.{◌≡◌, ℕ, suc, ◌+◌, List, [], ◌∷◌, ◌++◌, Option, Some, None, Bool, true, false, not, if◌then◌else◌, drop, slice_get}
 use Rattle.std.specs.List.{fold}
 use Rattle.user_model.specs.declared.call.Call.{Call}
 use Rattle.user_model.specs.declared.call.Call.TheVariants.{Leave}
@@ -20,11 +20,11 @@ use Rattle.script_proc.specs.declared.program.Line.TheVariants.{While}
 use Rattle.script_proc.specs.declared.program.Program.{Program}
 use Rattle.script_proc.specs.Programs.{Stands, lines_at}
 use Rattle.script_proc.specs.declared.item.Item.{Item}
-use Rattle.script_proc.specs.declared.item.Item.TheVariants.{At, Once, PassEnd as PassEndItem, Making as MakingItem, Stating as StatingItem, Again as AgainItem, Giving as GivingItem, Settle as SettleItem, Quiet as QuietItem, Sleeping as SleepingItem, Running as RunningItem, Leaving as LeavingItem, Leaves as LeavesItem, Left as LeftItem, Restore as RestoreItem, Feed as FeedItem}
+use Rattle.script_proc.specs.declared.item.Item.TheVariants.{At, Once, PassEnd as PassEndItem, Making as MakingItem, Again as AgainItem, Giving as GivingItem, Settle as SettleItem, Quiet as QuietItem, Sleeping as SleepingItem, Running as RunningItem, Leaving as LeavingItem, Leaves as LeavesItem, Left as LeftItem, Restore as RestoreItem, Feed as FeedItem}
 use Rattle.script_proc.specs.declared.item.Mode.{Mode}
 use Rattle.script_proc.specs.declared.item.Mode.TheVariants.{Going as GoingMode, Returning as ReturningMode, Given as GivenMode}
 use Rattle.script_proc.specs.declared.item.Next.{Next}
-use Rattle.script_proc.specs.declared.item.Next.TheVariants.{Top, Line as LineNext, Loop}
+use Rattle.script_proc.specs.declared.item.Next.TheVariants.{Top, Line as LineNext, Stating as StatingNext}
 use Rattle.script_proc.specs.declared.item.Few.{Few}
 use Rattle.script_proc.specs.declared.item.Few.TheVariants.{Nothing, Single, Two, Three, Four, Five}
 
@@ -34,7 +34,6 @@ piece (At at) = Lines []
 piece (Once at) = Lines []
 piece (PassEndItem at began) = Lines []
 piece (MakingItem call) = Making call
-piece (StatingItem call) = Lines []
 piece (AgainItem call) = Again call
 piece (GivingItem a) = Giving a
 piece (SettleItem call) = Settle call
@@ -51,12 +50,11 @@ piece (FeedItem q) = Feed q
 pub data IsLoop (p : Program) (at : ℕ) : Statement → List Piece → Type 0 where
   loops : {t : Test} {passed : ℕ} {k : _} {a : _} {left : List Piece} → slice_get p.lines.items at ≡ Some (While t passed) → Stands (lines_at p (at + 1)) (Lines (items-the_row-Statement _ a) ∷ []) → Stands (drop passed (lines_at p (at + 1))) left → IsLoop p at (tree.While' t k a) left
 
--- the pieces that an item stands for: one that has a place in the program stands for all pieces up to the end of its pass or body, and a statement's call for two
+-- the pieces that an item stands for: one that has a place in the program stands for all pieces up to the end of its pass or body
 abbrev pub Covers : Program → Item → List Piece → Type 0
 Covers p (At at) qs = Stands (lines_at p at) qs
 Covers p (Once at) qs = (loop : Statement) × (left : List Piece) × (qs ≡ One loop ∷ left) × IsLoop p at loop left
 Covers p (PassEndItem at began) qs = (loop : Statement) × (left : List Piece) × (qs ≡ PassEnd loop began ∷ left) × IsLoop p at loop left
-Covers p (StatingItem call) qs = qs ≡ Making call ∷ Settle call ∷ []
 Covers p item qs = qs ≡ piece item ∷ []
 
 -- the pieces that items stand for, the last of them next
@@ -83,23 +81,25 @@ few_items (Three a b c) = a ∷ b ∷ c ∷ []
 few_items (Four a b c d) = a ∷ b ∷ c ∷ d ∷ []
 few_items (Five a b c d e) = a ∷ b ∷ c ∷ d ∷ e ∷ []
 
--- the items, and above them what is next
-abbrev pub with_next : List Item → Next → List Item
-with_next items Top = items
-with_next items (LineNext at) = items ++ At at ∷ []
-with_next items (Loop at) = items ++ Once at ∷ []
+-- the items, and above them what is next, which a statement's call may be
+abbrev pub with_next : List Item → Call → Next → List Item
+with_next items call Top = items
+with_next items call (LineNext at) = items ++ At at ∷ []
+with_next items call (StatingNext at) = items ++ At at ∷ SettleItem call ∷ MakingItem call ∷ []
 
--- so many items, in a place for so many, leave a place for what is next above them
-abbrev pub FitsNext : Next → ℕ → ℕ → Type 0
-FitsNext Top len capacity = Unit {0}
-FitsNext (LineNext at) len capacity = len + 1 ≤ capacity
-FitsNext (Loop at) len capacity = len + 1 ≤ capacity
+-- what the last of them is handed: lines and the call of a statement get nothing
+abbrev pub mode_at : Mode → Next → Mode
+mode_at mode Top = mode
+mode_at mode next = GoingMode
 
--- what is next above the items gets nothing
-abbrev pub IsInMode : Next → Mode → Type 0
-IsInMode Top mode = Unit {0}
-IsInMode (LineNext at) mode = mode ≡ GoingMode
-IsInMode (Loop at) mode = mode ≡ GoingMode
+-- the state of the next piece then
+abbrev pub state_at : Variables → Mode → Next → State
+state_at v mode next = state_of v (mode_at mode next)
+
+-- lines aren't next
+abbrev pub IsNoLine : Next → Type 0
+IsNoLine (LineNext at) = ⊥
+IsNoLine next = Unit {0}
 
 -- at most four items
 abbrev pub IsAtMostFour : Few → Type 0
@@ -112,7 +112,6 @@ IsPlain (At at) = ⊥
 IsPlain (Once at) = ⊥
 IsPlain (PassEndItem at began) = ⊥
 IsPlain (RunningItem run) = ⊥
-IsPlain (StatingItem call) = ⊥
 IsPlain item = Unit {0}
 
 -- none of them has or leads to a place
@@ -125,7 +124,6 @@ abbrev pub IsPlaceless : Item → Type 0
 IsPlaceless (At at) = ⊥
 IsPlaceless (Once at) = ⊥
 IsPlaceless (PassEndItem at began) = ⊥
-IsPlaceless (StatingItem call) = ⊥
 IsPlaceless item = Unit {0}
 
 abbrev pub ArePlaceless : List Item → Type 0
@@ -136,20 +134,8 @@ ArePlaceless (item ∷ items) = IsPlaceless item × ArePlaceless items
 abbrev pub IsSilent : Item → Mode → Type 0
 IsSilent (MakingItem call) GoingMode = ⊥
 IsSilent (MakingItem call) (ReturningMode x) = ⊥
-IsSilent (StatingItem call) GoingMode = ⊥
-IsSilent (StatingItem call) (ReturningMode x) = ⊥
 IsSilent (LeavesItem frame x) GoingMode = ⊥
 IsSilent item mode = Unit {0}
-
--- a statement's call
-abbrev pub IsStating : Item → Type 0
-IsStating (StatingItem call) = Unit {0}
-IsStating item = ⊥
-
--- the items that stand for the same, where a statement's call stands apart from what it sets
-abbrev pub apart : Item → List Item
-apart (StatingItem call) = SettleItem call ∷ MakingItem call ∷ []
-apart item = item ∷ []
 
 -- an item that ends a statement
 abbrev pub IsSettling : Item → Type 0
@@ -157,11 +143,25 @@ IsSettling (SettleItem call) = Unit {0}
 IsSettling QuietItem = Unit {0}
 IsSettling item = ⊥
 
--- an item that ends no statement now
-abbrev pub SettlesNothing : Item → Mode → Type 0
-SettlesNothing (SettleItem call) (GivenMode a x) = ⊥
-SettlesNothing QuietItem (GivenMode a x) = ⊥
-SettlesNothing item mode = Unit {0}
+-- an item that waits for the answer to its call: a `sleep`, or a compound
+abbrev pub IsWaiting : Item → Type 0
+IsWaiting (SleepingItem ms) = Unit {0}
+IsWaiting (FeedItem q) = Unit {0}
+IsWaiting item = ⊥
+
+-- an item that is handed nothing, or waits for an answer
+abbrev pub IsWaitingIn : Item → Mode → Type 0
+IsWaitingIn item GoingMode = Unit {0}
+IsWaitingIn item mode = IsWaiting item
+
+-- an item that hands on what it is handed, or something else, and in whose place nothing comes
+abbrev pub IsThrough : Item → Mode → Type 0
+IsThrough (GivingItem a) mode = Unit {0}
+IsThrough (LeavesItem frame x) mode = Unit {0}
+IsThrough (LeftItem x) mode = Unit {0}
+IsThrough (RestoreItem p) mode = Unit {0}
+IsThrough (MakingItem call) (GivenMode a x) = Unit {0}
+IsThrough item mode = ⊥
 
 -- whether an answer is handed on at once: no procedure runs for it, and no call is made for it again
 abbrev pub hands_on : Call → Answer → Bool
@@ -177,8 +177,6 @@ hands_on call a = true
 abbrev pub asks : Item → Mode → Option Call
 asks (MakingItem call) GoingMode = Some call
 asks (MakingItem call) (ReturningMode x) = Some call
-asks (StatingItem call) GoingMode = Some call
-asks (StatingItem call) (ReturningMode x) = Some call
 asks (LeavesItem frame x) GoingMode = Some (Leave x)
 asks item mode = None
 

@@ -29,12 +29,11 @@ Says (Compound c) line = line ≡ tree.Compound c
 Says Default line = line ≡ tree.Default
 Says border line = ⊥
 
--- a line that makes no call and begins no compound
-abbrev pub IsQuiet : Line → Type 0
-IsQuiet (Let x e) = Unit {0}
-IsQuiet (Compute x e op f) = Unit {0}
-IsQuiet (Return e) = Unit {0}
-IsQuiet line = ⊥
+-- a line that sets a letter
+abbrev pub IsSetting : Line → Type 0
+IsSetting (Let x e) = Unit {0}
+IsSetting (Compute x e op f) = Unit {0}
+IsSetting line = ⊥
 
 -- a line that begins a compound or a `sleep`
 abbrev pub IsCompound : Line → Type 0

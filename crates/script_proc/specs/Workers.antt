@@ -7,7 +7,8 @@ use Rattle.script_tree.specs.Traces.{Makes, IsTrace}
 use Rattle.script_proc.specs.declared.program.Program.{Program}
 use Rattle.script_proc.specs.declared.worker.Worker.{Worker}
 use Rattle.script_proc.specs.Programs.{IsProgramOf}
-use Rattle.script_proc.specs.Items.{AllCover, state_of, IsReady}
+use Rattle.script_proc.specs.declared.item.Item.{Item}
+use Rattle.script_proc.specs.Items.{AllCover, mode_at, state_at, with_next, IsNoLine, IsReady}
 
 -- the thread of the worker
 abbrev pub thread_of : Worker → ℕ
@@ -17,19 +18,24 @@ thread_of w = w.thread
 abbrev pub uses : Worker → ℕ
 uses w = w.used
 
+-- what is left to do, the next item last
+abbrev pub items_of : Worker → List Item
+items_of w = with_next w.items.items w.call w.next
+
 -- the worker stands for this trace of the thread of a script with that program: whatever the pieces make that its items stand for goes on with it, it counts the entries, and the thread is its own
 pub record IsWorkerOf (s : Tree) (p : Program) (t : ℕ) (tr : Trace) (w : Worker) : Type 0 where
   pub program : IsProgramOf s p
   pub left : List Piece
-  pub stands : AllCover p w.items.items left
-  pub by : (more : Trace) (e : End) → Makes s left (state_of w.variables w.mode) w.used more e → IsTrace s t (tr ++ more) e
+  pub stands : AllCover p (items_of w) left
+  pub by : (more : Trace) (e : End) → Makes s left (state_at w.variables w.mode w.next) w.used more e → IsTrace s t (tr ++ more) e
   pub counts : w.used ≡ length tr
   pub thread : w.thread ≡ t
 
 -- the worker stands at this call, or its program has ended; and it has room for what follows an answer
 pub record IsAt (w : Worker) (next : Option Call) : Type 0 where
-  pub ready : IsReady w.items.items w.mode next
-  pub room : vec_len w.items + 5 ≤ vec_capacity w.items
+  pub ready : IsReady (items_of w) (mode_at w.mode w.next) next
+  pub no_line : IsNoLine w.next
+  pub room : vec_len w.items + 7 ≤ vec_capacity w.items
 
 -- how a trace ends that has this next call
 abbrev pub end_of : Option Call → End

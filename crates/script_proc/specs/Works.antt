@@ -5,11 +5,11 @@ use Rattle.script_tree.specs.declared.statement.Statement.{Statement}
 use Rattle.script_tree.specs.declared.statement.Statement.TheVariants.{Default}
 use Rattle.script_tree.specs.Tree.{Tree}
 use Rattle.script_tree.specs.declared.variables.Variables.{Variables}
-use Rattle.script_tree.specs.Pieces.{Piece, Lines, PassEnd, Settle, State, Going, Becomes}
+use Rattle.script_tree.specs.Pieces.{Piece, Lines, PassEnd, State, Going, Becomes}
 use Rattle.script_tree.specs.Steps.{statement}
 use Rattle.script_tree.specs.Weights.{steps_left}
 use Rattle.script_proc.specs.declared.item.Item.{Item}
-use Rattle.script_proc.specs.declared.item.Item.TheVariants.{At, Once, PassEnd as PassEndItem, Stating, Running}
+use Rattle.script_proc.specs.declared.item.Item.TheVariants.{At, Once, PassEnd as PassEndItem, Running}
 use Rattle.script_proc.specs.declared.program.Program.{Program}
 use Rattle.script_proc.specs.declared.program.Line.{Line}
 use Rattle.script_proc.specs.Programs.{IsProgramOf, IsCompound, Says}
@@ -29,7 +29,6 @@ abbrev pub as_long : ℕ → ℕ → Item → Piece
 as_long size n (At at) = Lines (statements (size - at))
 as_long size n (Once at) = Lines (statements (size - at))
 as_long size n (PassEndItem at began) = if n == began then PassEnd Default began else Lines (statements (size - at + 1))
-as_long size n (Stating call) = Settle call
 as_long size n (Running run) = Lines (statements (size + 2))
 as_long size n item = piece item
 

@@ -15,8 +15,6 @@ pub enum Item {
     PassEnd(usize, u32),
     /// A call, made until its answer is that of no attempt.
     Making(Call),
-    /// A statement makes this call, and then sets `r` and `err`.
-    Stating(Call),
     /// The same call once more, after the procedure of an attempt.
     Again(Call),
     /// The answer is given, with the result of the procedure that ran for it, or without one.
@@ -59,8 +57,8 @@ pub enum Next {
     Top,
     /// The lines of the program from a place on, above the items.
     Line(usize),
-    /// The `while` at a place once more, above the items.
-    Loop(usize),
+    /// The call of a statement, which then sets `r` and `err`, and the lines from a place on behind it.
+    Stating(usize),
 }
 
 /// A few items, the next one last.

@@ -8,9 +8,9 @@ ghost use Rattle.script_tree.specs.Pieces.{Settle, Left, Leaving, Going, Becomes
 ghost use Rattle.script_tree.specs.Compounds.{default_result};
 ghost use Rattle.script_tree.specs.Steps.{statement as statement_of, step, begins, returns_to, takes, goes_on, sleeps as sleeps_of, default_pieces, is_callback as is_callback_of};
 ghost use Rattle.script_tree.specs.declared.variables.Variables.{Variables};
-ghost use Rattle.script_proc.specs.Programs.{Says, IsQuiet, IsCompound};
+ghost use Rattle.script_proc.specs.Programs.{Says, IsSetting, IsCompound};
 ghost use Rattle.script_proc.specs.declared.item.Item.{Item};
-ghost use Rattle.script_proc.specs.Items.{piece, above, few_items, state_of, IsAtMostFour, IsPlain, ArePlain, IsSilent, IsSettling, SettlesNothing};
+ghost use Rattle.script_proc.specs.Items.{piece, above, few_items, state_of, IsAtMostFour, IsPlain, ArePlain, IsSilent, IsSettling, IsThrough, IsWaiting, IsWaitingIn};
 
 use crate::item::{Few, Item, Mode};
 use crate::program::Line;
@@ -77,10 +77,9 @@ fn begins_with(begin: Begin) -> Few
     settled_by(begin.call, begin)
 }
 
-/// A statement that makes no call and begins no compound.
-pub fn quiet(line: &Line, variables: &mut Variables, mode: &mut Mode)
-    requires { mode.old ≡ Mode.Going }
-    ensures { (line' : Statement) (n : ℕ) → IsQuiet line.now → Says line.now line' → Becomes [] (state_of variables.new mode.new) ≡ statement_of line' variables.old n }
+/// A statement that sets a letter.
+pub fn sets(line: &Line, variables: &mut Variables)
+    ensures { (line' : Statement) (n : ℕ) → IsSetting line.now → Says line.now line' → Becomes [] (Going variables.new) ≡ statement_of line' variables.old n }
 {
     match line {
         Line::Let(letter, operand) => {
@@ -91,12 +90,12 @@ pub fn quiet(line: &Line, variables: &mut Variables, mode: &mut Mode)
             let value = operator.compute(left.value(variables), right.value(variables));
             variables.assign(*letter, value);
         }
-        Line::Return(operand) => *mode = Mode::Returning(operand.value(variables)),
         _ => {}
     }
 }
 
 /// The call of a statement, which settles what it is answered.
+#[inline(never)]
 pub fn called(statement: &CallStatement, variables: &Variables) -> Call
     ensures { (line' : Statement) (n : ℕ) → Says (Line.Call statement.now) line' → Becomes (above (Item.Settle result ∷ Item.Making result ∷ [])) (Going variables.now) ≡ statement_of line' variables.now n }
 {
@@ -164,35 +163,6 @@ fn going(item: &Item, variables: &mut Variables, mode: &mut Mode) -> Few
     }
 }
 
-/// The step of an item that gets the value of a `return` or the result of a procedure.
-fn returning(item: &Item, variables: &mut Variables, mode: &mut Mode, value: u64) -> Few
-    requires returning { mode.old ≡ Mode.Returning value }
-    requires plain { IsPlain item.now }
-    requires silent { IsSilent item.now (Mode.Returning value) }
-    ensures plain { ArePlain (few_items result) }
-    ensures step { Becomes (above (few_items result)) (state_of variables.new mode.new) ≡ returns_to (piece item.now) variables.old value }
-{
-    match *item {
-        Item::Again(call) => {
-            *mode = Mode::Going;
-            Few::Single(Item::Making(call))
-        }
-        Item::Giving(answer) => {
-            *mode = Mode::Given(answer, value);
-            Few::Nothing
-        }
-        Item::Leaving(run) => {
-            *mode = Mode::Going;
-            leaves(run, value)
-        }
-        Item::Restore(parameters) => {
-            variables.parameters = parameters;
-            Few::Nothing
-        }
-        _ => Few::Nothing,
-    }
-}
-
 /// What a `sleep` does whose `clock` was answered so.
 fn sleeps(ms: u64, answer: Answer, value: u64) -> Few
     ensures plain { ArePlain (few_items result) }
@@ -224,11 +194,10 @@ fn compound(next: Lead, mode: &mut Mode) -> Few
     }
 }
 
-/// The step of an item that gets the answer to a call and its result.
+/// The step of a `sleep` or a compound that gets the answer to its call and its result.
 fn given(item: &Item, variables: &mut Variables, mode: &mut Mode, answer: Answer, value: u64) -> Few
     requires given { mode.old ≡ Mode.Given answer value }
-    requires plain { IsPlain item.now }
-    requires unsettled { SettlesNothing item.now mode.old }
+    requires waiting { IsWaiting item.now }
     ensures plain { ArePlain (few_items result) }
     ensures step { Becomes (above (few_items result)) (state_of variables.new mode.new) ≡ takes (piece item.now) variables.old answer value }
 {
@@ -242,21 +211,7 @@ fn given(item: &Item, variables: &mut Variables, mode: &mut Mode, answer: Answer
             *mode = Mode::Going;
             compound(place.after(&answer, value), mode)
         }
-        Item::Left(result) => {
-            *mode = Mode::Returning(result);
-            Few::Nothing
-        }
         _ => Few::Nothing,
-    }
-}
-
-/// The statement that made this call is over, where it is given an answer.
-pub fn settle_statement(call: &Call, variables: &mut Variables, mode: &mut Mode)
-    ensures { (answer : Answer) (x : ℕ) → mode.old ≡ Mode.Given answer x → state_of variables.new mode.new ≡ Going (settled_of variables.old call.now answer x) }
-{
-    if let Mode::Given(answer, value) = mode {
-        variables.settle(call, answer, *value);
-        *mode = Mode::Going;
     }
 }
 
@@ -274,17 +229,31 @@ pub fn settled(item: &Item, variables: &mut Variables, mode: &mut Mode)
     *mode = Mode::Going;
 }
 
-/// The step of an item without a place in the program.
+/// The step of an item that hands on what it is handed, or something else, and in whose place nothing comes.
+pub fn through(item: &Item, variables: &mut Variables, mode: &mut Mode)
+    requires handed { mode.old ≢ Mode.Going }
+    requires through { IsThrough item.now mode.old }
+    ensures { (s : Tree) (n : ℕ) → Becomes [] (state_of variables.new mode.new) ≡ step s (piece item.now) (state_of variables.old mode.old) n }
+{
+    match (item, *mode) {
+        (Item::Restore(parameters), Mode::Returning(_)) => variables.parameters = *parameters,
+        (Item::Giving(answer), Mode::Returning(value)) => *mode = Mode::Given(*answer, value),
+        (Item::Left(result), Mode::Given(_, _)) => *mode = Mode::Returning(*result),
+        _ => {}
+    }
+}
+
+/// The step of an item without a place in the program that is handed nothing, or of one that waits for an answer.
 pub fn plain(item: &Item, variables: &mut Variables, mode: &mut Mode) -> Few
     requires plain { IsPlain item.now }
     requires silent { IsSilent item.now mode.old }
-    requires unsettled { SettlesNothing item.now mode.old }
+    requires waiting { IsWaitingIn item.now mode.old }
     ensures plain { ArePlain (few_items result) }
     ensures step { (s : Tree) (n : ℕ) → Becomes (above (few_items result)) (state_of variables.new mode.new) ≡ step s (piece item.now) (state_of variables.old mode.old) n }
 {
     match *mode {
         Mode::Going => going(item, variables, mode),
-        Mode::Returning(value) => returning(item, variables, mode, value),
+        Mode::Returning(_) => Few::Nothing,
         Mode::Given(answer, value) => given(item, variables, mode, answer, value),
     }
 }

@@ -1,19 +1,21 @@
 //! What items do, those that have a place in the program and the others.
 
-ghost use Rattle.std.specs.Prelude.{◌≡◌, ◌≢◌, ◌+◌, ◌-◌, ◌<◌, ◌≤◌, [], ◌∷◌, ◌++◌, ◌^◌, ℕ, List, min, if◌then◌else◌, vec_len, vec_capacity};
-ghost use Rattle.script_tree.specs.Values.{holds as holds_of};
+ghost use Rattle.std.specs.Prelude.{◌≡◌, ◌≢◌, ◌+◌, ◌-◌, ◌<◌, ◌≤◌, ◌==◌, false, [], ◌∷◌, ◌++◌, ◌^◌, ℕ, List, min, if◌then◌else◌, vec_len, vec_capacity};
+ghost use Rattle.script_tree.specs.Values.{holds as holds_of, value_of};
 ghost use Rattle.script_tree.specs.Pieces.{Going};
 ghost use Rattle.script_tree.specs.declared.variables.Variables.{Variables};
 ghost use Rattle.script_proc.specs.declared.program.Program.{Program};
 ghost use Rattle.script_proc.specs.declared.item.Item.{Item};
-ghost use Rattle.script_proc.specs.Items.{state_of, few_items, with_next, FitsNext, IsInMode, IsAtMostFour, IsPlain, IsSilent, SettlesNothing};
+ghost use Rattle.script_proc.specs.Items.{state_of, state_at, few_items, with_next, IsAtMostFour, IsPlain, IsSilent, IsWaitingIn};
+ghost use Rattle.script_proc.specs.declared.item.Mode.{Mode};
 ghost use Rattle.script_proc.specs.Works.{Last, Puts, Steps};
+ghost use Rattle.user_model.specs.declared.call.Call.{Call};
 
 use crate::item::{Few, Item, Mode, Next};
-use crate::moves::{called, plain, quiet, settle_statement, settled, statement};
+use crate::moves::{called, plain, sets, settled, statement, through};
 use crate::program::{Line, Program};
-use crate::top::{drop_last, set_last};
-use script_tree::{Run, Test, Variables};
+use crate::top::{drop_last, put_one, set_last};
+use script_tree::{Operand, Run, Test, Variables};
 use user_model::Call;
 
 /// The place behind one, and so many lines further on; the last number where there is none.
@@ -39,7 +41,8 @@ fn on_top_of(below: Item, few: Few) -> Few
     }
 }
 
-/// The `while` at a place: a pass comes next, or what stands behind it.
+/// The `while` at a place: a pass comes next, or what stands behind it. The place of the line that comes
+/// next.
 fn while_at(
     items: &mut Vec<Item>,
     at: usize,
@@ -47,17 +50,16 @@ fn while_at(
     passed: usize,
     variables: &Variables,
     used: u32,
-) -> Next
+) -> usize
     requires room { vec_len items.old + 5 ≤ vec_capacity items.old }
     requires short { at < 2 ^ 64 - 1 }
-    ensures items { with_next items.new.items result ≡ items.old.items ++ (if holds_of test.now variables.now then Item.PassEnd at used ∷ Item.At (at + 1) ∷ [] else Item.At (min (at + 1 + passed) (2 ^ 64 - 1)) ∷ []) }
-    ensures fits { FitsNext result (vec_len items.new) (vec_capacity items.new) }
+    ensures { items.new.items ++ Item.At result ∷ [] ≡ items.old.items ++ (if holds_of test.now variables.now then Item.PassEnd at used ∷ Item.At (at + 1) ∷ [] else Item.At (min (at + 1 + passed) (2 ^ 64 - 1)) ∷ []) }
 {
     if test.holds(variables) {
         items.push_reserved(Item::PassEnd(at, used));
-        Next::Line(at + 1)
+        at + 1
     } else {
-        Next::Line(behind(at, passed))
+        behind(at, passed)
     }
 }
 
@@ -74,47 +76,47 @@ fn begins(items: &mut Vec<Item>, at: usize, line: &Line, variables: &Variables)
     set_last(items, &few);
 }
 
-/// A statement that makes one call, over the place behind it.
-fn calls(items: &mut Vec<Item>, at: usize, call: Call)
+/// A `return`, over the place behind it.
+#[inline(never)]
+fn returns(
+    items: &mut Vec<Item>,
+    at: usize,
+    operand: &Operand,
+    variables: &Variables,
+    mode: &mut Mode,
+)
     requires room { vec_len items.old + 5 ≤ vec_capacity items.old }
     requires short { at < 2 ^ 64 - 1 }
-    ensures { items.new.items ≡ items.old.items ++ Item.At (at + 1) ∷ Item.Stating call ∷ [] }
+    ensures items { items.new.items ≡ items.old.items ++ Item.At (at + 1) ∷ [] }
+    ensures mode { mode.new ≡ Mode.Returning (value_of operand.now variables.now) }
 {
     items.push_reserved(Item::At(at + 1));
-    items.push_reserved(Item::Stating(call));
+    *mode = Mode::Returning(operand.value(variables));
 }
 
-/// What comes behind a statement without a call: a `return` is handed on by the last item.
-fn behind_quiet(items: &mut Vec<Item>, at: usize, mode: &Mode) -> Next
-    requires room { vec_len items.old + 5 ≤ vec_capacity items.old }
-    requires short { at < 2 ^ 64 - 1 }
-    ensures items { with_next items.new.items result ≡ items.old.items ++ Item.At (at + 1) ∷ [] }
-    ensures fits { FitsNext result (vec_len items.new) (vec_capacity items.new) }
-    ensures mode { IsInMode result mode.now }
+/// What comes next is handed nothing.
+pub fn hand_nothing(mode: &mut Mode)
+    ensures { mode.new ≡ Mode.Going }
 {
-    match mode {
-        Mode::Going => Next::Line(at + 1),
-        _ => {
-            items.push_reserved(Item::At(at + 1));
-            Next::Top
-        }
+    if !matches!(mode, Mode::Going) {
+        *mode = Mode::Going;
     }
 }
 
 /// The line at a place of the program, above the items.
+#[inline(always)]
 pub fn line_at(
     program: &Program,
     items: &mut Vec<Item>,
     at: usize,
     variables: &mut Variables,
     mode: &mut Mode,
+    call: &mut Call,
     used: u32,
 ) -> Next
     requires going { mode.old ≡ Mode.Going }
     requires room { vec_len items.old + 5 ≤ vec_capacity items.old }
-    ensures steps { Steps program.now used (items.old.items ++ Item.At at ∷ []) (Going variables.old) (with_next items.new.items result) (state_of variables.new mode.new) }
-    ensures fits { FitsNext result (vec_len items.new) (vec_capacity items.new) }
-    ensures mode { IsInMode result mode.new }
+    ensures { Steps program.now used (items.old.items ++ Item.At at ∷ []) (Going variables.old) (with_next items.new.items call.new result) (state_at variables.new mode.new result) }
 {
     let Some(line) = program.lines().get(at) else {
         return Next::Top;
@@ -128,15 +130,21 @@ pub fn line_at(
             }
         }
         Line::Else(passed) => Next::Line(behind(at, *passed)),
-        Line::While(test, passed) => while_at(items, at, test, *passed, variables, used),
+        Line::While(test, passed) => {
+            Next::Line(while_at(items, at, test, *passed, variables, used))
+        }
         Line::End => Next::Top,
         Line::Call(statement) => {
-            calls(items, at, called(statement, variables));
-            Next::Top
+            *call = called(statement, variables);
+            Next::Stating(at + 1)
         }
-        Line::Let(_, _) | Line::Compute(_, _, _, _) | Line::Return(_) => {
-            quiet(line, variables, mode);
-            behind_quiet(items, at, mode)
+        Line::Let(_, _) | Line::Compute(_, _, _, _) => {
+            sets(line, variables);
+            Next::Line(at + 1)
+        }
+        Line::Return(operand) => {
+            returns(items, at, operand, variables, mode);
+            Next::Top
         }
         _ => {
             begins(items, at, line, variables);
@@ -146,7 +154,7 @@ pub fn line_at(
 }
 
 /// The `while` at a place once more, above the items.
-pub fn once(
+fn once(
     program: &Program,
     items: &mut Vec<Item>,
     at: usize,
@@ -154,14 +162,15 @@ pub fn once(
     used: u32,
 ) -> Next
     requires room { vec_len items.old + 5 ≤ vec_capacity items.old }
-    ensures steps { Steps program.now used (items.old.items ++ Item.Once at ∷ []) (Going variables.now) (with_next items.new.items result) (Going variables.now) }
-    ensures fits { FitsNext result (vec_len items.new) (vec_capacity items.new) }
+    ensures { (mode : Mode) (call : Call) → mode ≡ Mode.Going → Steps program.now used (items.old.items ++ Item.Once at ∷ []) (Going variables.now) (with_next items.new.items call result) (state_at variables.now mode result) }
 {
     let Some(line) = program.lines().get(at) else {
         return Next::Top;
     };
     match line {
-        Line::While(test, passed) => while_at(items, at, test, *passed, variables, used),
+        Line::While(test, passed) => {
+            Next::Line(while_at(items, at, test, *passed, variables, used))
+        }
         _ => Next::Top,
     }
 }
@@ -169,51 +178,96 @@ pub fn once(
 /// A pass without an entry in it ends: a `yield` comes, and then the test again.
 #[inline(never)]
 fn yields(items: &mut Vec<Item>, at: usize)
-    requires { vec_len items.old + 3 ≤ vec_capacity items.old }
-    ensures { items.new.items ≡ items.old.items ++ Item.Once at ∷ Item.Quiet ∷ Item.Making Call.Yield ∷ [] }
+    requires room { vec_len items.old + 2 ≤ vec_capacity items.old }
+    requires some { items.old.items ≢ [] }
+    ensures { (below : List Item) (item : Item) → items.old.items ≡ below ++ item ∷ [] → items.new.items ≡ below ++ Item.Once at ∷ Item.Quiet ∷ Item.Making Call.Yield ∷ [] }
 {
-    items.push_reserved(Item::Once(at));
+    put_one(items, Item::Once(at));
     items.push_reserved(Item::Quiet);
     items.push_reserved(Item::Making(Call::Yield));
 }
 
-/// The end of a pass: without an entry in it comes a `yield`, and then the test again.
-fn pass_end(items: &mut Vec<Item>, at: usize, began: u32, used: u32) -> Next
-    requires room { vec_len items.old + 5 ≤ vec_capacity items.old }
-    requires some { items.old.items ≢ [] }
-    ensures steps { (below : List Item) (p : Program) (v : Variables) → items.old.items ≡ below ++ Item.PassEnd at began ∷ [] → Steps p used items.old.items (Going v) (with_next items.new.items result) (Going v) }
-    ensures fits { FitsNext result (vec_len items.new) (vec_capacity items.new) }
+/// Another pass begins, after so many entries; its end is the last item.
+fn begin_pass(items: &mut Vec<Item>, used: u32)
+    requires { items.old.items ≢ [] }
+    ensures { (below : List Item) (at began : ℕ) → items.old.items ≡ below ++ Item.PassEnd at began ∷ [] → items.new.items ≡ below ++ Item.PassEnd at used ∷ [] }
 {
-    drop_last(items);
-    if used == began {
-        yields(items, at);
-        return Next::Top;
+    let last = items.len() - 1;
+    if let Item::PassEnd(_, began) = &mut items[last] {
+        *began = used;
     }
-    Next::Loop(at)
 }
 
-/// A procedure begins to run.
+/// The same as `while_at` behind a pass, whose end is the last item.
+fn again_at(
+    items: &mut Vec<Item>,
+    at: usize,
+    test: &Test,
+    passed: usize,
+    variables: &Variables,
+    used: u32,
+) -> usize
+    requires some { items.old.items ≢ [] }
+    requires short { at < 2 ^ 64 - 1 }
+    ensures { (below : List Item) (began : ℕ) → items.old.items ≡ below ++ Item.PassEnd at began ∷ [] → items.new.items ++ Item.At result ∷ [] ≡ below ++ (if holds_of test.now variables.now then Item.PassEnd at used ∷ Item.At (at + 1) ∷ [] else Item.At (min (at + 1 + passed) (2 ^ 64 - 1)) ∷ []) }
+{
+    if test.holds(variables) {
+        begin_pass(items, used);
+        at + 1
+    } else {
+        drop_last(items);
+        behind(at, passed)
+    }
+}
+
+/// A pass with an entry in it ends: the test comes again, and another pass or what stands behind.
+fn passes_again(
+    program: &Program,
+    items: &mut Vec<Item>,
+    at: usize,
+    variables: &Variables,
+    used: u32,
+) -> Next
+    requires some { items.old.items ≢ [] }
+    ensures { (below : List Item) (began : ℕ) (mode : Mode) (call : Call) → items.old.items ≡ below ++ Item.PassEnd at began ∷ [] → (used == began) ≡ false → mode ≡ Mode.Going → Steps program.now used items.old.items (Going variables.now) (with_next items.new.items call result) (state_at variables.now mode result) }
+{
+    let Some(line) = program.lines().get(at) else {
+        drop_last(items);
+        return Next::Top;
+    };
+    match line {
+        Line::While(test, passed) => {
+            Next::Line(again_at(items, at, test, *passed, variables, used))
+        }
+        _ => {
+            drop_last(items);
+            Next::Top
+        }
+    }
+}
+
+/// A procedure begins to run. The place of its first line.
 #[inline(never)]
-fn running(program: &Program, items: &mut Vec<Item>, run: Run, variables: &mut Variables)
+fn running(program: &Program, items: &mut Vec<Item>, run: Run, variables: &mut Variables) -> usize
     requires room { vec_len items.old + 4 ≤ vec_capacity items.old }
     requires some { items.old.items ≢ [] }
-    ensures { (below : List Item) (n : ℕ) → items.old.items ≡ below ++ Item.Running run ∷ [] → Steps program.now n items.old.items (Going variables.old) items.new.items (Going variables.new) }
+    ensures { (below : List Item) (n : ℕ) → items.old.items ≡ below ++ Item.Running run ∷ [] → Steps program.now n items.old.items (Going variables.old) (items.new.items ++ Item.At result ∷ []) (Going variables.new) }
 {
     let restore = Item::Restore(variables.parameters);
     variables.parameters = run.parameters;
-    let body = Item::At(program.procedure(run.procedure));
-    let few = Few::Three(restore, Item::Leaving(run), body);
-    set_last(items, &few);
+    put_one(items, restore);
+    items.push_reserved(Item::Leaving(run));
+    program.procedure(run.procedure)
 }
 
-/// The step of the last item, which has no place in the program and settles nothing.
+/// The step of the last item, which has no place in the program and is handed nothing, or waits for an answer.
 #[inline(never)]
 fn placeless(items: &mut Vec<Item>, variables: &mut Variables, mode: &mut Mode)
     requires room { vec_len items.old + 4 ≤ vec_capacity items.old }
     requires some { items.old.items ≢ [] }
     requires plain { Last items.old.items IsPlain }
     requires silent { Last items.old.items (λ item. IsSilent item mode.old) }
-    requires unsettled { Last items.old.items (λ item. SettlesNothing item mode.old) }
+    requires waiting { Last items.old.items (λ item. IsWaitingIn item mode.old) }
     ensures { (p : Program) (n : ℕ) → Steps p n items.old.items (state_of variables.old mode.old) items.new.items (state_of variables.new mode.new) }
 {
     let Some(item) = items.last() else {
@@ -229,15 +283,14 @@ fn going(
     items: &mut Vec<Item>,
     variables: &mut Variables,
     mode: &mut Mode,
+    call: &mut Call,
     used: u32,
 ) -> Next
     requires going { mode.old ≡ Mode.Going }
     requires room { vec_len items.old + 5 ≤ vec_capacity items.old }
     requires some { items.old.items ≢ [] }
     requires silent { Last items.old.items (λ item. IsSilent item mode.old) }
-    ensures steps { Steps program.now used items.old.items (Going variables.old) (with_next items.new.items result) (state_of variables.new mode.new) }
-    ensures fits { FitsNext result (vec_len items.new) (vec_capacity items.new) }
-    ensures mode { IsInMode result mode.new }
+    ensures { Steps program.now used items.old.items (Going variables.old) (with_next items.new.items call.new result) (state_at variables.new mode.new result) }
 {
     let Some(item) = items.last() else {
         return Next::Top;
@@ -246,7 +299,7 @@ fn going(
         Item::At(at) => {
             let at = *at;
             drop_last(items);
-            line_at(program, items, at, variables, mode, used)
+            line_at(program, items, at, variables, mode, call, used)
         }
         Item::Once(at) => {
             let at = *at;
@@ -255,19 +308,51 @@ fn going(
         }
         Item::PassEnd(at, began) => {
             let at = *at;
-            let began = *began;
-            pass_end(items, at, began, used)
+            if used == *began {
+                yields(items, at);
+                return Next::Top;
+            }
+            passes_again(program, items, at, variables, used)
         }
         Item::Running(run) => {
             let run = *run;
-            running(program, items, run, variables);
-            Next::Top
+            Next::Line(running(program, items, run, variables))
         }
         _ => {
             placeless(items, variables, mode);
             Next::Top
         }
     }
+}
+
+/// The end of a procedure: the value of a `return` is its result, and an answer is handed on.
+fn leaving(items: &mut Vec<Item>, run: Run, mode: &mut Mode)
+    requires handed { mode.old ≢ Mode.Going }
+    requires room { vec_len items.old + 4 ≤ vec_capacity items.old }
+    requires some { items.old.items ≢ [] }
+    ensures { (below : List Item) (p : Program) (n : ℕ) (v : Variables) → items.old.items ≡ below ++ Item.Leaving run ∷ [] → Steps p n items.old.items (state_of v mode.old) items.new.items (state_of v mode.new) }
+{
+    let Mode::Returning(value) = *mode else {
+        drop_last(items);
+        return;
+    };
+    put_one(items, Item::Left(value));
+    items.push_reserved(Item::Leaves(run.frame, value));
+    *mode = Mode::Going;
+}
+
+/// A call that is made once more behind a procedure; an answer is handed on.
+fn again(items: &mut Vec<Item>, call: Call, mode: &mut Mode)
+    requires handed { mode.old ≢ Mode.Going }
+    requires some { items.old.items ≢ [] }
+    ensures { (below : List Item) (p : Program) (n : ℕ) (v : Variables) → items.old.items ≡ below ++ Item.Again call ∷ [] → Steps p n items.old.items (state_of v mode.old) items.new.items (state_of v mode.new) }
+{
+    let Mode::Returning(_) = *mode else {
+        drop_last(items);
+        return;
+    };
+    put_one(items, Item::Making(call));
+    *mode = Mode::Going;
 }
 
 /// The step of the last item where it is handed something: one that has a place hands it on.
@@ -282,16 +367,24 @@ fn handed(items: &mut Vec<Item>, variables: &mut Variables, mode: &mut Mode)
         return;
     };
     match item {
-        Item::Stating(call) => {
-            settle_statement(call, variables, mode);
-            drop_last(items);
-        }
         Item::Settle(_) | Item::Quiet => {
             settled(item, variables, mode);
             drop_last(items);
         }
         Item::At(_) | Item::Once(_) | Item::PassEnd(_, _) | Item::Running(_) => drop_last(items),
-        _ => placeless(items, variables, mode),
+        Item::Leaving(run) => {
+            let run = *run;
+            leaving(items, run, mode);
+        }
+        Item::Again(call) => {
+            let call = *call;
+            again(items, call, mode);
+        }
+        Item::Sleeping(_) | Item::Feed(_) => placeless(items, variables, mode),
+        _ => {
+            through(item, variables, mode);
+            drop_last(items);
+        }
     }
 }
 
@@ -301,17 +394,16 @@ pub fn step(
     items: &mut Vec<Item>,
     variables: &mut Variables,
     mode: &mut Mode,
+    call: &mut Call,
     used: u32,
 ) -> Next
     requires room { vec_len items.old + 5 ≤ vec_capacity items.old }
     requires some { items.old.items ≢ [] }
     requires silent { Last items.old.items (λ item. IsSilent item mode.old) }
-    ensures steps { Steps program.now used items.old.items (state_of variables.old mode.old) (with_next items.new.items result) (state_of variables.new mode.new) }
-    ensures fits { FitsNext result (vec_len items.new) (vec_capacity items.new) }
-    ensures mode { IsInMode result mode.new }
+    ensures { Steps program.now used items.old.items (state_of variables.old mode.old) (with_next items.new.items call.new result) (state_at variables.new mode.new result) }
 {
     match mode {
-        Mode::Going => going(program, items, variables, mode, used),
+        Mode::Going => going(program, items, variables, mode, call, used),
         _ => {
             handed(items, variables, mode);
             Next::Top

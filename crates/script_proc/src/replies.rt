@@ -1,16 +1,14 @@
 //! What follows a call and its answer.
 
-ghost use Rattle.std.specs.Prelude.{◌≡◌, ◌≢◌, ◌+◌, ◌≤◌, [], ◌∷◌, ◌++◌, List, true, false, IsTrue, IsSome, Some, vec_len, vec_capacity};
+ghost use Rattle.std.specs.Prelude.{◌≡◌, ◌≢◌, ◌+◌, ◌≤◌, [], ◌∷◌, ◌++◌, List, true, false, IsTrue, IsSome, Some, if◌then◌else◌, vec_len, vec_capacity};
 ghost use Rattle.script_tree.specs.Steps.{result_of as result_of_answer, follows, answered, given as given_of, is_last as is_last_of, parameters_of, parameters_from};
 ghost use Rattle.user_model.specs.Stacks.{leaves as leaves_of, waits as waits_of};
 ghost use Rattle.script_tree.specs.Values.{received, settled};
-ghost use Rattle.script_tree.specs.Pieces.{Going};
-ghost use Rattle.script_proc.specs.Works.{Last};
 ghost use Rattle.script_proc.specs.declared.item.Item.{Item};
-ghost use Rattle.script_proc.specs.Items.{told as told_by, apart, IsStating, above, few_items, state_of, asks, hands_on as hands_on_of, IsSilent, ArePlaceless};
+ghost use Rattle.script_proc.specs.Items.{told as told_by, above, state_of, with_next, IsNoLine, asks, hands_on as hands_on_of, IsSilent, ArePlaceless};
 
-use crate::item::{Few, Item, Mode};
-use crate::top::{drop_last, put_one, set_last};
+use crate::item::{Item, Mode, Next};
+use crate::top::{drop_last, put_one};
 use script_tree::{Parameters, Run, Variables, result_of};
 use user_model::{Answer, Call};
 use win_num::Frame;
@@ -21,7 +19,7 @@ pub fn is_asking(item: &Item, mode: &Mode) -> bool
     ensures asking { IsTrue result → IsSome (asks item.now mode.now) }
 {
     match item {
-        Item::Making(_) | Item::Stating(_) => !matches!(mode, Mode::Given(_, _)),
+        Item::Making(_) => !matches!(mode, Mode::Given(_, _)),
         Item::Leaves(_, _) => matches!(mode, Mode::Going),
         _ => false,
     }
@@ -33,7 +31,7 @@ pub fn asked(item: &Item, mode: &Mode) -> Call
     ensures { asks item.now mode.now ≡ Some result }
 {
     match item {
-        Item::Making(call) | Item::Stating(call) => *call,
+        Item::Making(call) => *call,
         Item::Leaves(_, value) => Call::Leave(*value),
         _ => unreachable!(),
     }
@@ -122,7 +120,7 @@ fn gives(items: &mut Vec<Item>, answer: &Answer, variables: &mut Variables, mode
 }
 
 /// Whether the answer is handed on at once: no procedure runs for it, and no call is made for it again.
-fn hands_on(call: &Call, answer: &Answer) -> bool
+pub fn hands_on(call: &Call, answer: &Answer) -> bool
     ensures { result ≡ hands_on_of call.now answer.now }
 {
     match answer {
@@ -134,105 +132,93 @@ fn hands_on(call: &Call, answer: &Answer) -> bool
     }
 }
 
-/// A procedure runs, and then this is left.
-fn runs(procedure: u32, parameters: Parameters, frame: Frame, then: Item) -> Few
-    ensures { result ≡ Few.Two then (Item.Running (record { procedure = procedure; parameters = parameters; frame = frame })) }
+/// A procedure comes in the place of the last item, and behind it this.
+fn runs(items: &mut Vec<Item>, procedure: u32, parameters: Parameters, frame: Frame, behind: Item)
+    requires room { vec_len items.old + 1 ≤ vec_capacity items.old }
+    requires some { items.old.items ≢ [] }
+    ensures { (below : List Item) (item : Item) → items.old.items ≡ below ++ item ∷ [] → items.new.items ≡ below ++ behind ∷ Item.Running (record { procedure = procedure; parameters = parameters; frame = frame }) ∷ [] }
 {
+    put_one(items, behind);
     let run = Run {
         procedure,
         parameters,
         frame,
     };
-    Few::Two(then, Item::Running(run))
+    items.push_reserved(Item::Running(run));
 }
 
-/// What follows an answer that isn't handed on: after `wait` the same call.
-fn following(call: Call, answer: Answer) -> Few
-    ensures placeless { ArePlaceless (few_items result) }
-    ensures pieces { hands_on_of call answer ≡ false → above (few_items result) ≡ follows call answer }
+/// What comes behind a callback procedure: the same call, and behind that of a `leave` its answer.
+fn behind_callback(call: &Call, answer: &Answer) -> Item
+    ensures { result ≡ (if leaves_of call.now then Item.Giving answer.now else Item.Again call.now) }
 {
-    match answer {
-        Answer::Wait => Few::Single(Item::Making(call)),
-        Answer::Enter { send, proc_no, .. } => {
-            let message = told(&answer);
-            runs(proc_no, message, Frame::Entered(send), Item::Again(call))
-        }
-        Answer::Callback { proc_no, .. } => {
-            let message = told(&answer);
-            let again = Item::Again(call);
-            let then = if leaves(&call) {
-                Item::Giving(answer)
-            } else {
-                again
-            };
-            runs(proc_no, message, Frame::CallbackRun, then)
-        }
-        Answer::Inside(send, proc_no) => {
-            let giving = Item::Giving(answer);
-            runs(proc_no, parameters(&call), Frame::Inside(send), giving)
-        }
-        Answer::Called(proc_no) => {
-            let giving = Item::Giving(answer);
-            runs(proc_no, parameters(&call), Frame::Called, giving)
-        }
-        Answer::Begun(send) => Few::Single(Item::Making(Call::Await(u64::from(send.0)))),
-        _ => Few::Nothing,
+    if leaves(call) {
+        Item::Giving(*answer)
+    } else {
+        Item::Again(*call)
     }
 }
 
-/// The items of what follows, in the place of the last.
+/// What follows an answer that isn't handed on, in the place of the last item: after `wait` the same call.
 fn goes_on(items: &mut Vec<Item>, call: &Call, answer: &Answer)
     requires room { vec_len items.old + 4 ≤ vec_capacity items.old }
     requires some { items.old.items ≢ [] }
     ensures { (below : List Item) (item : Item) → items.old.items ≡ below ++ item ∷ [] → hands_on_of call.now answer.now ≡ false → (few : List Item) × (items.new.items ≡ below ++ few) × ArePlaceless few × (above few ≡ follows call.now answer.now) }
 {
-    let few = following(*call, *answer);
-    set_last(items, &few);
-}
-
-/// Whether the last item is a statement's call, and the answer is handed on to the statement.
-pub fn ends_statement(items: &[Item], call: &Call, answer: &Answer) -> bool
-    ensures { IsTrue result → Last items.now IsStating × (hands_on_of call.now answer.now ≡ true) }
-{
-    match items.last() {
-        Some(Item::Stating(_)) => hands_on(call, answer),
-        _ => false,
+    match answer {
+        Answer::Wait => put_one(items, Item::Making(*call)),
+        Answer::Begun(send) => put_one(items, Item::Making(Call::Await(u64::from(send.0)))),
+        Answer::Enter { send, proc_no, .. } => {
+            let behind = Item::Again(*call);
+            runs(items, *proc_no, told(answer), Frame::Entered(*send), behind);
+        }
+        Answer::Callback { proc_no, .. } => {
+            let behind = behind_callback(call, answer);
+            runs(items, *proc_no, told(answer), Frame::CallbackRun, behind);
+        }
+        Answer::Inside(send, proc_no) => {
+            let behind = Item::Giving(*answer);
+            runs(
+                items,
+                *proc_no,
+                parameters(call),
+                Frame::Inside(*send),
+                behind,
+            );
+        }
+        Answer::Called(proc_no) => {
+            let behind = Item::Giving(*answer);
+            runs(items, *proc_no, parameters(call), Frame::Called, behind);
+        }
+        _ => drop_last(items),
     }
 }
 
 /// The statement whose call was answered is over.
-pub fn end_statement(
-    items: &mut Vec<Item>,
-    call: &Call,
-    answer: &Answer,
-    variables: &mut Variables,
-    mode: &mut Mode,
-)
-    requires { items.old.items ≢ [] }
-    ensures items { (below : List Item) (item : Item) → items.old.items ≡ below ++ item ∷ [] → items.new.items ≡ below }
-    ensures state { state_of variables.new mode.new ≡ Going (settled (received variables.old answer.now) call.now answer.now (result_of_answer answer.now)) }
+pub fn end_statement(call: &Call, answer: &Answer, variables: &mut Variables)
+    ensures { variables.new ≡ settled (received variables.old answer.now) call.now answer.now (result_of_answer answer.now) }
 {
     variables.receive(answer);
     variables.settle(call, answer, result_of(answer));
-    *mode = Mode::Going;
-    drop_last(items);
 }
 
-/// A statement's call stands apart from what it sets.
-pub fn separate(items: &mut Vec<Item>)
-    requires room { vec_len items.old + 5 ≤ vec_capacity items.old }
+/// The call of a statement stands apart from what it sets, and from the place behind it.
+pub fn separate(items: &mut Vec<Item>, next: &mut Next, call: Call)
+    requires no_line { IsNoLine next.old }
+    requires room { vec_len items.old + 7 ≤ vec_capacity items.old }
     ensures room { vec_len items.new + 4 ≤ vec_capacity items.new }
-    ensures items { (below : List Item) (item : Item) → items.old.items ≡ below ++ item ∷ [] → items.new.items ≡ below ++ apart item }
+    ensures items { items.new.items ≡ with_next items.old.items call next.old }
+    ensures next { next.new ≡ Next.Top }
 {
-    let Some(Item::Stating(call)) = items.last() else {
-        return;
-    };
-    let call = *call;
-    put_one(items, Item::Settle(call));
-    items.push_reserved(Item::Making(call));
+    if let Next::Stating(at) = *next {
+        items.push_reserved(Item::At(at));
+        items.push_reserved(Item::Settle(call));
+        items.push_reserved(Item::Making(call));
+        *next = Next::Top;
+    }
 }
 
 /// What follows a call and its answer, in the place of the item that made the call.
+#[inline(never)]
 pub fn follow(
     items: &mut Vec<Item>,
     call: &Call,

@@ -1,10 +1,10 @@
-//! The last of a list of items, and what is next above them.
+//! The last of a list of items.
 
 ghost use Rattle.std.specs.Prelude.{◌≡◌, ◌≢◌, ◌+◌, ◌≤◌, [], ◌∷◌, ◌++◌, List, vec_len, vec_capacity, IsOk, OnOk, OnErr};
 ghost use Rattle.script_proc.specs.declared.item.Item.{Item};
-ghost use Rattle.script_proc.specs.Items.{few_items, with_next, FitsNext};
+ghost use Rattle.script_proc.specs.Items.{few_items};
 
-use crate::item::{Few, Item, Next};
+use crate::item::{Few, Item};
 use std::alloc::AllocError;
 
 /// Takes the last item away.
@@ -26,44 +26,24 @@ pub fn put_one(items: &mut Vec<Item>, first: Item)
     items[last] = first;
 }
 
-/// Puts what is next above the items.
-fn put_back(items: &mut Vec<Item>, next: Next)
-    requires fits { FitsNext next (vec_len items.old) (vec_capacity items.old) }
-    ensures { items.new.items ≡ with_next items.old.items next }
+/// Takes room for seven items more.
+pub fn take_room(items: &mut Vec<Item>) -> Result<(), AllocError>
+    ensures room { OnOk result (vec_len items.new + 7 ≤ vec_capacity items.new) }
+    ensures items { items.new.items ≡ items.old.items }
 {
-    match next {
-        Next::Top => {}
-        Next::Line(at) => items.push_reserved(Item::At(at)),
-        Next::Loop(at) => items.push_reserved(Item::Once(at)),
-    }
-}
-
-/// Takes room for five items more, or puts what is next above the items.
-pub fn take_room(items: &mut Vec<Item>, next: Next) -> Result<(), AllocError>
-    requires fits { FitsNext next (vec_len items.old) (vec_capacity items.old) }
-    ensures room { OnOk result (vec_len items.new + 5 ≤ vec_capacity items.new) }
-    ensures ok { OnOk result (items.new.items ≡ items.old.items) }
-    ensures err { OnErr result (items.new.items ≡ with_next items.old.items next) }
-{
-    if items.capacity() - items.len() >= 5 {
+    if items.capacity() - items.len() >= 7 {
         return Ok(());
     }
-    make_room(items, next)
+    make_room(items)
 }
 
 /// The same where there is no such room yet.
 #[inline(never)]
-fn make_room(items: &mut Vec<Item>, next: Next) -> Result<(), AllocError>
-    requires fits { FitsNext next (vec_len items.old) (vec_capacity items.old) }
-    ensures room { OnOk result (vec_len items.new + 5 ≤ vec_capacity items.new) }
-    ensures ok { OnOk result (items.new.items ≡ items.old.items) }
-    ensures err { OnErr result (items.new.items ≡ with_next items.old.items next) }
+fn make_room(items: &mut Vec<Item>) -> Result<(), AllocError>
+    ensures room { OnOk result (vec_len items.new + 7 ≤ vec_capacity items.new) }
+    ensures items { items.new.items ≡ items.old.items }
 {
-    if items.reserve(5).is_err() {
-        put_back(items, next);
-        return Err(AllocError);
-    }
-    Ok(())
+    items.reserve(7)
 }
 
 /// Puts a few items in the place of the last.

@@ -71,7 +71,7 @@ fn ask<T: Teller>(worker: &mut Worker, teller: &mut T, call: Call) -> Result<Tur
 {
     match teller.turn(worker.thread(), call)? {
         Told::Answered(answer) => {
-            worker.take(call, answer);
+            worker.take(&call, &answer);
             Ok(Turn::Went)
         }
         Told::Barred => Ok(Turn::Idle),

@@ -6,12 +6,12 @@ ghost use Rattle.script_tree.specs.Pieces.{Trace};
 ghost use Rattle.script_tree.specs.Traces.{IsTrace};
 ghost use Rattle.script_proc.specs.declared.program.Program.{Program};
 ghost use Rattle.script_proc.specs.Programs.{IsProgramOf};
-ghost use Rattle.script_proc.specs.Items.{state_of, IsReady, KeepsAll};
+ghost use Rattle.script_proc.specs.Items.{state_at, mode_at, with_next, IsNoLine, IsReady, KeepsAll};
 
 use crate::item::{Item, Mode, Next};
-use crate::places::{line_at, once, step};
+use crate::places::{hand_nothing, line_at, step};
 use crate::program::Program;
-use crate::replies::{asked, end_statement, ends_statement, follow, is_asking, separate};
+use crate::replies::{asked, end_statement, follow, hands_on, is_asking, separate};
 use crate::top::take_room;
 use script_tree::Variables;
 use std::alloc::{AllocError, Global};
@@ -25,6 +25,8 @@ pub struct Worker {
     thread: u8,
     variables: Variables,
     mode: Mode,
+    next: Next,
+    call: Call,
     items: Vec<Item>,
     used: u32,
 }
@@ -39,11 +41,12 @@ impl Worker {
     {
         let mut items = Vec::new(alloc);
         items.push(Item::Making(Call::EndThread))?;
-        items.push(Item::At(program.thread(thread)))?;
         Ok(Worker {
             thread,
             variables: Variables::start(),
             mode: Mode::Going,
+            next: Next::Line(program.thread(thread)),
+            call: Call::EndThread,
             items,
             used: 0,
         })
@@ -78,34 +81,33 @@ impl Worker {
             &mut self.items,
             &mut self.variables,
             &mut self.mode,
+            &mut self.next,
+            &mut self.call,
             self.used,
         )
     }
 
     /// Takes the answer to its next call, which is one entry more.
-    pub fn take(&mut self, call: Call, answer: Answer)
-        requires at { IsAt self.old (Some call) }
+    pub fn take(&mut self, call: &Call, answer: &Answer)
+        requires at { IsAt self.old (Some call.now) }
         requires room { uses self.old + 1 < 2 ^ 32 }
-        ensures worker { (s : Tree) (p : Program) (t : ℕ) (tr : Trace) → IsWorkerOf s p t tr self.old → IsWorkerOf s p t (tr ++ (call, answer) ∷ []) self.new }
+        ensures worker { (s : Tree) (p : Program) (t : ℕ) (tr : Trace) → IsWorkerOf s p t tr self.old → IsWorkerOf s p t (tr ++ (call.now, answer.now) ∷ []) self.new }
         ensures used { uses self.new ≡ uses self.old + 1 }
         ensures thread { thread_of self.new ≡ thread_of self.old }
     {
         self.used += 1;
-        if ends_statement(&self.items, &call, &answer) {
-            end_statement(
-                &mut self.items,
-                &call,
-                &answer,
-                &mut self.variables,
-                &mut self.mode,
-            );
-            return;
+        if let Next::Stating(at) = self.next {
+            if hands_on(call, answer) {
+                end_statement(call, answer, &mut self.variables);
+                self.next = Next::Line(at);
+                return;
+            }
         }
-        separate(&mut self.items);
+        separate(&mut self.items, &mut self.next, self.call);
         follow(
             &mut self.items,
-            &call,
-            &answer,
+            call,
+            answer,
             &mut self.variables,
             &mut self.mode,
         );
@@ -119,18 +121,23 @@ fn settle(
     items: &mut Vec<Item>,
     variables: &mut Variables,
     mode: &mut Mode,
+    next: &mut Next,
+    call: &mut Call,
     used: u32,
 ) -> Result<Option<Call>, AllocError>
-    ensures kept { (s : Tree) → IsProgramOf s program.now → KeepsAll s program.now used items.old.items (state_of variables.old mode.old) items.new.items (state_of variables.new mode.new) }
-    ensures ready { IfOk result (IsReady items.new.items mode.new) }
-    ensures room { OnOk result (vec_len items.new + 5 ≤ vec_capacity items.new) }
+    ensures kept { (s : Tree) → IsProgramOf s program.now → KeepsAll s program.now used (with_next items.old.items call.old next.old) (state_at variables.old mode.old next.old) (with_next items.new.items call.new next.new) (state_at variables.new mode.new next.new) }
+    ensures ready { IfOk result (IsReady (with_next items.new.items call.new next.new) (mode_at mode.new next.new)) }
+    ensures no_line { OnOk result (IsNoLine next.new) }
+    ensures room { OnOk result (vec_len items.new + 7 ≤ vec_capacity items.new) }
 {
-    let mut next = Next::Top;
     'steps: loop {
-        take_room(items, next)?;
-        match next {
-            Next::Line(at) => next = line_at(program, items, at, variables, mode, used),
-            Next::Loop(at) => next = once(program, items, at, variables, used),
+        take_room(items)?;
+        match *next {
+            Next::Line(at) => {
+                hand_nothing(mode);
+                *next = line_at(program, items, at, variables, mode, call, used);
+            }
+            Next::Stating(_) => return Ok(Some(*call)),
             Next::Top => {
                 let Some(item) = items.last() else {
                     return Ok(None);
@@ -138,7 +145,7 @@ fn settle(
                 if is_asking(item, mode) {
                     return Ok(Some(asked(item, mode)));
                 }
-                next = step(program, items, variables, mode, used);
+                *next = step(program, items, variables, mode, call, used);
             }
         }
     }

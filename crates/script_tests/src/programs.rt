@@ -275,7 +275,7 @@ fn makes(
         let next = worker.next_call(&program)?;
         assert!(rt; next == Some(*call));
         if let Some(asked) = next {
-            worker.take(asked, *answer);
+            worker.take(&asked, answer);
         }
     }
     assert!(rt; worker.next_call(&program)? == None);

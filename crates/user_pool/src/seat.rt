@@ -59,7 +59,7 @@ impl Seat {
             unreachable!();
         };
         let answer = machine.step(Thread(actor), call)?;
-        self.worker.take(call, answer);
+        self.worker.take(&call, &answer);
         self.ended = ended_by(self.ended, answer);
         Ok(())
     }

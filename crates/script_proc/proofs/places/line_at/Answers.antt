@@ -1,17 +1,18 @@
 use Rattle.std.proofs.Common.{◌≤◌, ◌+◌, ◌^◌, ◌-◌, min, [], ◌∷◌, length, Some, refl, sym, ap, ◌∙◌, arith, append-nil}
 use Rattle.std.specs.Prelude.{slice_get, if◌then◌else◌}
 use Rattle.std.proofs.lemmas.Option.{slice_get_read, slice_get_past}
-use Rattle.script_tree.specs.Pieces.{Going}
+use Rattle.script_tree.specs.Pieces.{Going, Becomes}
+use Rattle.script_tree.specs.Steps.{statement}
 use Rattle.script_tree.specs.Values.{holds}
-use Rattle.script_proc.specs.declared.item.Item.TheVariants.{At, PassEnd, Stating}
-use Rattle.script_proc.specs.declared.program.Line.TheVariants.{Call}
+use Rattle.script_proc.specs.declared.item.Item.TheVariants.{At, PassEnd, Settle, Making}
+use Rattle.script_proc.specs.declared.program.Line.TheVariants.{Call, Return}
 use Rattle.script_proc.specs.Items.{state_of}
-use Rattle.script_proc.proofs.StandLaws.{IsSimple, is_simple, is_compound, is_quiet}
-use Rattle.script_proc.proofs.ItemLaws.{past_moves, then_moves, otherwise_moves, else_moves, while_moves, end_moves, simple_moves, call_moves, in_going}
+use Rattle.script_proc.proofs.StandLaws.{IsSimple, is_simple, is_compound, is_setting}
+use Rattle.script_proc.proofs.ItemLaws.{past_moves, then_moves, otherwise_moves, else_moves, while_moves, end_moves, simple_moves, in_going}
 use Rattle.script_proc.proofs.places.line_at.Goals as goal
 
-pub returns-in_default-clause-steps : goal.returns-in_default-clause-steps
-returns-in_default-clause-steps c =
+pub returns-in_default : goal.returns-in_default
+returns-in_default c =
     let below = c.args.items.now.items in
     let p = c.args.program.now in
     let n = c.args.used in
@@ -27,8 +28,8 @@ returns-in_default-clause-steps c =
       moves = in_going p n (At at) [] (Going v) v c.args.mode.now c.requires.going (past_moves p n at v found);
     }
 
-pub returns-then-holds-clause-steps : goal.returns-then-holds-clause-steps
-returns-then-holds-clause-steps c =
+pub returns-then-holds : goal.returns-then-holds
+returns-then-holds c =
     let below = c.args.items.now.items in
     let p = c.args.program.now in
     let n = c.args.used in
@@ -42,11 +43,11 @@ returns-then-holds-clause-steps c =
       few = At (at + 1) ∷ [];
       last = refl;
       put = refl;
-      moves = in_going p n (At at) (At (at + 1) ∷ []) (Going v) v c.args.mode.now c.requires.going (then_moves p n at c.in-If.test c.in-If.passed v found (sym c.holds.ensures ∙ c.if-holds.true));
+      moves = then_moves p n at c.in-If.test c.in-If.passed v found (sym c.holds.ensures ∙ c.if-holds.true);
     }
 
-pub returns-else-holds-clause-steps : goal.returns-else-holds-clause-steps
-returns-else-holds-clause-steps c =
+pub returns-else-holds : goal.returns-else-holds
+returns-else-holds c =
     let below = c.args.items.now.items in
     let p = c.args.program.now in
     let n = c.args.used in
@@ -61,11 +62,11 @@ returns-else-holds-clause-steps c =
       few = At c.behind.result ∷ [];
       last = refl;
       put = refl;
-      moves = in_going p n (At at) (At c.behind.result ∷ []) (Going v) v c.args.mode.now c.requires.going (otherwise_moves p n at c.in-If.test c.in-If.passed (2 ^ 64 - 1) c.behind.result v found (sym c.holds.ensures ∙ c.if-holds.false) short c.behind.ensures);
+      moves = otherwise_moves p n at c.in-If.test c.in-If.passed (2 ^ 64 - 1) c.behind.result v found (sym c.holds.ensures ∙ c.if-holds.false) short c.behind.ensures;
     }
 
-pub returns-in-Else-clause-steps : goal.returns-in-Else-clause-steps
-returns-in-Else-clause-steps c =
+pub returns-in-Else : goal.returns-in-Else
+returns-in-Else c =
     let below = c.args.items.now.items in
     let p = c.args.program.now in
     let n = c.args.used in
@@ -80,11 +81,11 @@ returns-in-Else-clause-steps c =
       few = At c.behind-in-Else.result ∷ [];
       last = refl;
       put = refl;
-      moves = in_going p n (At at) (At c.behind-in-Else.result ∷ []) (Going v) v c.args.mode.now c.requires.going (else_moves p n at c.in-Else.passed (2 ^ 64 - 1) c.behind-in-Else.result v found short c.behind-in-Else.ensures);
+      moves = else_moves p n at c.in-Else.passed (2 ^ 64 - 1) c.behind-in-Else.result v found short c.behind-in-Else.ensures;
     }
 
-pub returns-in-While-clause-steps : goal.returns-in-While-clause-steps
-returns-in-While-clause-steps c =
+pub returns-in-While : goal.returns-in-While
+returns-in-While c =
     let below = c.args.items.now.items in
     let p = c.args.program.now in
     let n = c.args.used in
@@ -100,12 +101,12 @@ returns-in-While-clause-steps c =
       item = At at;
       few = few;
       last = refl;
-      put = c.while_at.ensures.items;
-      moves = in_going p n (At at) few (Going v) v c.args.mode.now c.requires.going (while_moves p n at c.in-While.test c.in-While.passed (2 ^ 64 - 1) next v found short refl);
+      put = c.while_at.ensures;
+      moves = while_moves p n at c.in-While.test c.in-While.passed (2 ^ 64 - 1) next v found short refl;
     }
 
-pub returns-in-End-clause-steps : goal.returns-in-End-clause-steps
-returns-in-End-clause-steps c =
+pub returns-in-End : goal.returns-in-End
+returns-in-End c =
     let below = c.args.items.now.items in
     let p = c.args.program.now in
     let n = c.args.used in
@@ -122,8 +123,8 @@ returns-in-End-clause-steps c =
       moves = in_going p n (At at) [] (Going v) v c.args.mode.now c.requires.going (end_moves p n at v found);
     }
 
-pub returns-in-Call-clause-steps : goal.returns-in-Call-clause-steps
-returns-in-Call-clause-steps c =
+pub returns-in-Call : goal.returns-in-Call
+returns-in-Call c =
     let below = c.args.items.now.items in
     let p = c.args.program.now in
     let n = c.args.used in
@@ -132,18 +133,18 @@ returns-in-Call-clause-steps c =
     let a = c.in-Some.ensures.lookup in
     let found = ap (λ xs. slice_get xs c.args.at) (sym c.lines.ensures) ∙ slice_get_read c.lines.result.now _ c.args.at c.in-Some.line.now refl a.3.0 a.1 ∙ ap Some c.in-Call.is in
     let call = c.called.result in
-    let few = Stating call ∷ [] in
+    let few = Settle call ∷ Making call ∷ [] in
     record {
       below = below;
       item = At at;
       few = At (at + 1) ∷ few;
       last = refl;
-      put = c.calls.ensures;
-      moves = in_going p n (At at) (At (at + 1) ∷ few) (Going v) v c.args.mode.now c.requires.going (call_moves p n at (Call c.in-Call.statement) call v found tt c.called.ensures);
+      put = refl;
+      moves = simple_moves p n at (Call c.in-Call.statement) few (At (at + 1) ∷ few) v (Going v) found tt (tt, (tt, tt)) refl c.called.ensures;
     }
 
-pub returns-in-Let-clause-steps : goal.returns-in-Let-clause-steps
-returns-in-Let-clause-steps c =
+pub returns-in-Let : goal.returns-in-Let
+returns-in-Let c =
     let below = c.args.items.now.items in
     let p = c.args.program.now in
     let n = c.args.used in
@@ -152,18 +153,36 @@ returns-in-Let-clause-steps c =
     let a = c.in-Some.ensures.lookup in
     let found = ap (λ xs. slice_get xs c.args.at) (sym c.lines.ensures) ∙ slice_get_read c.lines.result.now _ c.args.at c.in-Some.line.now refl a.3.0 a.1 in
     let line = c.in-Some.line.now in
-    let kind = is_quiet line c.in-Let.is in
+    let kind = is_setting line c.in-Let.is in
     record {
       below = below;
       item = At at;
       few = At (at + 1) ∷ [];
       last = refl;
-      put = c.behind_quiet.ensures.items;
-      moves = simple_moves p n at line [] (At (at + 1) ∷ []) v (state_of c.quiet.new.variables c.quiet.new.mode) found kind.1 tt refl (λ line' k. c.quiet.ensures line' k kind.0);
+      put = refl;
+      moves = simple_moves p n at line [] (At (at + 1) ∷ []) v (Going c.sets.new.variables) found kind.1 tt refl (λ line' k. c.sets.ensures line' k kind.0);
     }
 
-pub returns-in_default-line-clause-steps : goal.returns-in_default-line-clause-steps
-returns-in_default-line-clause-steps c =
+pub returns-in-Return : goal.returns-in-Return
+returns-in-Return c =
+    let below = c.args.items.now.items in
+    let p = c.args.program.now in
+    let n = c.args.used in
+    let v = c.args.variables.now in
+    let at = c.args.at in
+    let a = c.in-Some.ensures.lookup in
+    let found = ap (λ xs. slice_get xs c.args.at) (sym c.lines.ensures) ∙ slice_get_read c.lines.result.now _ c.args.at c.in-Some.line.now refl a.3.0 a.1 ∙ ap Some c.in-Return.is in
+    record {
+      below = below;
+      item = At at;
+      few = At (at + 1) ∷ [];
+      last = refl;
+      put = c.returns.ensures.items;
+      moves = simple_moves p n at (Return c.in-Return.operand) [] (At (at + 1) ∷ []) v (state_of v c.returns.new.mode) found tt tt refl (λ line' k says. ap (λ m. Becomes [] (state_of v m)) c.returns.ensures.mode ∙ ap (λ l. statement l v k) (sym says));
+    }
+
+pub returns-in_default-line : goal.returns-in_default-line
+returns-in_default-line c =
     let below = c.args.items.now.items in
     let p = c.args.program.now in
     let n = c.args.used in

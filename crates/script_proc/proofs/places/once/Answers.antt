@@ -2,12 +2,13 @@ use Rattle.std.proofs.Common.{◌≤◌, ◌+◌, ◌^◌, ◌-◌, min, [], ◌
 use Rattle.std.specs.Prelude.{slice_get, if◌then◌else◌}
 use Rattle.std.proofs.lemmas.Option.{slice_get_read, slice_get_past}
 use Rattle.script_tree.specs.Values.{holds}
+use Rattle.script_tree.specs.Pieces.{Going}
 use Rattle.script_proc.specs.declared.item.Item.TheVariants.{At, Once, PassEnd}
-use Rattle.script_proc.proofs.ItemLaws.{once_moves, no_loop_moves, same_line}
+use Rattle.script_proc.proofs.ItemLaws.{once_moves, no_loop_moves, same_line, in_going}
 use Rattle.script_proc.proofs.places.once.Goals as goal
 
-pub returns-in_default-clause-steps : goal.returns-in_default-clause-steps
-returns-in_default-clause-steps c =
+pub returns-in_default : goal.returns-in_default
+returns-in_default c mode call going =
     let below = c.args.items.now.items in
     let p = c.args.program.now in
     let n = c.args.used in
@@ -20,11 +21,11 @@ returns-in_default-clause-steps c =
       few = [];
       last = refl;
       put = sym (append-nil below);
-      moves = no_loop_moves p n at v (λ t k e. absurd (let g = sym found ∙ e in cc));
+      moves = in_going p n (Once at) [] (Going v) v mode going (no_loop_moves p n at v (λ t k e. absurd (let g = sym found ∙ e in cc)));
     }
 
-pub returns-in-While-clause-steps : goal.returns-in-While-clause-steps
-returns-in-While-clause-steps c =
+pub returns-in-While : goal.returns-in-While
+returns-in-While c mode call going =
     let below = c.args.items.now.items in
     let p = c.args.program.now in
     let n = c.args.used in
@@ -40,12 +41,12 @@ returns-in-While-clause-steps c =
       item = Once at;
       few = few;
       last = refl;
-      put = c.while_at.ensures.items;
+      put = c.while_at.ensures;
       moves = once_moves p n at c.in-While.test c.in-While.passed (2 ^ 64 - 1) next v found short refl;
     }
 
-pub returns-in_default-line-clause-steps : goal.returns-in_default-line-clause-steps
-returns-in_default-line-clause-steps c =
+pub returns-in_default-line : goal.returns-in_default-line
+returns-in_default-line c mode call going =
     let below = c.args.items.now.items in
     let p = c.args.program.now in
     let n = c.args.used in
@@ -59,5 +60,5 @@ returns-in_default-line-clause-steps c =
       few = [];
       last = refl;
       put = sym (append-nil below);
-      moves = no_loop_moves p n at v (λ t k e. c.in_default-line.not-While t k (same_line (sym found ∙ e)));
+      moves = in_going p n (Once at) [] (Going v) v mode going (no_loop_moves p n at v (λ t k e. c.in_default-line.not-While t k (same_line (sym found ∙ e))));
     }

@@ -15,7 +15,7 @@ returns c s of =
     let t = c.args.thread in
     let at = c.thread.result in
     let body = Lines (body_of s t) in
-    let items = c.in_ok-push-2.ensures.items ∙ ap (λ (xs : List Item). xs ++ At at ∷ []) (c.in_ok-push.ensures.items ∙ ap (λ (xs : List Item). xs ++ MakingItem EndThread ∷ []) c.new-items.ensures.items) in
+    let items = ap (λ (xs : List Item). xs ++ At at ∷ []) (c.in_ok-push.ensures.items ∙ ap (λ (xs : List Item). xs ++ MakingItem EndThread ∷ []) c.new-items.ensures.items) in
     let begins = subst (λ k. Stands (lines_at p k) (body ∷ [])) (sym c.thread.ensures) (of.threads t) in
     record {
       program = of;

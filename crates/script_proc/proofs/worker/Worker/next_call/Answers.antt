@@ -1,3 +1,4 @@
+use Rattle.script_proc.specs.Items.{mode_at, with_next}
 use Rattle.script_proc.proofs.Workings.{next_ends}
 use Rattle.script_proc.proofs.worker.Worker.next_call.Goals as goal
 
@@ -16,4 +17,4 @@ returns-clause-worker c s t tr h =
     }
 
 pub returns-clause-next : goal.returns-clause-next
-returns-clause-next c = next_ends c.args.program.now c.args.self.now c.settle.new.items.items c.settle.new.variables c.settle.new.mode c.settle.result c.settle.ensures.kept c.settle.ensures.ready
+returns-clause-next c = next_ends c.args.program.now c.args.self.now (with_next c.settle.new.items.items c.settle.new.call c.settle.new.next) c.settle.new.variables (mode_at c.settle.new.mode c.settle.new.next) c.settle.result c.settle.ensures.kept c.settle.ensures.ready
