@@ -1,17 +1,12 @@
 -- The last of a list of items.
-use Rattle.std.proofs.Common.{◌≡◌, ℕ, suc, ◌-◌, ◌<◌, get_or, sym, subst, List, [], ◌∷◌, ◌++◌, length, take, Result, Ok, Err, IsOk, refl, ap, ◌∙◌, arith, append_assoc, length-append}
-use Rattle.std.specs.Prelude.{slice_get, slice_set, Some, is_ok, if◌then◌else◌}
+use Rattle.std.proofs.Common.{◌≡◌, ℕ, suc, ◌-◌, ◌<◌, get_or, sym, subst, List, [], ◌∷◌, ◌++◌, length, take, refl, ap, ◌∙◌, arith, length-append}
+use Rattle.std.specs.Prelude.{slice_get, slice_set, Some}
 
 set_seam : {A : Type 0} (below : List A) (item : A) (rest : List A) (a : A) → slice_set (below ++ item ∷ rest) (length below) a ≡ below ++ a ∷ rest
 set_seam [] item rest a = refl
 set_seam (x ∷ below) item rest a = ap (λ xs. x ∷ xs) (set_seam below item rest a)
 
--- the last replaced, with more on top of it
-pub set_last : {A : Type 0} (xs below : List A) (item : A) (rest : List A) (a : A) (n : ℕ) → xs ≡ below ++ item ∷ [] → n ≡ length xs → slice_set (xs ++ rest) (n - 1) a ≡ below ++ a ∷ rest
-set_last xs below item rest a n e h =
-    let place : n - 1 ≡ length below = omega (arith, ap length e, length-append below (item ∷ [])) in
-    ap (λ ys. slice_set (ys ++ rest) (n - 1) a) e ∙ ap (λ ys. slice_set ys (n - 1) a) (append_assoc below (item ∷ []) rest) ∙ ap (λ k. slice_set (below ++ item ∷ rest) k a) place ∙ set_seam below item rest a
-
+-- the last replaced
 pub set_only : {A : Type 0} (xs below : List A) (item a : A) (n : ℕ) → xs ≡ below ++ item ∷ [] → n ≡ length xs → slice_set xs (n - 1) a ≡ below ++ a ∷ []
 set_only xs below item a n e h =
     let place : n - 1 ≡ length below = omega (arith, ap length e, length-append below (item ∷ [])) in
@@ -41,11 +36,6 @@ last_at (x ∷ y ∷ xs) d h =
     let r = last_at (y ∷ xs) d (omega arith) in
     let on : length (x ∷ y ∷ xs) - 1 ≡ suc (length (y ∷ xs) - 1) = omega arith in
     (x ∷ r.0, ap (λ zs. x ∷ zs) r.1 ∙ ap (λ k. x ∷ (r.0 ++ get_or (x ∷ y ∷ xs) k d ∷ [])) (sym on))
-
--- what succeeds appends
-pub grown : {A X E : Type 0} (r : Result X E) (a b new : List A) → IsOk r → new ≡ (if is_ok r then a else b) → new ≡ a
-grown (Ok x) a b new h e = e
-grown (Err x) a b new h e = absurd cc
 
 -- a list has one last element
 pub same_last : {A : Type 0} (below under : List A) (item other : A) → below ++ item ∷ [] ≡ under ++ other ∷ [] → item ≡ other

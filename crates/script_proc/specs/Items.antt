@@ -101,11 +101,6 @@ abbrev pub IsNoLine : Next → Type 0
 IsNoLine (LineNext at) = ⊥
 IsNoLine next = Unit {0}
 
--- at most four items
-abbrev pub IsAtMostFour : Few → Type 0
-IsAtMostFour (Five a b c d e) = ⊥
-IsAtMostFour few = Unit {0}
-
 -- an item that stands for one piece, without a place in the program, and doesn't lead to one
 abbrev pub IsPlain : Item → Type 0
 IsPlain (At at) = ⊥

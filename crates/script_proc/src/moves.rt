@@ -6,11 +6,11 @@ ghost use Rattle.script_tree.specs.declared.statement.Statement.{Statement};
 ghost use Rattle.script_tree.specs.Values.{settled as settled_of};
 ghost use Rattle.script_tree.specs.Pieces.{Settle, Left, Leaving, Going, Becomes};
 ghost use Rattle.script_tree.specs.Compounds.{default_result};
-ghost use Rattle.script_tree.specs.Steps.{statement as statement_of, step, begins, returns_to, takes, goes_on, sleeps as sleeps_of, default_pieces, is_callback as is_callback_of};
+ghost use Rattle.script_tree.specs.Steps.{statement as statement_of, step, begins, returns_to, takes, goes_on, sleeps as sleeps_of, default_pieces};
 ghost use Rattle.script_tree.specs.declared.variables.Variables.{Variables};
 ghost use Rattle.script_proc.specs.Programs.{Says, IsSetting, IsCompound};
 ghost use Rattle.script_proc.specs.declared.item.Item.{Item};
-ghost use Rattle.script_proc.specs.Items.{piece, above, few_items, state_of, IsAtMostFour, IsPlain, ArePlain, IsSilent, IsSettling, IsThrough, IsWaiting, IsWaitingIn};
+ghost use Rattle.script_proc.specs.Items.{piece, above, few_items, state_of, IsPlain, ArePlain, IsSilent, IsSettling, IsThrough, IsWaiting, IsWaitingIn};
 
 use crate::item::{Few, Item, Mode};
 use crate::program::Line;
@@ -20,7 +20,6 @@ use win_num::Frame;
 
 /// The statement `default` (Microsoft, DefWindowProc function).
 fn default_statement(parameters: &Parameters) -> Few
-    ensures small { IsAtMostFour result }
     ensures plain { ArePlain (few_items result) }
     ensures pieces { above (few_items result) ≡ default_pieces parameters.now (Settle (Call.Doom parameters.now.hwnd) ∷ []) }
 {
@@ -52,13 +51,6 @@ fn default_end(run: Run) -> Few
             Few::Five(leaving, left, defaulting, feed, Item::Making(begin.call))
         }
     }
-}
-
-/// A call of a statement.
-fn makes(call: Call) -> Few
-    ensures { result ≡ Few.Two (Item.Settle call) (Item.Making call) }
-{
-    Few::Two(Item::Settle(call), Item::Making(call))
 }
 
 /// A compound of a statement begins, whose end sets `r` and `err` by that call.
@@ -104,7 +96,6 @@ pub fn called(statement: &CallStatement, variables: &Variables) -> Call
 
 /// What a statement does that begins a compound or a `sleep`, above the place behind it.
 pub fn statement(line: &Line, variables: &Variables) -> Few
-    ensures small { IsAtMostFour result }
     ensures plain { ArePlain (few_items result) }
     ensures step { (line' : Statement) (n : ℕ) → IsCompound line.now → Says line.now line' → Becomes (above (few_items result)) (Going variables.now) ≡ statement_of line' variables.now n }
 {
@@ -123,19 +114,6 @@ pub fn statement(line: &Line, variables: &Variables) -> Few
     }
 }
 
-fn is_callback(frame: Frame) -> bool
-    ensures { result ≡ is_callback_of frame }
-{
-    matches!(frame, Frame::CallbackRun)
-}
-
-/// The `leave` of a procedure with its result.
-fn leaves(run: Run, value: u64) -> Few
-    ensures { result ≡ Few.Two (Item.Left value) (Item.Leaves run.frame value) }
-{
-    Few::Two(Item::Left(value), Item::Leaves(run.frame, value))
-}
-
 /// The step of an item that gets nothing.
 fn going(item: &Item, variables: &mut Variables, mode: &mut Mode) -> Few
     requires going { mode.old ≡ Mode.Going }
@@ -146,8 +124,8 @@ fn going(item: &Item, variables: &mut Variables, mode: &mut Mode) -> Few
 {
     match *item {
         Item::Leaving(run) => {
-            if is_callback(run.frame) {
-                return leaves(run, 0);
+            if matches!(run.frame, Frame::CallbackRun) {
+                return Few::Two(Item::Left(0), Item::Leaves(run.frame, 0));
             }
             default_end(run)
         }
@@ -170,7 +148,10 @@ fn sleeps(ms: u64, answer: Answer, value: u64) -> Few
 {
     match answer {
         Answer::Refused(_) => Few::Nothing,
-        _ => makes(Call::SleepUntil(value.saturating_add(ms))),
+        _ => {
+            let call = Call::SleepUntil(value.saturating_add(ms));
+            Few::Two(Item::Settle(call), Item::Making(call))
+        }
     }
 }
 

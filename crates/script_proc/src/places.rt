@@ -6,15 +6,15 @@ ghost use Rattle.script_tree.specs.Pieces.{Going};
 ghost use Rattle.script_tree.specs.declared.variables.Variables.{Variables};
 ghost use Rattle.script_proc.specs.declared.program.Program.{Program};
 ghost use Rattle.script_proc.specs.declared.item.Item.{Item};
-ghost use Rattle.script_proc.specs.Items.{state_of, state_at, few_items, with_next, IsAtMostFour, IsPlain, IsSilent, IsWaitingIn};
+ghost use Rattle.script_proc.specs.Items.{state_of, state_at, with_next, IsPlain, IsSilent, IsWaitingIn};
 ghost use Rattle.script_proc.specs.declared.item.Mode.{Mode};
 ghost use Rattle.script_proc.specs.Works.{Last, Puts, Steps};
 ghost use Rattle.user_model.specs.declared.call.Call.{Call};
 
-use crate::item::{Few, Item, Mode, Next};
+use crate::item::{Item, Mode, Next};
 use crate::moves::{called, plain, sets, settled, statement, through};
 use crate::program::{Line, Program};
-use crate::top::{drop_last, put_one, set_last};
+use crate::top::{drop_last, push_few, put_one, set_last};
 use script_tree::{Operand, Run, Test, Variables};
 use user_model::Call;
 
@@ -24,21 +24,6 @@ fn behind(at: usize, passed: usize) -> usize
     ensures { result ≡ min (at + 1 + passed) (2 ^ 64 - 1) }
 {
     (at + 1).saturating_add(passed)
-}
-
-/// A few items over one more.
-fn on_top_of(below: Item, few: Few) -> Few
-    requires { IsAtMostFour few }
-    ensures { few_items result ≡ below ∷ few_items few }
-{
-    match few {
-        Few::Nothing => Few::Single(below),
-        Few::Single(a) => Few::Two(below, a),
-        Few::Two(a, b) => Few::Three(below, a, b),
-        Few::Three(a, b, c) => Few::Four(below, a, b, c),
-        Few::Four(a, b, c, d) => Few::Five(below, a, b, c, d),
-        Few::Five(_, _, _, _, _) => unreachable!(),
-    }
 }
 
 /// The `while` at a place: a pass comes next, or what stands behind it. The place of the line that comes
@@ -66,14 +51,12 @@ fn while_at(
 /// A statement that begins a compound or a `sleep`, over the place behind it.
 #[inline(never)]
 fn begins(items: &mut Vec<Item>, at: usize, line: &Line, variables: &Variables)
-    requires room { vec_len items.old + 5 ≤ vec_capacity items.old }
+    requires room { vec_len items.old + 6 ≤ vec_capacity items.old }
     requires short { at < 2 ^ 64 - 1 }
     ensures { Puts line.now at variables.now items.old.items items.new.items }
 {
-    let behind = Item::At(at + 1);
-    items.push_reserved(behind);
-    let few = on_top_of(behind, statement(line, variables));
-    set_last(items, &few);
+    items.push_reserved(Item::At(at + 1));
+    push_few(items, &statement(line, variables));
 }
 
 /// A `return`, over the place behind it.
@@ -115,7 +98,7 @@ pub fn line_at(
     used: u32,
 ) -> Next
     requires going { mode.old ≡ Mode.Going }
-    requires room { vec_len items.old + 5 ≤ vec_capacity items.old }
+    requires room { vec_len items.old + 6 ≤ vec_capacity items.old }
     ensures { Steps program.now used (items.old.items ++ Item.At at ∷ []) (Going variables.old) (with_next items.new.items call.new result) (state_at variables.new mode.new result) }
 {
     let Some(line) = program.lines().get(at) else {
@@ -287,7 +270,7 @@ fn going(
     used: u32,
 ) -> Next
     requires going { mode.old ≡ Mode.Going }
-    requires room { vec_len items.old + 5 ≤ vec_capacity items.old }
+    requires room { vec_len items.old + 6 ≤ vec_capacity items.old }
     requires some { items.old.items ≢ [] }
     requires silent { Last items.old.items (λ item. IsSilent item mode.old) }
     ensures { Steps program.now used items.old.items (Going variables.old) (with_next items.new.items call.new result) (state_at variables.new mode.new result) }
@@ -397,7 +380,7 @@ pub fn step(
     call: &mut Call,
     used: u32,
 ) -> Next
-    requires room { vec_len items.old + 5 ≤ vec_capacity items.old }
+    requires room { vec_len items.old + 6 ≤ vec_capacity items.old }
     requires some { items.old.items ≢ [] }
     requires silent { Last items.old.items (λ item. IsSilent item mode.old) }
     ensures { Steps program.now used items.old.items (state_of variables.old mode.old) (with_next items.new.items call.new result) (state_at variables.new mode.new result) }

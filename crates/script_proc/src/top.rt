@@ -1,6 +1,6 @@
 //! The last of a list of items.
 
-ghost use Rattle.std.specs.Prelude.{◌≡◌, ◌≢◌, ◌+◌, ◌≤◌, [], ◌∷◌, ◌++◌, List, vec_len, vec_capacity, IsOk, OnOk, OnErr};
+ghost use Rattle.std.specs.Prelude.{◌≡◌, ◌≢◌, ◌+◌, ◌≤◌, [], ◌∷◌, ◌++◌, List, vec_len, vec_capacity, OnOk};
 ghost use Rattle.script_proc.specs.declared.item.Item.{Item};
 ghost use Rattle.script_proc.specs.Items.{few_items};
 
@@ -46,44 +46,45 @@ fn make_room(items: &mut Vec<Item>) -> Result<(), AllocError>
     items.reserve(7)
 }
 
-/// Puts a few items in the place of the last.
-fn replace_last(items: &mut Vec<Item>, few: &Few) -> Result<(), AllocError>
-    requires { items.old.items ≢ [] }
-    ensures succeeds { vec_len items.old + 4 ≤ vec_capacity items.old → IsOk result }
-    ensures ok { OnOk result ((below : List Item) (item : Item) → items.old.items ≡ below ++ item ∷ [] → items.new.items ≡ below ++ few_items few.now) }
-    ensures err { OnErr result (items.new.items ≡ items.old.items) }
+/// Puts a few items above the others, where there is room.
+pub fn push_few(items: &mut Vec<Item>, few: &Few)
+    requires { vec_len items.old + 5 ≤ vec_capacity items.old }
+    ensures { items.new.items ≡ items.old.items ++ few_items few.now }
 {
-    let last = items.len() - 1;
     match *few {
-        Few::Nothing => {
-            items.pop();
-        }
-        Few::Single(first) => items[last] = first,
+        Few::Nothing => {}
+        Few::Single(first) => items.push_reserved(first),
         Few::Two(first, a) => {
-            items.extend_from_slice(&[a])?;
-            items[last] = first;
+            items.push_reserved(first);
+            items.push_reserved(a);
         }
         Few::Three(first, a, b) => {
-            items.extend_from_slice(&[a, b])?;
-            items[last] = first;
+            items.push_reserved(first);
+            items.push_reserved(a);
+            items.push_reserved(b);
         }
         Few::Four(first, a, b, c) => {
-            items.extend_from_slice(&[a, b, c])?;
-            items[last] = first;
+            items.push_reserved(first);
+            items.push_reserved(a);
+            items.push_reserved(b);
+            items.push_reserved(c);
         }
         Few::Five(first, a, b, c, d) => {
-            items.extend_from_slice(&[a, b, c, d])?;
-            items[last] = first;
+            items.push_reserved(first);
+            items.push_reserved(a);
+            items.push_reserved(b);
+            items.push_reserved(c);
+            items.push_reserved(d);
         }
     }
-    Ok(())
 }
 
-/// The same where there is room.
+/// Puts them in the place of the last.
 pub fn set_last(items: &mut Vec<Item>, few: &Few)
     requires room { vec_len items.old + 4 ≤ vec_capacity items.old }
     requires some { items.old.items ≢ [] }
     ensures { (below : List Item) (item : Item) → items.old.items ≡ below ++ item ∷ [] → items.new.items ≡ below ++ few_items few.now }
 {
-    let _ = replace_last(items, few);
+    drop_last(items);
+    push_few(items, few);
 }
