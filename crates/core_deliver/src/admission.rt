@@ -10,11 +10,11 @@ use win_num::{Code, Frame, Thread};
 
 /// Whether the top of the stack forbids the call: a wait allows only its own, to leave needs a procedure,
 /// and a thread ends with an empty stack.
-fn is_barred_by(call: Call, top: Option<Frame>) -> bool
-    ensures { result ≡ is_barred_by call top }
+fn is_barred_by(call: &Call, top: Option<Frame>) -> bool
+    ensures { result ≡ is_barred_by call.now top }
 {
     match top {
-        Some(Frame::Await(send)) => match call {
+        Some(Frame::Await(send)) => match *call {
             Call::Await(awaited) => u64::from(send.0) != awaited,
             _ => true,
         },
@@ -25,8 +25,9 @@ fn is_barred_by(call: Call, top: Option<Frame>) -> bool
 
 /// What keeps a thread from any call, before its arguments are looked at: `Full` where the history is
 /// full, else `NotNow` where it is no running thread or its stack forbids the call.
-pub fn admit(state: &CoreState, who: Thread, call: Call) -> Option<Code>
-    ensures { result ≡ admission state.now.setup state.now.past who.0 call }
+#[inline(always)]
+pub fn admit(state: &CoreState, who: Thread, call: &Call) -> Option<Code>
+    ensures { result ≡ admission state.now.setup state.now.past who.0 call.now }
 {
     if state.is_full() {
         return Some(Code::Full);

@@ -27,14 +27,14 @@ use user_model::{Answer, Call, Entry};
 use win_num::{Filter, Thread};
 
 /// The answer of a retrieval to a running thread, where its stack allows it.
-fn retrieval_row<L: Ledger>(state: &CoreState, who: u8, call: Call, steps: &mut Steps<L>) -> Answer
-    requires group { is_retrieval call ≡ true }
+fn retrieval_row<L: Ledger>(state: &CoreState, who: u8, call: &Call, steps: &mut Steps<L>) -> Answer
+    requires group { is_retrieval call.now ≡ true }
     requires some { 0 < who }
     requires known { who ≤ state.now.setup.threads }
-    ensures answer { result ≡ row state.now.setup state.now.past who call }
-    ensures reads { steps.new ≤ steps.old + reads_by state.now.past who call }
+    ensures answer { result ≡ row state.now.setup state.now.past who call.now }
+    ensures reads { steps.new ≤ steps.old + reads_by state.now.past who call.now }
 {
-    match call {
+    match *call {
         Call::Peek(hwnd, min, max, flags) => {
             peek_answer(state, who, Filter { hwnd, min, max }, flags, steps)
         }
@@ -44,15 +44,15 @@ fn retrieval_row<L: Ledger>(state: &CoreState, who: u8, call: Call, steps: &mut 
 }
 
 /// The answer of a call of delivery to a running thread, where its stack allows it.
-fn delivery_row(state: &CoreState, who: u8, call: Call) -> Answer
-    requires group { is_delivery call ≡ true }
+fn delivery_row(state: &CoreState, who: u8, call: &Call) -> Answer
+    requires group { is_delivery call.now ≡ true }
     requires room { is_full state.now.past ≡ false }
     requires some { 0 < who }
     requires known { who ≤ state.now.setup.threads }
-    requires allowed { is_barred_by call (top state.now.past who) ≡ false }
-    ensures { result ≡ row state.now.setup state.now.past who call }
+    requires allowed { is_barred_by call.now (top state.now.past who) ≡ false }
+    ensures { result ≡ row state.now.setup state.now.past who call.now }
 {
-    match call {
+    match *call {
         Call::Post(w, number, _, _) => post_answer(state, who, w, number),
         Call::PostThread(to, number, _, _) => post_thread_answer(state, to, number),
         Call::PostQuit(_) => Answer::Okay,
@@ -78,12 +78,12 @@ fn delivery_row(state: &CoreState, who: u8, call: Call) -> Answer
 fn counted_answer<L: Ledger>(
     state: &CoreState,
     who: Thread,
-    call: Call,
+    call: &Call,
     steps: &mut Steps<L>,
 ) -> Answer
-    requires { is_retrieval call ≡ true }
-    ensures answer { result ≡ reply state.now.setup state.now.past who.0 call }
-    ensures reads { steps.new ≤ steps.old + reads_by state.now.past who.0 call }
+    requires { is_retrieval call.now ≡ true }
+    ensures answer { result ≡ reply state.now.setup state.now.past who.0 call.now }
+    ensures reads { steps.new ≤ steps.old + reads_by state.now.past who.0 call.now }
 {
     match admit(state, who, call) {
         Some(code) => Answer::Refused(code),
@@ -92,29 +92,29 @@ fn counted_answer<L: Ledger>(
 }
 
 /// What a retrieval answers, in steps that nobody counts.
-fn uncounted_answer<L: Ledger>(blank: Blank, state: &CoreState, who: Thread, call: Call) -> Answer
+fn uncounted_answer<L: Ledger>(blank: Blank, state: &CoreState, who: Thread, call: &Call) -> Answer
     requires name { blank.name ≡ L.name }
     requires parts { blank.parts ≡ L.parts }
     requires one { blank.parts ≡ 1 }
-    requires group { is_retrieval call ≡ true }
-    ensures { result ≡ reply state.now.setup state.now.past who.0 call }
+    requires group { is_retrieval call.now ≡ true }
+    ensures { result ≡ reply state.now.setup state.now.past who.0 call.now }
 {
     let mut steps = Steps::<L>::new(blank);
     counted_answer(state, who, call, &mut steps)
 }
 
 /// What a retrieval answers.
-pub fn retrieval_answer(state: &CoreState, who: Thread, call: Call) -> Answer
-    requires { is_retrieval call ≡ true }
-    ensures { result ≡ reply state.now.setup state.now.past who.0 call }
+pub fn retrieval_answer(state: &CoreState, who: Thread, call: &Call) -> Answer
+    requires { is_retrieval call.now ≡ true }
+    ensures { result ≡ reply state.now.setup state.now.past who.0 call.now }
 {
     uncounted_answer::<Brand>(Blank::new(1), state, who, call)
 }
 
 /// What a call of delivery answers.
-pub fn delivery_answer(state: &CoreState, who: Thread, call: Call) -> Answer
-    requires { is_delivery call ≡ true }
-    ensures { result ≡ reply state.now.setup state.now.past who.0 call }
+pub fn delivery_answer(state: &CoreState, who: Thread, call: &Call) -> Answer
+    requires { is_delivery call.now ≡ true }
+    ensures { result ≡ reply state.now.setup state.now.past who.0 call.now }
 {
     match admit(state, who, call) {
         Some(code) => Answer::Refused(code),
@@ -126,7 +126,7 @@ pub fn delivery_answer(state: &CoreState, who: Thread, call: Call) -> Answer
 fn status_answer(state: &CoreState, who: Thread, flags: u64) -> Result<Answer, AllocError>
     ensures { IfOk result (λ answer. answer ≡ reply state.now.setup state.now.past who.0 (Call.Status flags)) }
 {
-    match admit(state, who, Call::Status(flags)) {
+    match admit(state, who, &Call::Status(flags)) {
         Some(code) => Ok(Answer::Refused(code)),
         None => {
             let answer = queue_status(state, who.0, flags)?;
@@ -137,22 +137,28 @@ fn status_answer(state: &CoreState, who: Thread, flags: u64) -> Result<Answer, A
 
 /// Adds the entry of a call that was answered, where the history has room: else it stays as it was. After
 /// want of memory nothing has changed.
+#[inline(always)]
 pub fn enter(
     s: &mut CoreState,
     who: Thread,
-    call: Call,
+    call: &Call,
     answer: Answer,
 ) -> Result<Answer, AllocError>
-    requires { answer ≡ reply s.old.setup s.old.past who.0 call }
+    requires { answer ≡ reply s.old.setup s.old.past who.0 call.now }
     ensures answer { IfOk result (λ told. told ≡ answer) }
-    ensures entry { OnOk result (s.new.past ≡ after s.old.setup s.old.past who call) }
+    ensures entry { OnOk result (s.new.past ≡ after s.old.setup s.old.past who call.now) }
     ensures err { OnErr result (s.new.past ≡ s.old.past) }
     ensures setup { s.new.setup ≡ s.old.setup }
 {
     if s.is_full() {
         return Ok(answer);
     }
-    s.append(Entry { who, call, answer })?;
+    let entry = Entry {
+        who,
+        call: *call,
+        answer,
+    };
+    s.append(&entry)?;
     Ok(answer)
 }
 
@@ -164,16 +170,16 @@ pub fn enter(
 pub fn retrieve<L: Ledger>(
     s: &mut CoreState,
     who: Thread,
-    call: Call,
+    call: &Call,
     steps: &mut Steps<L>,
 ) -> Result<Answer, AllocError>
-    requires { is_retrieval call ≡ true }
-    ensures answer { IfOk result (λ answer. answer ≡ reply s.old.setup s.old.past who.0 call) }
-    ensures entry { OnOk result (s.new.past ≡ after s.old.setup s.old.past who call) }
+    requires { is_retrieval call.now ≡ true }
+    ensures answer { IfOk result (λ answer. answer ≡ reply s.old.setup s.old.past who.0 call.now) }
+    ensures entry { OnOk result (s.new.past ≡ after s.old.setup s.old.past who call.now) }
     ensures err { OnErr result (s.new.past ≡ s.old.past) }
     ensures setup { s.new.setup ≡ s.old.setup }
-    ensures reads { steps.new ≤ steps.old + reads_by s.old.past who.0 call }
-    ensures unfiltered { is_unfiltered call ≡ true → steps.new ≤ steps.old + 1 }
+    ensures reads { steps.new ≤ steps.old + reads_by s.old.past who.0 call.now }
+    ensures unfiltered { is_unfiltered call.now ≡ true → steps.new ≤ steps.old + 1 }
     ensures most { steps.new ≤ steps.old + length (posted s.old.past who.0) }
 {
     let answer = counted_answer(s, who, call, steps);
@@ -183,10 +189,10 @@ pub fn retrieve<L: Ledger>(
 /// Makes a call of delivery. The answer is the reply of the definitions, and stands with the call as the
 /// newest entry, unless the history is full: then it stays as it was. After want of memory nothing
 /// has changed, and the call may be made again (Microsoft, SendMessage and PostMessage functions).
-pub fn deliver(s: &mut CoreState, who: Thread, call: Call) -> Result<Answer, AllocError>
-    requires { is_delivery call ≡ true }
-    ensures answer { IfOk result (λ answer. answer ≡ reply s.old.setup s.old.past who.0 call) }
-    ensures entry { OnOk result (s.new.past ≡ after s.old.setup s.old.past who call) }
+pub fn deliver(s: &mut CoreState, who: Thread, call: &Call) -> Result<Answer, AllocError>
+    requires { is_delivery call.now ≡ true }
+    ensures answer { IfOk result (λ answer. answer ≡ reply s.old.setup s.old.past who.0 call.now) }
+    ensures entry { OnOk result (s.new.past ≡ after s.old.setup s.old.past who call.now) }
     ensures err { OnErr result (s.new.past ≡ s.old.past) }
     ensures setup { s.new.setup ≡ s.old.setup }
 {
@@ -210,5 +216,5 @@ pub fn status<L: Ledger>(
     ensures steps { steps.new ≡ steps.old }
 {
     let answer = status_answer(s, who, flags)?;
-    enter(s, who, Call::Status(flags), answer)
+    enter(s, who, &Call::Status(flags), answer)
 }

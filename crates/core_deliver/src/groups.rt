@@ -23,10 +23,11 @@ pub enum Group {
 }
 
 /// The group of each call.
-fn group_of(call: Call) -> Group
-    ensures { result ≡ group_of call }
+#[inline(always)]
+pub fn group_of(call: &Call) -> Group
+    ensures { result ≡ group_of call.now }
 {
-    match call {
+    match *call {
         Call::Peek(..) | Call::Get(..) => Group::Retrieval,
         Call::Status(_) => Group::Status,
         Call::Post(..)
@@ -64,8 +65,8 @@ fn group_of(call: Call) -> Group
 }
 
 /// Whether the call asks for a message: a get or a peek.
-pub fn is_retrieval(call: Call) -> bool
-    ensures { result ≡ is_retrieval call }
+pub fn is_retrieval(call: &Call) -> bool
+    ensures { result ≡ is_retrieval call.now }
 {
     match group_of(call) {
         Group::Retrieval => true,
@@ -74,8 +75,8 @@ pub fn is_retrieval(call: Call) -> bool
 }
 
 /// Whether the call asks which kinds of messages are there.
-pub fn is_status(call: Call) -> bool
-    ensures { result ≡ is_status call }
+pub fn is_status(call: &Call) -> bool
+    ensures { result ≡ is_status call.now }
 {
     match group_of(call) {
         Group::Status => true,
@@ -84,8 +85,8 @@ pub fn is_status(call: Call) -> bool
 }
 
 /// Whether the call posts, also the character of a key, dispatches, sends, is made inside or after a send, or registers a message.
-pub fn is_delivery(call: Call) -> bool
-    ensures { result ≡ is_delivery call }
+pub fn is_delivery(call: &Call) -> bool
+    ensures { result ≡ is_delivery call.now }
 {
     match group_of(call) {
         Group::Delivery => true,
@@ -94,8 +95,8 @@ pub fn is_delivery(call: Call) -> bool
 }
 
 /// Whether the call is about classes, windows, groups of attached threads, the mouse, keys or dialogs.
-pub fn is_window_call(call: Call) -> bool
-    ensures { result ≡ is_window_call call }
+pub fn is_window_call(call: &Call) -> bool
+    ensures { result ≡ is_window_call call.now }
 {
     match group_of(call) {
         Group::Window => true,
@@ -104,8 +105,8 @@ pub fn is_window_call(call: Call) -> bool
 }
 
 /// Whether the call is about dirty pixels, painting, colours or frames.
-pub fn is_drawing(call: Call) -> bool
-    ensures { result ≡ is_drawing call }
+pub fn is_drawing(call: &Call) -> bool
+    ensures { result ≡ is_drawing call.now }
 {
     match group_of(call) {
         Group::Drawing => true,

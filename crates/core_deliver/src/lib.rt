@@ -18,5 +18,7 @@ mod status_words;
 
 pub use admission::admit;
 pub use calls::{deliver, delivery_answer, enter, retrieval_answer, retrieve, status};
-pub use groups::{is_delivery, is_drawing, is_retrieval, is_status, is_window_call};
+pub use groups::{
+    Group, group_of, is_delivery, is_drawing, is_retrieval, is_status, is_window_call,
+};
 pub use refusals::{if_live, if_own, is_no_rect};

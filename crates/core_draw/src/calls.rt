@@ -17,11 +17,11 @@ use user_model::{Answer, Call};
 use win_num::Thread;
 
 /// The answer of a call on dirty pixels, painting, colours or frames to a running thread, where its stack allows it.
-fn drawing_row(state: &CoreState, thread: u8, call: Call) -> Answer
-    requires { is_drawing call ≡ true }
-    ensures { result ≡ row state.now.setup state.now.past thread call }
+fn drawing_row(state: &CoreState, thread: u8, call: &Call) -> Answer
+    requires { is_drawing call.now ≡ true }
+    ensures { result ≡ row state.now.setup state.now.past thread call.now }
 {
-    match call {
+    match *call {
         Call::Invalidate(w, l, t, r, b, erase) => {
             invalidate_answer(state, w, Edges { l, t, r, b }, erase)
         }
@@ -39,9 +39,9 @@ fn drawing_row(state: &CoreState, thread: u8, call: Call) -> Answer
 }
 
 /// What a call on dirty pixels, painting, colours or frames answers.
-pub fn drawing_answer(state: &CoreState, who: Thread, call: Call) -> Answer
-    requires { is_drawing call ≡ true }
-    ensures { result ≡ reply state.now.setup state.now.past who.0 call }
+pub fn drawing_answer(state: &CoreState, who: Thread, call: &Call) -> Answer
+    requires { is_drawing call.now ≡ true }
+    ensures { result ≡ reply state.now.setup state.now.past who.0 call.now }
 {
     match admit(state, who, call) {
         Some(code) => Answer::Refused(code),
@@ -52,10 +52,10 @@ pub fn drawing_answer(state: &CoreState, who: Thread, call: Call) -> Answer
 /// Makes a call on dirty pixels, painting, colours or frames. The answer is the reply of the definitions, and stands with the call
 /// as the newest entry, unless the history is full: then it stays as it was. After want of memory nothing has
 /// changed, and the call may be made again (Microsoft, InvalidateRect, BeginPaint and FillRect functions).
-pub fn draw(s: &mut CoreState, who: Thread, call: Call) -> Result<Answer, AllocError>
-    requires { is_drawing call ≡ true }
-    ensures answer { IfOk result (λ answer. answer ≡ reply s.old.setup s.old.past who.0 call) }
-    ensures entry { OnOk result (s.new.past ≡ after s.old.setup s.old.past who call) }
+pub fn draw(s: &mut CoreState, who: Thread, call: &Call) -> Result<Answer, AllocError>
+    requires { is_drawing call.now ≡ true }
+    ensures answer { IfOk result (λ answer. answer ≡ reply s.old.setup s.old.past who.0 call.now) }
+    ensures entry { OnOk result (s.new.past ≡ after s.old.setup s.old.past who call.now) }
     ensures err { OnErr result (s.new.past ≡ s.old.past) }
     ensures setup { s.new.setup ≡ s.old.setup }
 {

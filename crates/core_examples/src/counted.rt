@@ -29,7 +29,7 @@ fn status_of_all<L: Ledger>(
 fn get_any<L: Ledger>(state: &mut CoreState, steps: &mut Steps<L>) -> Result<Answer, AllocError>
     ensures { steps.new ≤ steps.old + 1 }
 {
-    retrieve(state, SELF, Call::Get(0, 0, 0), steps)
+    retrieve(state, SELF, &Call::Get(0, 0, 0), steps)
 }
 
 /// The first message of number 1027, where no more than three are there: then no more than three are read.
@@ -42,13 +42,13 @@ fn get_among_three<L: Ledger>(
     if !state.is_thread(SELF.0) || state.queue_len(u64::from(SELF.0)) > 3 {
         return Ok(None);
     }
-    let answer = retrieve(state, SELF, Call::Get(0, 1027, 1027), steps)?;
+    let answer = retrieve(state, SELF, &Call::Get(0, 1027, 1027), steps)?;
     Ok(Some(answer))
 }
 
 /// A message of the thread's to itself, of this number.
 fn post(state: &mut CoreState, number: u64) -> Result<Answer, AllocError> {
-    deliver(state, SELF, Call::Post(0, number, 0, 0))
+    deliver(state, SELF, &Call::Post(0, number, 0, 0))
 }
 
 /// As many messages as a queue holds.

@@ -27,15 +27,15 @@ const SEND: Call = Call::Send(16, 1024, 0, 0);
 const SELF: Thread = Thread(1);
 
 fn post(state: &mut CoreState) -> Result<Answer, AllocError> {
-    deliver(state, SELF, POST)
+    deliver(state, SELF, &POST)
 }
 
 fn send(state: &mut CoreState) -> Result<Answer, AllocError> {
-    deliver(state, SELF, SEND)
+    deliver(state, SELF, &SEND)
 }
 
 fn get<L: Ledger>(state: &mut CoreState, steps: &mut Steps<L>) -> Result<Answer, AllocError> {
-    retrieve(state, SELF, GET, steps)
+    retrieve(state, SELF, &GET, steps)
 }
 
 fn status_of_all<L: Ledger>(
@@ -54,15 +54,15 @@ fn tell_post<L: Ledger>(
     tell(rt, "post", post(state)?)?;
     tell(rt, "status", status_of_all(state, steps)?)?;
     tell(rt, "get", get(state, steps)?)?;
-    tell(rt, "get again", retrieval_answer(state, SELF, GET))?;
+    tell(rt, "get again", retrieval_answer(state, SELF, &GET))?;
     println!(rt; "history {}", state.history().len())?;
     Ok(())
 }
 
 /// What the clock is answered, which makes no call of delivery.
 fn tell_clock(rt: &impl Print, state: &CoreState) -> anyhow::Result<()> {
-    println!(rt; "admit: {:?}", admit(state, Thread(0), SEND))?;
-    let answer = delivery_answer(state, Thread(0), SEND);
+    println!(rt; "admit: {:?}", admit(state, Thread(0), &SEND))?;
+    let answer = delivery_answer(state, Thread(0), &SEND);
     tell(rt, "send by the clock", answer)
 }
 
@@ -70,8 +70,8 @@ fn tell_clock(rt: &impl Print, state: &CoreState) -> anyhow::Result<()> {
 fn tell_refusals(rt: &impl Print, state: &mut CoreState) -> anyhow::Result<()> {
     println!(rt;
         "is_delivery {} is_retrieval {}",
-        is_delivery(SEND),
-        is_retrieval(SEND)
+        is_delivery(&SEND),
+        is_retrieval(&SEND)
     )?;
     tell(rt, "send", send(state)?)?;
     tell_clock(rt, state)

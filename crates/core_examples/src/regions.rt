@@ -28,7 +28,7 @@ const STEPS: [Call; 11] = [
 /// The rectangles of the pixels that both windows own, and of those that no window owns, after each step.
 pub fn tell_regions(rt: &impl Print, state: &mut CoreState) -> anyhow::Result<()> {
     for call in STEPS {
-        println!(rt; "{:?}", window(state, Thread(1), call)?)?;
+        println!(rt; "{:?}", window(state, Thread(1), &call)?)?;
         tell_owned(rt, state, Hwnd(16))?;
         tell_owned(rt, state, Hwnd(17))?;
         tell_owned(rt, state, Hwnd(0))?;

@@ -22,27 +22,27 @@ const FIND: Call = Call::Find(2);
 const SELF: Thread = Thread(1);
 
 fn find(state: &mut CoreState) -> Result<Answer, AllocError> {
-    window(state, SELF, FIND)
+    window(state, SELF, &FIND)
 }
 
 fn register(state: &mut CoreState) -> Result<Answer, AllocError> {
-    window(state, SELF, REGISTER)
+    window(state, SELF, &REGISTER)
 }
 
 fn new_window(state: &mut CoreState) -> Result<Answer, AllocError> {
-    window(state, SELF, NEW_WINDOW)
+    window(state, SELF, &NEW_WINDOW)
 }
 
 /// What is answered without an entry, to the thread and to the clock.
 fn tell_answers(rt: &impl Print, state: &CoreState) -> anyhow::Result<()> {
-    tell(rt, "find", window_answer(state, SELF, FIND))?;
-    let answer = window_answer(state, Thread(0), NEW_WINDOW);
+    tell(rt, "find", window_answer(state, SELF, &FIND))?;
+    let answer = window_answer(state, Thread(0), &NEW_WINDOW);
     tell(rt, "new_window by the clock", answer)
 }
 
 /// A window that is made and found, and a window by the clock, which makes none.
 pub fn tell_window(rt: &impl Print, state: &mut CoreState) -> anyhow::Result<()> {
-    println!(rt; "is_window_call {}", is_window_call(FIND))?;
+    println!(rt; "is_window_call {}", is_window_call(&FIND))?;
     tell(rt, "find", find(state)?)?;
     tell(rt, "register", register(state)?)?;
     tell(rt, "new_window", new_window(state)?)?;

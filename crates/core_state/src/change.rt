@@ -79,7 +79,7 @@ fn add_item(
 {
     let alloc = *threads.allocator();
     match entry.answer {
-        Answer::Posted(number) => match posting(tree, stamp, entry) {
+        Answer::Posted(number) => match posting(tree, stamp, &entry) {
             Some((to, msg)) => post(threads, to, number, msg),
             None => Ok(()),
         },
@@ -187,7 +187,7 @@ pub fn take_effect(
         Answer::Okay => carry_out(classes, tree, order, threads, entry),
         Answer::Value(_) => relook(tree, entry.call),
         Answer::Tell(_) | Answer::Last(_) => unmake(tree, entry.call),
-        Answer::Got { origin, number, .. } => take(threads, entry, origin, number),
+        Answer::Got { origin, number, .. } => take(threads, &entry, origin, number),
         Answer::Ended => {
             end(threads, entry.who);
             tree.drop_thread(entry.who);

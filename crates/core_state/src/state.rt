@@ -306,6 +306,7 @@ impl CoreState {
     }
 
     /// The answer that runs what a thread has ready, where its stack has room.
+    #[inline(always)]
     pub fn next_ready(&self, thread: u8) -> Option<Answer>
         requires some { 0 < thread }
         requires known { thread ≤ self.now.setup.threads }
@@ -793,28 +794,29 @@ impl CoreState {
     }
 
     /// Adds an entry, and brings the parts up to date. After want of memory nothing has changed.
-    pub fn append(&mut self, entry: Entry) -> Result<(), AllocError>
+    pub fn append(&mut self, entry: &Entry) -> Result<(), AllocError>
         requires room { is_full self.old.past ≡ false }
-        requires answer { entry.answer ≡ reply self.old.setup self.old.past entry.who.0 entry.call }
-        ensures ok { OnOk result (self.new ≡ record { setup = self.old.setup; past = entry ∷ self.old.past }) }
+        requires answer { entry.now.answer ≡ reply self.old.setup self.old.past entry.now.who.0 entry.now.call }
+        ensures ok { OnOk result (self.new ≡ record { setup = self.old.setup; past = entry.now ∷ self.old.past }) }
         ensures err { OnErr result (self.new ≡ self.old) }
     {
-        if adds_post(&entry) {
+        if adds_post(entry) {
             return self.append_post(entry);
         }
-        if reads_posts(&entry) {
+        if reads_posts(entry) {
             return self.append_read(entry);
         }
         self.append_any(entry)
     }
 
     /// Adds an entry of any call, and brings all parts up to date. After want of memory nothing has changed.
-    fn append_any(&mut self, entry: Entry) -> Result<(), AllocError>
+    fn append_any(&mut self, entry: &Entry) -> Result<(), AllocError>
         requires room { is_full self.old.past ≡ false }
-        requires answer { entry.answer ≡ reply self.old.setup self.old.past entry.who.0 entry.call }
-        ensures ok { OnOk result (self.new ≡ record { setup = self.old.setup; past = entry ∷ self.old.past }) }
+        requires answer { entry.now.answer ≡ reply self.old.setup self.old.past entry.now.who.0 entry.now.call }
+        ensures ok { OnOk result (self.new ≡ record { setup = self.old.setup; past = entry.now ∷ self.old.past }) }
         ensures err { OnErr result (self.new ≡ self.old) }
     {
+        let entry = *entry;
         let stamp = Stamp {
             place: self.history.len() as u32,
             time: self.progress.time,
@@ -828,7 +830,7 @@ impl CoreState {
         let change = self
             .display
             .after(alloc, self.setup, &self.tree, &self.order, entry)?;
-        let seen = seen_by(alloc, &self.tree, self.display.screen().dirty(), entry)?;
+        let seen = seen_by(alloc, &self.tree, self.display.screen().dirty(), &entry)?;
         make_room(&mut self.history, &mut self.stories)?;
         add_change(
             &mut self.classes,
@@ -863,14 +865,14 @@ impl CoreState {
             entry,
         );
         self.display.take_over(change);
-        note_entry(&mut self.threads, entry);
+        note_entry(&mut self.threads, &entry);
         self.progress = self.progress.followed_by(entry);
-        mark_look(&mut self.threads, entry, self.progress.posts);
+        mark_look(&mut self.threads, &entry, self.progress.posts);
         self.tally = self.tally.with(entry.answer, first, lost);
         let after = self.progress.moment();
-        self.looks.follow(entry, after, seen);
-        note_look(&mut self.sends, entry, stamp.place + 1);
-        self.history.push(entry).unwrap();
+        self.looks.follow(&entry, after, seen);
+        note_look(&mut self.sends, &entry, stamp.place + 1);
+        self.history.push_reserved(entry);
         Ok(())
     }
 }
@@ -887,6 +889,7 @@ fn make_room(history: &mut Vec<Entry>, stories: &mut Vec<SendStory>) -> Result<(
 }
 
 /// Takes the place of one entry, where there is none. Whatever comes of it, nothing else changes.
+#[inline(always)]
 fn make_place(history: &mut Vec<Entry>) -> Result<(), AllocError>
     ensures entries { history.new.items ≡ history.old.items }
     ensures room { OnOk result (vec_len history.new + 1 ≤ vec_capacity history.new) }

@@ -27,14 +27,14 @@ use user_model::{Answer, Call};
 use win_num::Thread;
 
 /// The answer of a call on classes, windows, groups, input or dialogs to a running thread, where its stack allows it.
-fn window_row(state: &CoreState, thread: u8, call: Call) -> Answer
-    requires group { is_window_call call ≡ true }
+fn window_row(state: &CoreState, thread: u8, call: &Call) -> Answer
+    requires group { is_window_call call.now ≡ true }
     requires room { is_full state.now.past ≡ false }
     requires some { 0 < thread }
     requires known { thread ≤ state.now.setup.threads }
-    ensures { result ≡ row state.now.setup state.now.past thread call }
+    ensures { result ≡ row state.now.setup state.now.past thread call.now }
 {
-    match call {
+    match *call {
         Call::Register(name, _, colour) => register_answer(state, name, colour),
         Call::Unregister(name) => unregister_answer(state, name),
         Call::NewWindow(class, _, parent, style, ex, l, t, r, b) => {
@@ -68,15 +68,15 @@ fn window_row(state: &CoreState, thread: u8, call: Call) -> Answer
 }
 
 /// The answer of a call that looks for windows, or of one on focus, active window, capture, attached threads, the mouse, keys or dialogs.
-fn lookup_row(state: &CoreState, thread: u8, call: Call) -> Answer
-    requires group { is_window_call call ≡ true }
-    requires looks { IsLookup call }
+fn lookup_row(state: &CoreState, thread: u8, call: &Call) -> Answer
+    requires group { is_window_call call.now ≡ true }
+    requires looks { IsLookup call.now }
     requires room { is_full state.now.past ≡ false }
     requires some { 0 < thread }
     requires known { thread ≤ state.now.setup.threads }
-    ensures { result ≡ row state.now.setup state.now.past thread call }
+    ensures { result ≡ row state.now.setup state.now.past thread call.now }
 {
-    match call {
+    match *call {
         Call::Find(title) => find_answer(state, title),
         Call::AwaitTitle(title) => await_title_answer(state, title),
         Call::NextTop(w) => next_top_answer(state, w),
@@ -103,9 +103,9 @@ fn lookup_row(state: &CoreState, thread: u8, call: Call) -> Answer
 }
 
 /// What a call on classes or windows answers.
-pub fn window_answer(state: &CoreState, who: Thread, call: Call) -> Answer
-    requires { is_window_call call ≡ true }
-    ensures { result ≡ reply state.now.setup state.now.past who.0 call }
+pub fn window_answer(state: &CoreState, who: Thread, call: &Call) -> Answer
+    requires { is_window_call call.now ≡ true }
+    ensures { result ≡ reply state.now.setup state.now.past who.0 call.now }
 {
     match admit(state, who, call) {
         Some(code) => Answer::Refused(code),
@@ -116,10 +116,10 @@ pub fn window_answer(state: &CoreState, who: Thread, call: Call) -> Answer
 /// Makes a call on classes or windows. The answer is the reply of the definitions, and stands with the call
 /// as the newest entry, unless the history is full: then it stays as it was. After want of memory nothing
 /// has changed, and the call may be made again (Microsoft, CreateWindowEx and SetWindowPos functions).
-pub fn window(s: &mut CoreState, who: Thread, call: Call) -> Result<Answer, AllocError>
-    requires { is_window_call call ≡ true }
-    ensures answer { IfOk result (λ answer. answer ≡ reply s.old.setup s.old.past who.0 call) }
-    ensures entry { OnOk result (s.new.past ≡ after s.old.setup s.old.past who call) }
+pub fn window(s: &mut CoreState, who: Thread, call: &Call) -> Result<Answer, AllocError>
+    requires { is_window_call call.now ≡ true }
+    ensures answer { IfOk result (λ answer. answer ≡ reply s.old.setup s.old.past who.0 call.now) }
+    ensures entry { OnOk result (s.new.past ≡ after s.old.setup s.old.past who call.now) }
     ensures err { OnErr result (s.new.past ≡ s.old.past) }
     ensures setup { s.new.setup ≡ s.old.setup }
 {

@@ -50,6 +50,7 @@ impl Look {
     }
 
     /// Puts another look in its place.
+    #[inline(always)]
     pub(crate) fn renew(&mut self, at: Moment, seen: Vec<SeenWindow>)
         ensures { self.new ≡ look_at at seen.items }
     {

@@ -48,8 +48,9 @@ impl Looks {
 
     /// Notes what an entry leaves for its thread, where it is a look. `after` is how far the history comes with the entry, and `seen`
     /// are the dirty pixels at it.
-    pub fn follow(&mut self, entry: Entry, after: Moment, seen: Vec<SeenWindow>)
-        ensures { EachLook (λ t. look_after t entry after seen.items) self.old self.new }
+    #[inline(always)]
+    pub fn follow(&mut self, entry: &Entry, after: Moment, seen: Vec<SeenWindow>)
+        ensures { EachLook (λ t. look_after t entry.now after seen.items) self.old self.new }
     {
         if !is_refusal(entry.answer) && is_look(entry.call) {
             note_look(&mut self.looks, entry.who, after, seen);
@@ -70,6 +71,7 @@ fn fresh_looks(alloc: Global, count: u8) -> Result<Vec<Look>, AllocError>
 }
 
 /// Notes what was there for a thread that looks.
+#[inline(always)]
 fn note_look(looks: &mut Vec<Look>, who: Thread, at: Moment, seen: Vec<SeenWindow>)
     ensures { EachLook (λ t k. if who.0 == t then look_at at seen.items else k) looks.old.items looks.new.items }
 {

@@ -23,13 +23,14 @@ pub struct SeenWindow {
 }
 
 /// The dirty pixels of the windows of the entry's thread, where the entry is a look. Want of memory is the only error.
+#[inline(always)]
 pub fn seen_by(
     alloc: Global,
     tree: &Tree,
     dirty: &[DirtyWindow],
-    entry: Entry,
+    entry: &Entry,
 ) -> Result<Vec<SeenWindow>, AllocError>
-    ensures { IfOk result (λ seen. is_look entry.call ≡ true → seen.items ≡ seen_of tree.now.live entry.who.0 dirty.now) }
+    ensures { IfOk result (λ seen. is_look entry.now.call ≡ true → seen.items ≡ seen_of tree.now.live entry.now.who.0 dirty.now) }
 {
     if is_look(entry.call) {
         seen_of(alloc, tree, dirty, entry.who)
@@ -39,6 +40,7 @@ pub fn seen_by(
 }
 
 /// The dirty pixels of the windows of a thread, again.
+#[inline(never)]
 fn seen_of(
     alloc: Global,
     tree: &Tree,

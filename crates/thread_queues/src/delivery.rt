@@ -26,9 +26,10 @@ pub struct Stamp {
 }
 
 /// The thread that an entry posts to, and the message.
-pub fn posting(tree: &Tree, stamp: Stamp, entry: Entry) -> Option<(u64, Msg)>
-    requires { FitsPost tree.now.live stamp.shift entry.call }
-    ensures { result ≡ posting tree.now.live stamp.time stamp.cursor stamp.shift entry.who.0 entry.call }
+#[inline(always)]
+pub fn posting(tree: &Tree, stamp: Stamp, entry: &Entry) -> Option<(u64, Msg)>
+    requires { FitsPost tree.now.live stamp.shift entry.now.call }
+    ensures { result ≡ posting tree.now.live stamp.time stamp.cursor stamp.shift entry.now.who.0 entry.now.call }
 {
     match entry.call {
         Call::Post(w, number, wparam, lparam) => {

@@ -49,9 +49,10 @@ pub fn end(threads: &mut Vec<ThreadState>, who: Thread)
 }
 
 /// Takes out what a retrieval handed out and removes: a posted message, or quit. WM_PAINT and WM_TIMER aren't kept here.
-pub fn take(threads: &mut Vec<ThreadState>, entry: Entry, origin: Origin, number: u32)
-    requires { IsOne threads.old.items entry.who.0 }
-    ensures { EachBy (λ t. changed t (taken_if entry.call (removal entry.who.0 origin number))) threads.old.items threads.new.items }
+#[inline(always)]
+pub fn take(threads: &mut Vec<ThreadState>, entry: &Entry, origin: Origin, number: u32)
+    requires { IsOne threads.old.items entry.now.who.0 }
+    ensures { EachBy (λ t. changed t (taken_if entry.now.call (removal entry.now.who.0 origin number))) threads.old.items threads.new.items }
 {
     if !entry.call.removes() {
         return;
@@ -64,6 +65,7 @@ pub fn take(threads: &mut Vec<ThreadState>, entry: Entry, origin: Origin, number
 }
 
 /// Takes a message out of the queue of a thread.
+#[inline(always)]
 fn take_post(threads: &mut Vec<ThreadState>, who: Thread, number: u32)
     requires { IsOne threads.old.items who.0 }
     ensures { EachBy (λ t. changed t (takes who.0 number)) threads.old.items threads.new.items }
@@ -80,8 +82,9 @@ pub fn set_quit(threads: &mut Vec<ThreadState>, who: Thread, quit: Option<u64>)
 }
 
 /// Keeps of the entry's own thread whether it waits now.
-pub fn note_entry(threads: &mut Vec<ThreadState>, entry: Entry)
-    ensures { EachBy (λ t. noted t entry) threads.old.items threads.new.items }
+#[inline(always)]
+pub fn note_entry(threads: &mut Vec<ThreadState>, entry: &Entry)
+    ensures { EachBy (λ t. noted t entry.now) threads.old.items threads.new.items }
 {
     let thread = usize::from(entry.who.0);
     if thread == 0 || thread > threads.len() {
@@ -92,8 +95,9 @@ pub fn note_entry(threads: &mut Vec<ThreadState>, entry: Entry)
 }
 
 /// Where the entry is a look of its own thread at its queue, what is there came before. `count` says how many posts there were with it.
-pub fn mark_look(threads: &mut Vec<ThreadState>, entry: Entry, count: u32)
-    ensures { EachBy (λ t. marked t entry count) threads.old.items threads.new.items }
+#[inline(always)]
+pub fn mark_look(threads: &mut Vec<ThreadState>, entry: &Entry, count: u32)
+    ensures { EachBy (λ t. marked t entry.now count) threads.old.items threads.new.items }
 {
     if is_refusal(entry.answer) || !is_look(entry.call) {
         return;
@@ -106,8 +110,8 @@ pub fn mark_look(threads: &mut Vec<ThreadState>, entry: Entry, count: u32)
 }
 
 /// The call that an entry waits with.
-fn waiting_with(entry: Entry) -> Option<Call>
-    ensures { result ≡ waiting_with entry }
+fn waiting_with(entry: &Entry) -> Option<Call>
+    ensures { result ≡ waiting_with entry.now }
 {
     match entry.answer {
         Answer::Wait => Some(entry.call),

@@ -192,6 +192,7 @@ impl ThreadState {
     }
 
     /// The thread looks, when there were so many posts of all threads: what is there came before.
+    #[inline(always)]
     pub fn look(&mut self, posts: u32)
         ensures { self.new ≡ record self.old { quit_is_new = false; seen = posts } }
     {
@@ -219,6 +220,16 @@ impl ThreadState {
     {
         self.missed = missed_by::<Brand>(Blank::new(1), &self.posts, waiting);
         self.waiting = waiting;
+    }
+
+    /// Keeps that the thread doesn't wait.
+    pub fn go_on(&mut self)
+        ensures { self.new ≡ record self.old { waiting = None } }
+    {
+        if self.waiting.is_some() {
+            self.missed = None;
+            self.waiting = None;
+        }
     }
 }
 

@@ -23,16 +23,16 @@ use win_num::{Code, Thread};
 
 /// The answer of a call of time or timers, or of the end of a thread, to a running thread, where its stack allows the
 /// call.
-fn row_answer(state: &CoreState, thread: u8, call: Call) -> Answer
+fn row_answer(state: &CoreState, thread: u8, call: &Call) -> Answer
     requires room { is_full state.now.past ≡ false }
-    requires no_retrieval { is_retrieval call ≡ false }
-    requires no_status { is_status call ≡ false }
-    requires no_delivery { is_delivery call ≡ false }
-    requires no_window { is_window_call call ≡ false }
-    requires no_drawing { is_drawing call ≡ false }
-    ensures { result ≡ row state.now.setup state.now.past thread call }
+    requires no_retrieval { is_retrieval call.now ≡ false }
+    requires no_status { is_status call.now ≡ false }
+    requires no_delivery { is_delivery call.now ≡ false }
+    requires no_window { is_window_call call.now ≡ false }
+    requires no_drawing { is_drawing call.now ≡ false }
+    ensures { result ≡ row state.now.setup state.now.past thread call.now }
 {
-    match call {
+    match *call {
         Call::SetTimer(w, id, _) => set_timer_answer(state, thread, w, id),
         Call::KillTimer(w, id) => kill_timer_answer(state, thread, w, id),
         Call::Yield => Answer::Okay,
@@ -45,13 +45,13 @@ fn row_answer(state: &CoreState, thread: u8, call: Call) -> Answer
 }
 
 /// The answer of a call of time or timers, or of the end of a thread, to an actor other than the clock.
-fn own_answer(state: &CoreState, who: Thread, call: Call) -> Answer
-    requires no_retrieval { is_retrieval call ≡ false }
-    requires no_status { is_status call ≡ false }
-    requires no_delivery { is_delivery call ≡ false }
-    requires no_window { is_window_call call ≡ false }
-    requires no_drawing { is_drawing call ≡ false }
-    ensures { result ≡ refuse (is_full state.now.past) Full (thread_reply state.now.setup state.now.past who.0 call) }
+fn own_answer(state: &CoreState, who: Thread, call: &Call) -> Answer
+    requires no_retrieval { is_retrieval call.now ≡ false }
+    requires no_status { is_status call.now ≡ false }
+    requires no_delivery { is_delivery call.now ≡ false }
+    requires no_window { is_window_call call.now ≡ false }
+    requires no_drawing { is_drawing call.now ≡ false }
+    ensures { result ≡ refuse (is_full state.now.past) Full (thread_reply state.now.setup state.now.past who.0 call.now) }
 {
     match admit(state, who, call) {
         Some(code) => Answer::Refused(code),
@@ -61,10 +61,10 @@ fn own_answer(state: &CoreState, who: Thread, call: Call) -> Answer
 
 /// What any call but a status answers a thread.
 #[tactic(auto, unfolding(user_model::specs::Idle::reply))]
-fn thread_answer(state: &CoreState, thread: u8, call: Call) -> Answer
+fn thread_answer(state: &CoreState, thread: u8, call: &Call) -> Answer
     requires some { 0 < thread }
-    requires no_status { is_status call ≡ false }
-    ensures { result ≡ refuse (is_full state.now.past) Full (thread_reply state.now.setup state.now.past thread call) }
+    requires no_status { is_status call.now ≡ false }
+    ensures { result ≡ refuse (is_full state.now.past) Full (thread_reply state.now.setup state.now.past thread call.now) }
 {
     if is_retrieval(call) {
         return retrieval_answer(state, Thread(thread), call);
@@ -100,15 +100,16 @@ fn is_idle(state: &CoreState, thread: u8) -> bool
         return true;
     }
     match state.waiting(thread) {
-        Some(call) => would_wait(state, thread, call),
+        Some(call) => would_wait(state, thread, &call),
         None => false,
     }
 }
 
 /// Whether a call would wait now. A status never waits.
-fn would_wait(state: &CoreState, thread: u8, call: Call) -> bool
+#[inline(never)]
+fn would_wait(state: &CoreState, thread: u8, call: &Call) -> bool
     requires { 0 < thread }
-    ensures { result ≡ is_wait (refuse (is_full state.now.past) Full (thread_reply state.now.setup state.now.past thread call)) }
+    ensures { result ≡ is_wait (refuse (is_full state.now.past) Full (thread_reply state.now.setup state.now.past thread call.now)) }
 {
     if is_status(call) {
         return false;
@@ -149,11 +150,11 @@ pub fn is_clock_barred(state: &CoreState) -> bool
 }
 
 /// The answer to the clock, where the history isn't full.
-fn clock_answer(state: &CoreState, call: Call) -> Answer
+fn clock_answer(state: &CoreState, call: &Call) -> Answer
     requires { is_full state.now.past ≡ false }
-    ensures { result ≡ clock_row state.now.setup state.now.past call }
+    ensures { result ≡ clock_row state.now.setup state.now.past call.now }
 {
-    match call {
+    match *call {
         Call::Tick(ms) => tick_answer(state, ms),
         Call::Advance => match first_busy(state) {
             Some(thread) => Answer::Busy(Thread(thread)),
@@ -165,13 +166,13 @@ fn clock_answer(state: &CoreState, call: Call) -> Answer
 
 /// What a call of time or timers, or the end of a thread, answers.
 #[tactic(auto, unfolding(user_model::specs::Idle::reply))]
-pub fn answer(state: &CoreState, who: Thread, call: Call) -> Answer
-    requires no_retrieval { is_retrieval call ≡ false }
-    requires no_status { is_status call ≡ false }
-    requires no_delivery { is_delivery call ≡ false }
-    requires no_window { is_window_call call ≡ false }
-    requires no_drawing { is_drawing call ≡ false }
-    ensures { result ≡ reply state.now.setup state.now.past who.0 call }
+pub fn answer(state: &CoreState, who: Thread, call: &Call) -> Answer
+    requires no_retrieval { is_retrieval call.now ≡ false }
+    requires no_status { is_status call.now ≡ false }
+    requires no_delivery { is_delivery call.now ≡ false }
+    requires no_window { is_window_call call.now ≡ false }
+    requires no_drawing { is_drawing call.now ≡ false }
+    ensures { result ≡ reply state.now.setup state.now.past who.0 call.now }
 {
     match actor_of(who) {
         Actor::Numbered(_) => own_answer(state, who, call),
@@ -180,8 +181,8 @@ pub fn answer(state: &CoreState, who: Thread, call: Call) -> Answer
 }
 
 /// The answer to the clock.
-fn answer_to_clock(state: &CoreState, call: Call) -> Answer
-    ensures { result ≡ refuse (is_full state.now.past) Full (clock_row state.now.setup state.now.past call) }
+fn answer_to_clock(state: &CoreState, call: &Call) -> Answer
+    ensures { result ≡ refuse (is_full state.now.past) Full (clock_row state.now.setup state.now.past call.now) }
 {
     if state.is_full() {
         return Answer::Refused(Code::Full);

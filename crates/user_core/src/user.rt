@@ -1,7 +1,8 @@
 //! The machine.
 
 ghost use Rattle.std.specs.Prelude.{◌≡◌, [], IfOk, OnErr, OnOk, reverse, true};
-ghost use Rattle.core_deliver.specs.Groups.{is_retrieval};
+ghost use Rattle.core_deliver.specs.Groups.{group_of, is_retrieval, is_status};
+ghost use Rattle.core_deliver.specs.declared.groups.Group.TheVariants.{Other};
 ghost use Rattle.user_model.specs.Stories.{send_story};
 ghost use Rattle.user_model.specs.Idle.{have_all_ended, reply};
 ghost use Rattle.user_model.specs.Legal.{IsLegal};
@@ -10,9 +11,7 @@ ghost use Rattle.user_model.specs.Setups.{IsSetup};
 
 use crate::actor::{Actor, actor_of};
 use crate::answer::{answer, have_all_ended, is_barred, is_clock_barred};
-use core_deliver::{
-    deliver, is_delivery, is_drawing, is_retrieval, is_window_call, retrieve, status,
-};
+use core_deliver::{Group, deliver, enter, group_of, retrieve, status};
 use core_draw::draw;
 use core_state::CoreState;
 use core_window::window;
@@ -77,27 +76,18 @@ impl Machine for User {
     ghost past = { λ u. u.past };
 
     fn step(&mut self, who: Thread, call: Call) -> Result<Answer, AllocError> {
-        if is_retrieval(call) {
-            return retrieve_uncounted::<Brand>(Blank::new(1), &mut self.state, who, call);
+        match group_of(&call) {
+            Group::Retrieval => {
+                retrieve_uncounted::<Brand>(Blank::new(1), &mut self.state, who, &call)
+            }
+            Group::Status => {
+                status_uncounted::<Brand>(Blank::new(1), &mut self.state, who, &call)
+            }
+            Group::Delivery => deliver(&mut self.state, who, &call),
+            Group::Window => window(&mut self.state, who, &call),
+            Group::Drawing => draw(&mut self.state, who, &call),
+            Group::Other => make_other(&mut self.state, who, &call),
         }
-        if let Call::Status(flags) = call {
-            return status_uncounted::<Brand>(Blank::new(1), &mut self.state, who, flags);
-        }
-        if is_delivery(call) {
-            return deliver(&mut self.state, who, call);
-        }
-        if is_window_call(call) {
-            return window(&mut self.state, who, call);
-        }
-        if is_drawing(call) {
-            return draw(&mut self.state, who, call);
-        }
-        let answer = answer(&self.state, who, call);
-        if self.state.is_full() {
-            return Ok(answer);
-        }
-        self.state.append(Entry { who, call, answer })?;
-        Ok(answer)
     }
 
     fn barred(&self, who: Thread) -> bool {
@@ -125,14 +115,14 @@ fn retrieve_uncounted<L: Ledger>(
     blank: Blank,
     s: &mut CoreState,
     who: Thread,
-    call: Call,
+    call: &Call,
 ) -> Result<Answer, AllocError>
     requires name { blank.name ≡ L.name }
     requires parts { blank.parts ≡ L.parts }
     requires one { blank.parts ≡ 1 }
-    requires group { is_retrieval call ≡ true }
-    ensures answer { IfOk result (λ answer. answer ≡ reply s.old.setup s.old.past who.0 call) }
-    ensures entry { OnOk result (s.new.past ≡ after s.old.setup s.old.past who call) }
+    requires group { is_retrieval call.now ≡ true }
+    ensures answer { IfOk result (λ answer. answer ≡ reply s.old.setup s.old.past who.0 call.now) }
+    ensures entry { OnOk result (s.new.past ≡ after s.old.setup s.old.past who call.now) }
     ensures err { OnErr result (s.new.past ≡ s.old.past) }
     ensures setup { s.new.setup ≡ s.old.setup }
 {
@@ -145,16 +135,32 @@ fn status_uncounted<L: Ledger>(
     blank: Blank,
     s: &mut CoreState,
     who: Thread,
-    flags: u64,
+    call: &Call,
 ) -> Result<Answer, AllocError>
     requires name { blank.name ≡ L.name }
     requires parts { blank.parts ≡ L.parts }
     requires one { blank.parts ≡ 1 }
-    ensures answer { IfOk result (λ answer. answer ≡ reply s.old.setup s.old.past who.0 (Call.Status flags)) }
-    ensures entry { OnOk result (s.new.past ≡ after s.old.setup s.old.past who (Call.Status flags)) }
+    requires group { is_status call.now ≡ true }
+    ensures answer { IfOk result (λ answer. answer ≡ reply s.old.setup s.old.past who.0 call.now) }
+    ensures entry { OnOk result (s.new.past ≡ after s.old.setup s.old.past who call.now) }
     ensures err { OnErr result (s.new.past ≡ s.old.past) }
     ensures setup { s.new.setup ≡ s.old.setup }
 {
+    let Call::Status(flags) = *call else {
+        unreachable!()
+    };
     let mut steps = Steps::<L>::new(blank);
     status(s, who, flags, &mut steps)
+}
+
+/// Makes a call of time or timers, or ends a thread.
+fn make_other(s: &mut CoreState, who: Thread, call: &Call) -> Result<Answer, AllocError>
+    requires { group_of call.now ≡ Other }
+    ensures answer { IfOk result (λ answer. answer ≡ reply s.old.setup s.old.past who.0 call.now) }
+    ensures entry { OnOk result (s.new.past ≡ after s.old.setup s.old.past who call.now) }
+    ensures err { OnErr result (s.new.past ≡ s.old.past) }
+    ensures setup { s.new.setup ≡ s.old.setup }
+{
+    let answer = answer(s, who, call);
+    enter(s, who, call, answer)
 }

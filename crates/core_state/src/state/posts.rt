@@ -77,11 +77,11 @@ fn is_posted(origin: Origin) -> bool
 
 impl CoreState {
     /// Adds an entry that adds a post. After want of memory nothing has changed.
-    pub(super) fn append_post(&mut self, entry: Entry) -> Result<(), AllocError>
+    pub(super) fn append_post(&mut self, entry: &Entry) -> Result<(), AllocError>
         requires room { is_full self.old.past ≡ false }
-        requires answer { entry.answer ≡ reply self.old.setup self.old.past entry.who.0 entry.call }
-        requires posts { adds_post entry.answer entry.call ≡ true }
-        ensures ok { OnOk result (self.new ≡ record { setup = self.old.setup; past = entry ∷ self.old.past }) }
+        requires answer { entry.now.answer ≡ reply self.old.setup self.old.past entry.now.who.0 entry.now.call }
+        requires posts { adds_post entry.now.answer entry.now.call ≡ true }
+        ensures ok { OnOk result (self.new ≡ record { setup = self.old.setup; past = entry.now ∷ self.old.past }) }
         ensures err { OnErr result (self.new ≡ self.old) }
     {
         let stamp = Stamp {
@@ -95,16 +95,16 @@ impl CoreState {
         add_post(&mut self.threads, &self.tree, stamp, number, entry)?;
         note_running(&mut self.threads, entry);
         self.progress.posts = number;
-        self.history.push(entry).unwrap();
+        self.history.push_reserved(*entry);
         Ok(())
     }
 
     /// Adds an entry that looks for a message, and finds a post or none. After want of memory nothing has changed.
-    pub(super) fn append_read(&mut self, entry: Entry) -> Result<(), AllocError>
+    pub(super) fn append_read(&mut self, entry: &Entry) -> Result<(), AllocError>
         requires room { is_full self.old.past ≡ false }
-        requires answer { entry.answer ≡ reply self.old.setup self.old.past entry.who.0 entry.call }
-        requires reads { reads_posts entry.answer entry.call ≡ true }
-        ensures ok { OnOk result (self.new ≡ record { setup = self.old.setup; past = entry ∷ self.old.past }) }
+        requires answer { entry.now.answer ≡ reply self.old.setup self.old.past entry.now.who.0 entry.now.call }
+        requires reads { reads_posts entry.now.answer entry.now.call ≡ true }
+        ensures ok { OnOk result (self.new ≡ record { setup = self.old.setup; past = entry.now ∷ self.old.past }) }
         ensures err { OnErr result (self.new ≡ self.old) }
     {
         let place = self.history.len() as u32;
@@ -117,7 +117,7 @@ impl CoreState {
         let after = self.progress.moment();
         self.looks.follow(entry, after, seen);
         note_look(&mut self.sends, entry, place + 1);
-        self.history.push(entry).unwrap();
+        self.history.push_reserved(*entry);
         Ok(())
     }
 }
@@ -128,11 +128,11 @@ fn add_post(
     tree: &Tree,
     stamp: Stamp,
     number: u32,
-    entry: Entry,
+    entry: &Entry,
 ) -> Result<(), AllocError>
-    requires call { FitsPost tree.now.live stamp.shift entry.call }
-    requires room { FitsPosting threads.old.items number (posting tree.now.live stamp.time stamp.cursor stamp.shift entry.who.0 entry.call) }
-    ensures ok { OnOk result (EachBy (λ t. changed t (change_of_post number (posting tree.now.live stamp.time stamp.cursor stamp.shift entry.who.0 entry.call))) threads.old.items threads.new.items) }
+    requires call { FitsPost tree.now.live stamp.shift entry.now.call }
+    requires room { FitsPosting threads.old.items number (posting tree.now.live stamp.time stamp.cursor stamp.shift entry.now.who.0 entry.now.call) }
+    ensures ok { OnOk result (EachBy (λ t. changed t (change_of_post number (posting tree.now.live stamp.time stamp.cursor stamp.shift entry.now.who.0 entry.now.call))) threads.old.items threads.new.items) }
     ensures err { OnErr result (threads.new.items ≡ threads.old.items) }
 {
     match posting(tree, stamp, entry) {
@@ -142,10 +142,10 @@ fn add_post(
 }
 
 /// Takes out the message that an entry hands out and removes, if it does.
-fn take_post(threads: &mut Vec<ThreadState>, entry: Entry)
-    requires fits { FitsReading threads.old.items entry.who.0 entry.answer }
-    requires reads { reads_posts entry.answer entry.call ≡ true }
-    ensures { (ws : List KeptWindow) → EachBy (λ t. changed t (effect_in ws entry.who.0 entry.answer entry.call)) threads.old.items threads.new.items }
+fn take_post(threads: &mut Vec<ThreadState>, entry: &Entry)
+    requires fits { FitsReading threads.old.items entry.now.who.0 entry.now.answer }
+    requires reads { reads_posts entry.now.answer entry.now.call ≡ true }
+    ensures { (ws : List KeptWindow) → EachBy (λ t. changed t (effect_in ws entry.now.who.0 entry.now.answer entry.now.call)) threads.old.items threads.new.items }
 {
     if let Answer::Got { origin, number, .. } = entry.answer {
         take(threads, entry, origin, number);
@@ -153,8 +153,8 @@ fn take_post(threads: &mut Vec<ThreadState>, entry: Entry)
 }
 
 /// Keeps of the entry's own thread whether it waits now.
-fn note_wait(threads: &mut Vec<ThreadState>, entry: Entry)
-    ensures { EachBy (λ t. noted t entry) threads.old.items threads.new.items }
+fn note_wait(threads: &mut Vec<ThreadState>, entry: &Entry)
+    ensures { EachBy (λ t. noted t entry.now) threads.old.items threads.new.items }
 {
     match entry.answer {
         Answer::Wait => note_entry(threads, entry),
@@ -163,13 +163,13 @@ fn note_wait(threads: &mut Vec<ThreadState>, entry: Entry)
 }
 
 /// Keeps of the entry's own thread that it doesn't wait.
-fn note_running(threads: &mut Vec<ThreadState>, entry: Entry)
-    requires { waiting_with entry ≡ None }
-    ensures { EachBy (λ t. noted t entry) threads.old.items threads.new.items }
+fn note_running(threads: &mut Vec<ThreadState>, entry: &Entry)
+    requires { waiting_with entry.now ≡ None }
+    ensures { EachBy (λ t. noted t entry.now) threads.old.items threads.new.items }
 {
     let thread = usize::from(entry.who.0);
     if thread == 0 || thread > threads.len() {
         return;
     }
-    threads[thread - 1].note(None);
+    threads[thread - 1].go_on();
 }

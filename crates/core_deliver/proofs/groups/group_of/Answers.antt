@@ -6,9 +6,9 @@ use Rattle.core_deliver.specs.Groups.{group_of}
 use Rattle.core_deliver.proofs.groups.group_of.Goals as goal
 
 pub returns-in_default : goal.returns-in_default
-returns-in_default c = by c.args.call refl
+returns-in_default c = by c.args.call.now refl
   where
-    by : (call : Call) → c.args.call ≡ call → Window ≡ group_of call
+    by : (call : Call) → c.args.call.now ≡ call → Window ≡ group_of call
     by (calls.Peek w min max flags) is = absurd (c.in_default.not-Peek w min max flags is)
     by (calls.Get w min max) is = absurd (c.in_default.not-Get w min max is)
     by (calls.Status flags) is = absurd (c.in_default.not-Status flags is)

@@ -16,7 +16,7 @@ returns-in-Numbered c =
     let is = rw c.in-Numbered.is at c.actor_of.ensures in
     let other : eqb c.args.who.0 0 ≡ false = grind (arith, nat_tests, is.0, is.1) in
     c.own_answer.ensures
-    ∙ ap (λ b. refuse (is_full past) Full (cond b (clock_row setup past c.args.call) (thread_reply setup past c.args.who.0 c.args.call))) (sym other)
+    ∙ ap (λ b. refuse (is_full past) Full (cond b (clock_row setup past c.args.call.now) (thread_reply setup past c.args.who.0 c.args.call.now))) (sym other)
 
 pub returns-in-Clock : goal.returns-in-Clock
 unfolding reply
@@ -25,4 +25,4 @@ returns-in-Clock c =
     let past = c.args.state.now.past in
     let zero : c.args.who.0 ≡ 0 = rw c.in-Clock.is at c.actor_of.ensures in
     c.answer_to_clock.ensures
-    ∙ ap (λ b. refuse (is_full past) Full (cond b (clock_row setup past c.args.call) (thread_reply setup past c.args.who.0 c.args.call))) (sym (eq-eqb c.args.who.0 0 zero))
+    ∙ ap (λ b. refuse (is_full past) Full (cond b (clock_row setup past c.args.call.now) (thread_reply setup past c.args.who.0 c.args.call.now))) (sym (eq-eqb c.args.who.0 0 zero))

@@ -31,7 +31,7 @@ pub after-requires : goal.after-requires
 after-requires c =
     let s = c.self.inside in
     let past : Past = reverse s.history.items in
-    let e = c.args.entry in
+    let e = c.args.entry.now in
     record {
       past = past;
       lawful = c.self.invariant.lawful;
@@ -42,7 +42,7 @@ after-requires c =
 
 pub add_change-requires-clause-parts : goal.add_change-requires-clause-parts
 add_change-requires-clause-parts c =
-    let e = c.args.entry in
+    let e = c.args.entry.now in
     let s = c.self.inside in
     let past : Past = reverse s.history.items in
     let kept : Parts = parts s.tree s.order s.display s.classes s.threads.items s.timers s.groups s.inputs s.progress s.sends s.tally s.stories.items s.looks s.dialogs in
@@ -52,7 +52,7 @@ add_change-requires-clause-parts c =
 
 pub add_change-requires-clause-inputs : goal.add_change-requires-clause-inputs
 add_change-requires-clause-inputs c =
-    let e = c.args.entry in
+    let e = c.args.entry.now in
     let s = c.self.inside in
     let past : Past = reverse s.history.items in
     let kept : Parts = parts s.tree s.order s.display s.classes s.threads.items s.timers s.groups s.inputs s.progress s.sends s.tally s.stories.items s.looks s.dialogs in
@@ -62,7 +62,7 @@ add_change-requires-clause-inputs c =
 
 pub followed_by-self-inside-requires : goal.followed_by-self-inside-requires
 followed_by-self-inside-requires c =
-    let e = c.args.entry in
+    let e = c.args.entry.now in
     let s = c.self.inside in
     let past : Past = reverse s.history.items in
     let right : e.answer ≡ reply s.setup past e.who.0 e.call = subst (λ (v : Seen). e.answer ≡ reply v.setup v.past e.who.0 e.call) (sym c.self.view_is) c.requires.answer in
@@ -72,7 +72,7 @@ pub add_change-requires-clause-drawing : goal.add_change-requires-clause-drawing
 add_change-requires-clause-drawing c =
     let s = c.self.inside in
     let past : Past = reverse s.history.items in
-    let e = c.args.entry in
+    let e = c.args.entry.now in
     record {
       setup = s.setup;
       past = past;
@@ -84,7 +84,7 @@ add_change-requires-clause-drawing c =
 
 pub add_change-requires-clause-timers : goal.add_change-requires-clause-timers
 add_change-requires-clause-timers c =
-    let e = c.args.entry in
+    let e = c.args.entry.now in
     let s = c.self.inside in
     let past : Past = reverse s.history.items in
     let right : e.answer ≡ reply s.setup past e.who.0 e.call = subst (λ (v : Seen). e.answer ≡ reply v.setup v.past e.who.0 e.call) (sym c.self.view_is) c.requires.answer in
@@ -98,7 +98,7 @@ add_change-requires-clause-early c =
 
 pub follow_timers-requires-clause-fits : goal.follow_timers-requires-clause-fits
 follow_timers-requires-clause-fits c =
-    let e = c.args.entry in
+    let e = c.args.entry.now in
     let s = c.self.inside in
     let past : Past = reverse s.history.items in
     let right : e.answer ≡ reply s.setup past e.who.0 e.call = subst (λ (v : Seen). e.answer ≡ reply v.setup v.past e.who.0 e.call) (sym c.self.view_is) c.requires.answer in
@@ -112,7 +112,7 @@ follow_timers-requires-clause-early c =
 
 pub follow-requires : goal.follow-requires
 follow-requires c =
-    let e = c.args.entry in
+    let e = c.args.entry.now in
     let s = c.self.inside in
     let past : Past = reverse s.history.items in
     let right : e.answer ≡ reply s.setup past e.who.0 e.call = subst (λ (v : Seen). e.answer ≡ reply v.setup v.past e.who.0 e.call) (sym c.self.view_is) c.requires.answer in
@@ -121,7 +121,7 @@ follow-requires c =
 
 pub add_change-requires-clause-order : goal.add_change-requires-clause-order
 add_change-requires-clause-order c =
-    let e = c.args.entry in
+    let e = c.args.entry.now in
     let s = c.self.inside in
     let past : Past = reverse s.history.items in
     let kept : Parts = parts s.tree s.order s.display s.classes s.threads.items s.timers s.groups s.inputs s.progress s.sends s.tally s.stories.items s.looks s.dialogs in
@@ -130,7 +130,7 @@ add_change-requires-clause-order c =
 
 pub take_effect-requires-clause-order : goal.take_effect-requires-clause-order
 take_effect-requires-clause-order c =
-    let e = c.args.entry in
+    let e = c.args.entry.now in
     let s = c.self.inside in
     let past : Past = reverse s.history.items in
     let kept : Parts = parts s.tree s.order s.display s.classes s.threads.items s.timers s.groups s.inputs s.progress s.sends s.tally s.stories.items s.looks s.dialogs in
@@ -139,7 +139,7 @@ take_effect-requires-clause-order c =
 
 pub add_change-requires-clause-sends : goal.add_change-requires-clause-sends
 add_change-requires-clause-sends c =
-    let e = c.args.entry in
+    let e = c.args.entry.now in
     let s = c.self.inside in
     let past : Past = reverse s.history.items in
     let kept : Parts = parts s.tree s.order s.display s.classes s.threads.items s.timers s.groups s.inputs s.progress s.sends s.tally s.stories.items s.looks s.dialogs in
@@ -150,7 +150,7 @@ add_change-requires-clause-sends c =
 
 pub settle_sends-lost-requires-clause-sends : goal.settle_sends-lost-requires-clause-sends
 settle_sends-lost-requires-clause-sends c =
-    let e = c.args.entry in
+    let e = c.args.entry.now in
     let s = c.self.inside in
     let past : Past = reverse s.history.items in
     let kept : Parts = parts s.tree s.order s.display s.classes s.threads.items s.timers s.groups s.inputs s.progress s.sends s.tally s.stories.items s.looks s.dialogs in
@@ -161,7 +161,7 @@ settle_sends-lost-requires-clause-sends c =
 
 pub take_effect-requires-clause-parts : goal.take_effect-requires-clause-parts
 take_effect-requires-clause-parts c =
-    let e = c.args.entry in
+    let e = c.args.entry.now in
     let s = c.self.inside in
     let past : Past = reverse s.history.items in
     let kept : Parts = parts s.tree s.order s.display s.classes s.threads.items s.timers s.groups s.inputs s.progress s.sends s.tally s.stories.items s.looks s.dialogs in
@@ -170,7 +170,7 @@ take_effect-requires-clause-parts c =
 
 pub note_look-requires : goal.note_look-requires
 note_look-requires c =
-    let e = c.args.entry in
+    let e = c.args.entry.now in
     let s = c.self.inside in
     let past : Past = reverse s.history.items in
     let kept : Parts = parts s.tree s.order s.display s.classes s.threads.items s.timers s.groups s.inputs s.progress s.sends s.tally s.stories.items s.looks s.dialogs in
@@ -183,14 +183,14 @@ note_look-requires c =
 
 pub invariant_of-self-2 : goal.invariant_of-self-2
 invariant_of-self-2 c =
-    let e = c.args.entry in
+    let e = c.args.entry.now in
     let s = c.self.inside in
     let past : Past = reverse s.history.items in
     let kept : Parts = parts s.tree s.order s.display s.classes s.threads.items s.timers s.groups s.inputs s.progress s.sends s.tally s.stories.items s.looks s.dialogs in
     let room : is_full past ≡ false = subst (λ (v : Seen). is_full v.past ≡ false) (sym c.self.view_is) c.requires.room in
     let right : e.answer ≡ reply s.setup past e.who.0 e.call = subst (λ (v : Seen). e.answer ≡ reply v.setup v.past e.who.0 e.call) (sym c.self.view_is) c.requires.answer in
-    let pushed : c.push.new.self.items ≡ s.history.items ++ e ∷ [] = search rules in
-    let newest : e ∷ past ≡ reverse c.push.new.self.items = sym (ap reverse pushed ∙ past_more s.history.items e) in
+    let pushed : c.push_reserved.new.self.items ≡ s.history.items ++ e ∷ [] = search rules in
+    let newest : e ∷ past ≡ reverse c.push_reserved.new.self.items = sym (ap reverse pushed ∙ past_more s.history.items e) in
     let long : c.len.result ≡ length s.history.items = search rules in
     let here : c.len.result ≡ place_after past = long ∙ sym (length-reverse s.history.items) in
     let grown = c.in_ok-add_change.ensures in
@@ -214,7 +214,7 @@ invariant_of-self-2 c =
 
 pub with-self-inside-requires : goal.with-self-inside-requires
 with-self-inside-requires c =
-    let e = c.args.entry in
+    let e = c.args.entry.now in
     let s = c.self.inside in
     let past : Past = reverse s.history.items in
     let kept : Parts = parts s.tree s.order s.display s.classes s.threads.items s.timers s.groups s.inputs s.progress s.sends s.tally s.stories.items s.looks s.dialogs in
@@ -226,7 +226,7 @@ with-self-inside-requires c =
 
 pub named_send-named-requires : goal.named_send-named-requires
 named_send-named-requires c =
-    let e = c.args.entry in
+    let e = c.args.entry.now in
     let s = c.self.inside in
     let past : Past = reverse s.history.items in
     let room : is_full past ≡ false = subst (λ (v : Seen). is_full v.past ≡ false) (sym c.self.view_is) c.requires.room in

@@ -17,7 +17,7 @@ use Rattle.core_state.proofs.state.CoreState.append_post.Goals as goal
 
 pub add_post-requires-clause-call : goal.add_post-requires-clause-call
 add_post-requires-clause-call c =
-    let e = c.args.entry in
+    let e = c.args.entry.now in
     let s = c.self.inside in
     let past : Past = reverse s.history.items in
     let kept : Parts = parts s.tree s.order s.display s.classes s.threads.items s.timers s.groups s.inputs s.progress s.sends s.tally s.stories.items s.looks s.dialogs in
@@ -26,7 +26,7 @@ add_post-requires-clause-call c =
 
 pub add_post-requires-clause-room : goal.add_post-requires-clause-room
 add_post-requires-clause-room c =
-    let e = c.args.entry in
+    let e = c.args.entry.now in
     let s = c.self.inside in
     let past : Past = reverse s.history.items in
     let kept : Parts = parts s.tree s.order s.display s.classes s.threads.items s.timers s.groups s.inputs s.progress s.sends s.tally s.stories.items s.looks s.dialogs in
@@ -35,11 +35,11 @@ add_post-requires-clause-room c =
     subst (λ n. FitsPosting s.threads.items n (posting s.tree.live s.progress.time s.progress.cursor false e.who.0 e.call)) (sym c.count_after-number.ensures) fits
 
 pub note_running-requires : goal.note_running-requires
-note_running-requires c = post_goes_on c.args.entry.who c.args.entry.call c.args.entry.answer c.requires.posts
+note_running-requires c = post_goes_on c.args.entry.now.who c.args.entry.now.call c.args.entry.now.answer c.requires.posts
 
 pub invariant_of-self-2 : goal.invariant_of-self-2
 invariant_of-self-2 c =
-    let e = c.args.entry in
+    let e = c.args.entry.now in
     let s = c.self.inside in
     let past : Past = reverse s.history.items in
     let kept : Parts = parts s.tree s.order s.display s.classes s.threads.items s.timers s.groups s.inputs s.progress s.sends s.tally s.stories.items s.looks s.dialogs in
@@ -48,8 +48,8 @@ invariant_of-self-2 c =
     let posts = c.requires.posts in
     let room : is_full past ≡ false = subst (λ (v : Seen). is_full v.past ≡ false) (sym c.self.view_is) c.requires.room in
     let right : e.answer ≡ reply s.setup past e.who.0 e.call = subst (λ (v : Seen). e.answer ≡ reply v.setup v.past e.who.0 e.call) (sym c.self.view_is) c.requires.answer in
-    let pushed : c.push.new.self.items ≡ s.history.items ++ e ∷ [] = search rules in
-    let newest : e ∷ past ≡ reverse c.push.new.self.items = sym (ap reverse pushed ∙ past_more s.history.items e) in
+    let pushed : c.push_reserved.new.self.items ≡ s.history.items ++ e ∷ [] = search rules in
+    let newest : e ∷ past ≡ reverse c.push_reserved.new.self.items = sym (ap reverse pushed ∙ past_more s.history.items e) in
     let number = c.count_after-number.result in
     let change : change_of_post number (posting s.tree.live s.progress.time s.progress.cursor false e.who.0 e.call) ≡ adding_in s.tree.live s.progress.time s.progress.cursor shift e.who.0 e.answer e.call =
     ap (λ n. change_of_post n (posting s.tree.live s.progress.time s.progress.cursor false e.who.0 e.call)) c.count_after-number.ensures

@@ -15,7 +15,7 @@ use Rattle.core_state.proofs.state.CoreState.append_read.Goals as goal
 
 pub take_post-requires-clause-fits : goal.take_post-requires-clause-fits
 take_post-requires-clause-fits c =
-    let e = c.args.entry in
+    let e = c.args.entry.now in
     let s = c.self.inside in
     let past : Past = reverse s.history.items in
     let kept : Parts = parts s.tree s.order s.display s.classes s.threads.items s.timers s.groups s.inputs s.progress s.sends s.tally s.stories.items s.looks s.dialogs in
@@ -25,7 +25,7 @@ take_post-requires-clause-fits c =
 
 pub note_look-requires : goal.note_look-requires
 note_look-requires c =
-    let e = c.args.entry in
+    let e = c.args.entry.now in
     let s = c.self.inside in
     let past : Past = reverse s.history.items in
     let kept : Parts = parts s.tree s.order s.display s.classes s.threads.items s.timers s.groups s.inputs s.progress s.sends s.tally s.stories.items s.looks s.dialogs in
@@ -36,7 +36,7 @@ note_look-requires c =
 
 pub invariant_of-self-2 : goal.invariant_of-self-2
 invariant_of-self-2 c =
-    let e = c.args.entry in
+    let e = c.args.entry.now in
     let s = c.self.inside in
     let past : Past = reverse s.history.items in
     let kept : Parts = parts s.tree s.order s.display s.classes s.threads.items s.timers s.groups s.inputs s.progress s.sends s.tally s.stories.items s.looks s.dialogs in
@@ -47,8 +47,8 @@ invariant_of-self-2 c =
     let went = ap (λ n. come n s.progress.inputs s.progress.time s.progress.cursor) (read_counts e.answer e.call s.progress.posts reads) in
     let room : is_full past ≡ false = subst (λ (v : Seen). is_full v.past ≡ false) (sym c.self.view_is) c.requires.room in
     let right : e.answer ≡ reply s.setup past e.who.0 e.call = subst (λ (v : Seen). e.answer ≡ reply v.setup v.past e.who.0 e.call) (sym c.self.view_is) c.requires.answer in
-    let pushed : c.push.new.self.items ≡ s.history.items ++ e ∷ [] = search rules in
-    let newest : e ∷ past ≡ reverse c.push.new.self.items = sym (ap reverse pushed ∙ past_more s.history.items e) in
+    let pushed : c.push_reserved.new.self.items ≡ s.history.items ++ e ∷ [] = search rules in
+    let newest : e ∷ past ≡ reverse c.push_reserved.new.self.items = sym (ap reverse pushed ∙ past_more s.history.items e) in
     let long : c.len-place.result ≡ length s.history.items = search rules in
     let here : c.len-place.result ≡ place_after past = long ∙ sym (length-reverse s.history.items) in
     let first = read_added s.tree.live s.progress.time s.progress.cursor (is_shift_down past e.who.0) e.who.0 e.answer e.call s.threads.items reads in
