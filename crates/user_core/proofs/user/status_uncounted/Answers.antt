@@ -3,5 +3,5 @@ use Rattle.std.proofs.lemmas.Bool.{false≢true}
 use Rattle.user_core.proofs.Statuses.{other_call}
 use Rattle.user_core.proofs.user.status_uncounted.Goals as goal
 
-pub unreachable : goal.unreachable
-unreachable g c = absurd (false≢true (sym (other_call c.args.call.now (λ flags is. c.in_default.not-Status flags is)) ∙ c.requires.group))
+pub unreachable-unreachable : goal.unreachable-unreachable
+unreachable-unreachable g c = absurd (false≢true (sym (other_call c.args.call.now (λ flags is. c.in_default.not-Status flags is)) ∙ c.requires.group))
