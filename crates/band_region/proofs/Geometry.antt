@@ -1,5 +1,6 @@
 -- Tests of edges.
-use Rattle.std.proofs.Common.{◌≡◌, ◌<◌, true, false, refl, ap, w32, arith}
+use Rattle.std.proofs.Common.{◌≡◌, ◌<◌, ◌^◌, true, false, refl, ap, w32, to_z, of_z, arith}
+use Rattle.std.specs.Int.Signed.{mag}
 use Rattle.std.specs.Prelude.{ℤ, pos, negsuc, ◌-ℤ◌, ◌≤ℤ◌, ◌<ℤ◌, int_lt, int_le, FitsSigned}
 use borrow.Author.Differences.{up}
 use Rattle.std.specs.Int.{int_max, int_min}
@@ -49,6 +50,11 @@ right_fits x = near_fits x.r (≤ℤ-trans _ _ _ x.left_near x.across) x.right_n
 
 pub bottom_fits : (x : Rect) → FitsSigned w32 x.b
 bottom_fits x = near_fits x.b (≤ℤ-trans _ _ _ x.top_near x.down) x.bottom_near
+
+-- the lesser of two left edges lies left of the greater of their right ones
+pub in_order : (m l r n x y : ℤ) → mag m < 2 ^ 31 → mag x < 2 ^ 31 → mag y < 2 ^ 31 → mag n < 2 ^ 31 → m ≤ℤ to_z w32 (of_z w32 x) → x ≡ l → l ≤ℤ r → y ≡ r → to_z w32 (of_z w32 y) ≤ℤ n
+    → to_z w32 (of_z w32 m) ≤ℤ to_z w32 (of_z w32 n)
+in_order m l r n x y fm fx fy fn a b c d e = omega (arith, ints)
 
 -- edges that are the lesser and greater ones of two rectangles make the least one around both
 pub joined_is : (a b c : Rect) (l t r d : ℤ) → l ≡ int_min a.l b.l → t ≡ int_min a.t b.t → r ≡ int_max a.r b.r → d ≡ int_max a.b b.b → box_in c ≡ box l t r d → IsJoined a b c

@@ -1,10 +1,11 @@
 -- Columns of a row.
-use Rattle.std.proofs.Common.{◌≡◌, ℕ, ◌+◌, ◌<◌, ◌≤◌, Bool, true, false, ◌&&◌, ◌||◌, List, [], ◌∷◌, ◌++◌, take, drop, get_or, length, refl, sym, ap, subst, ◌∙◌, arith}
-use Rattle.std.specs.Prelude.{ℤ, pos, negsuc, ◌≤ℤ◌, ◌<ℤ◌, int_le, All}
+use Rattle.std.proofs.Common.{◌≡◌, ℕ, ◌+◌, ◌-◌, ◌<◌, ◌≤◌, Bool, true, false, ◌&&◌, ◌||◌, List, [], ◌∷◌, ◌++◌, take, drop, get_or, length, refl, sym, ap, subst, ◌∙◌, arith}
+use Rattle.std.specs.Prelude.{ℤ, pos, negsuc, ◌≤ℤ◌, ◌<ℤ◌, int_le, All, set}
 use Rattle.std.specs.List.{AllPairs}
+use Rattle.std.proofs.lemmas.Bool.{false≢true}
 use Rattle.std.proofs.lemmas.Int.{ints}
 use Rattle.std.proofs.lemmas.List.Folds.{list_any_none, list_any-append}
-use Rattle.std.proofs.lemmas.List.{take_at, take_all}
+use Rattle.std.proofs.lemmas.List.{take_at, take_all, take_more, take_more_set, length-set, set-get_or}
 use Rattle.std.proofs.lemmas.List.Elements.{All-nil, All-head, All-more, All-weaker, All-push, All-take, All-contains, Contains-push}
 use Rattle.win_num.specs.declared.shapes.Rect.{Rect}
 use Rattle.band_region.specs.declared.columns.Mix.{Mix}
@@ -167,19 +168,35 @@ span_joined old front last s l r e w f g h k m =
       same = λ z. added.same z ∙ (ap (λ b. spans_have front z || b) (col_joined last.l l r z (omega (arith, ints)) (omega (arith, ints))) ∙ (or_assoc (spans_have front z) (column_in last.l l z) (column_in l r z) ∙ ap (λ b. b || column_in l r z) (sym (rw (e, ← f) (spans-push front last z)))));
     }
 
--- a span apart from the last one
-pub span_apart : (old front : List Span) (last s : Span) (l r : ℤ) → old ≡ front ++ last ∷ [] → IsRow old → All (λ t. t.r ≤ℤ l) old → (last.r ≡ l → ⊥) → s.l ≡ l → s.r ≡ r → l <ℤ r → negsuc 8388607 ≤ℤ l → r ≤ℤ pos 8388608 → IsSpanAdded old l r ((front ++ last ∷ []) ++ s ∷ [])
-span_apart old front last s l r e w a n f g h k m =
-    let row : IsRow (front ++ last ∷ []) = subst IsRow e w in
-    let ends : All (λ t. t.r ≤ℤ l) (front ++ last ∷ []) = subst (λ ss. All (λ t. t.r ≤ℤ l) ss) e a in
-    let end : last.r ≤ℤ l = All-contains (λ t. t.r ≤ℤ l) (front ++ last ∷ []) last ends (Contains-push front last) in
-    let good = last_good front last row in
-    let across : last.l <ℤ last.r = good.across in
-    let ended : All (λ t. t.r <ℤ l) (front ++ last ∷ []) = All-push (λ t. t.r <ℤ l) front last (All-weaker (λ t. t.r <ℤ last.l) (λ t. t.r <ℤ l) (λ t q. omega (arith, ints)) front (pairs-last (λ t u. t.r <ℤ u.l) front last row.apart)) (less end n) in
-    subst (λ ss. IsSpanAdded ss l r ((front ++ last ∷ []) ++ s ∷ [])) (sym e) (span_pushed (front ++ last ∷ []) s l r row ended f g h k m)
+-- the front of a row of n spans and its last one
+whole : (old : List Span) (n : ℕ) (last : Span) → n ≡ length old → 0 < n → last ≡ get_or old (n - 1) last → old ≡ take (n - 1) old ++ last ∷ []
+whole old n last m h e =
+    sym (take_all ((n - 1) + 1) old (omega arith)) ∙ (take_more old (n - 1) last (omega arith) ∙ ap (λ s. take (n - 1) old ++ s ∷ []) (sym e))
+
+pub last_joined : (old : List Span) (n : ℕ) (last s : Span) (l r : ℤ) → n ≡ length old → 0 < n → last ≡ get_or old (n - 1) last → IsRow old → last.r ≡ l → s.l ≡ last.l → s.r ≡ r → l <ℤ r → r ≤ℤ pos 8388608
+    → IsSpanAdded old l r (set old (n - 1) s)
+last_joined old n last s l r m h e w f g k a b =
+    let is : take (n - 1) old ++ s ∷ [] ≡ set old (n - 1) s = sym (take_more_set old (n - 1) s (omega arith)) ∙ take_all ((n - 1) + 1) (set old (n - 1) s) (rw (length-set old (n - 1) s) (omega arith)) in
+    subst (λ ss. IsSpanAdded old l r ss) is (span_joined old (take (n - 1) old) last s l r (whole old n last m h e) w f g k a b)
+
+-- where the last span doesn't touch a column, none does
+pub ended_apart : (old : List Span) (n : ℕ) (last : Span) (l : ℤ) → n ≡ length old → 0 < n → last ≡ get_or old (n - 1) last → IsRow old → All (λ t. t.r ≤ℤ l) old → (last.r ≡ l → ⊥) → All (λ t. t.r <ℤ l) old
+ended_apart old n last l m h e w a apart = let front = take (n - 1) old in let parts = whole old n last m h e in
+    let row : IsRow (front ++ last ∷ []) = subst IsRow parts w in
+    let end : last.r ≤ℤ l = All-contains (λ t. t.r ≤ℤ l) (front ++ last ∷ []) last (subst (All (λ t. t.r ≤ℤ l)) parts a) (Contains-push front last) in
+    let across : last.l <ℤ last.r = (last_good front last row).across in
+    subst (All (λ t. t.r <ℤ l)) (sym parts) (All-push (λ t. t.r <ℤ l) front last (All-weaker (λ t. t.r <ℤ last.l) (λ t. t.r <ℤ l) (λ t q. omega (arith, ints)) front (pairs-last (λ t u. t.r <ℤ u.l) front last row.apart)) (less end apart))
   where
     less : {a b : ℤ} → a ≤ℤ b → (a ≡ b → ⊥) → a <ℤ b
     less {a = a} {b = b} q n = omega (arith, ints, n)
+
+-- the last span is put back
+pub last_kept : (old : List Span) (i : ℕ) (last : Span) → last ≡ get_or old i last → set old i last ≡ old
+last_kept old i last e = ap (λ s. set old i s) e ∙ set-get_or old i last
+
+pub none_ended : (old : List Span) (n : ℕ) (l : ℤ) → n ≡ length old → (0 < n → false ≡ true) → All (λ t. t.r <ℤ l) old
+none_ended [] n l m h = All-nil (λ t. t.r <ℤ l)
+none_ended (s ∷ ss) n l m h = absurd (false≢true (h (omega arith)))
 
 pub added_at : {old new ss : List Span} {l r : ℤ} → new ≡ ss → IsSpanAdded old l r ss → IsSpanAdded old l r new
 added_at {old = old} {l = l} {r = r} e a = subst (λ xs. IsSpanAdded old l r xs) (sym e) a

@@ -99,15 +99,12 @@ fn push_span(spans: &mut Vec<Span>, l: i32, r: i32) -> Result<(), AllocError>
     requires right_near { r ≤ℤ pos 8388608 }
     ensures { OnOk result (IsSpanAdded spans.old.items l r spans.new.items) }
 {
-    let Some(last) = spans.pop() else {
-        spans.push(Span { l, r })?;
-        return Ok(());
-    };
-    if last.r == l {
-        spans.push(Span { l: last.l, r })?;
-        return Ok(());
+    if let Some(last) = spans.last_mut() {
+        if last.r == l {
+            last.r = r;
+            return Ok(());
+        }
     }
-    spans.push(last)?;
     spans.push(Span { l, r })?;
     Ok(())
 }

@@ -22,7 +22,7 @@ use Rattle.user_model.specs.Idle.{reply, is_barred, is_idle, is_quiet, have_all_
 use Rattle.user_model.specs.Replies.{thread_reply}
 use Rattle.user_model.specs.Machines.{entry_of}
 use Rattle.turn_lock.specs.Seats.{Sitting}
-use Rattle.user_desk.specs.Desks.{thread, seen_by, made_by, HasLooked, HasMade, WasFree, TurnCameTo, CameToAtLast, Remembers}
+use Rattle.user_desk.specs.Desks.{thread, seen_by, made_by, HasLooked, HasMade, WasFree, CameTo, TurnCameTo, CameToAtLast, Remembers}
 
 refused_so : (b : Bool) (code : Code) (a : Answer) → is_wait a ≡ false → is_wait (refuse b code a) ≡ false
 refused_so true code a goes = refl
@@ -97,6 +97,14 @@ module _ {S : Type 0} where
 
       answered : answer ≡ Wait → true ≡ false
       answered is = ap is_wait (sym is) ∙ ap is_wait made.is_reply ∙ no_more_wait setup (since ++ opening) n wait (eqb n 0) refl last refl made.room free
+
+  -- the seat that has looked remembers
+  pub remembers_first : (setup : Setup) (opening : Past) (old new : Sitting S (Thread × Call) Answer) → HasLooked setup opening old new → Remembers setup opening old new
+  remembers_first setup opening old new looked = record { looks = omega (arith, looked.looks); seen = looked.seen; lawful = looked.lawful; short = looked.short; own = looked.own }
+
+  -- a call that didn't wait at first was made at last
+  pub at_first : (setup : Setup) (opening : Past) (old new : Sitting S (Thread × Call) Answer) (call : Call) (answer : Answer) → CameTo setup opening old new call answer → answer ≢ Wait → CameToAtLast setup opening old new call answer
+  at_first setup opening old new call answer came goes = record { between = old; seen = ([], refl); waited = inl refl; came_to = came; no_wait = goes }
 
   -- the seat that remembers and looks once more remembers
   pub remembers_more : (setup : Setup) (opening : Past) (old mid new : Sitting S (Thread × Call) Answer) → Remembers setup opening old mid → HasLooked setup opening mid new → Remembers setup opening old new

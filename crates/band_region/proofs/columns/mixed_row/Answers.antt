@@ -10,6 +10,9 @@ use Rattle.band_region.proofs.columns.mixed_row.Goals.{then-keeps+in_ok-push_spa
 pub loop-x-init : goal.loop-x-init
 loop-x-init c = row_start _ _ _ _ _ _ _ c.new-spans.ensures.items refl c.right_of-ones.ensures c.right_of-others.ensures
 
+pub push_span-requires-clause-across : goal.push_span-requires-clause-across
+push_span-requires-clause-across c = let on = c.stretch_at-one.ensures.on in let on_too = c.stretch_at-other.ensures.on in omega (arith, ints, clamps)
+
 pub loop-x-preserved : goal.loop-x-preserved
 loop-x-preserved c =
     elim c.if-keeps.branch [

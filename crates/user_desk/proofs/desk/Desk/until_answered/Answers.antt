@@ -1,5 +1,5 @@
-use Rattle.std.proofs.Common.{◌∙◌}
-use Rattle.user_desk.proofs.Waits.{remembers_more, at_last, barred_makes_nothing}
+use Rattle.std.proofs.Common.{rules, ◌∙◌}
+use Rattle.user_desk.proofs.Waits.{remembers_first, at_first, remembers_more, at_last, barred_makes_nothing}
 use Rattle.user_desk.proofs.desk.Desk.until_answered.Goals as goal
 
 pub returns-in_err-answer-clause-remembers : goal.returns-in_err-answer-clause-remembers
@@ -23,3 +23,9 @@ loop-preserved g c = record {
   waited =
       barred_makes_nothing (g.M.Machine.setup c.args.self.now.opening.machine) (g.M.Machine.past c.args.self.now.opening.machine) c.loop.seat c.turn.new.seat c.args.call c.in_ok-answer.field-0 c.in_default-2.not-Answered c.in_ok-answer.ensures.came_to ∙ c.loop.invariant.waited;
 }
+
+pub returns-then-not-matches-clause-remembers : goal.returns-then-not-matches-clause-remembers
+returns-then-not-matches-clause-remembers g c = remembers_first (g.M.Machine.setup c.args.self.now.opening.machine) (g.M.Machine.past c.args.self.now.opening.machine) c.args.seat.now c.call.new.seat c.call.ensures.looked
+
+pub returns-then-not-matches-clause-came_to : goal.returns-then-not-matches-clause-came_to
+returns-then-not-matches-clause-came_to g c = at_first _ _ _ _ _ _ c.in_ok-first.ensures.came_to (search rules)
