@@ -168,7 +168,6 @@ pub fn settle_sends(
 }
 
 /// Notes a look at what is there, where an entry is one that wasn't refused. `place` is that of the next entry.
-#[inline(always)]
 pub fn note_look(sends: &mut SendState, entry: &Entry, place: u32)
     requires { is_looking entry.now ≡ true → FitsLook sends.old entry.now.who.0 place }
     ensures { sends.new ≡ looked_by entry.now place sends.old }

@@ -50,7 +50,6 @@ impl Look {
     }
 
     /// Puts another look in its place.
-    #[inline(always)]
     pub(crate) fn renew(&mut self, at: Moment, seen: Vec<SeenWindow>)
         ensures { self.new ≡ look_at at seen.items }
     {

@@ -48,7 +48,6 @@ impl Looks {
 
     /// Notes what an entry leaves for its thread, where it is a look. `after` is how far the history comes with the entry, and `seen`
     /// are the dirty pixels at it.
-    #[inline(always)]
     pub fn follow(&mut self, entry: &Entry, after: Moment, seen: Vec<SeenWindow>)
         ensures { EachLook (λ t. look_after t entry.now after seen.items) self.old self.new }
     {
@@ -71,7 +70,6 @@ fn fresh_looks(alloc: Global, count: u8) -> Result<Vec<Look>, AllocError>
 }
 
 /// Notes what was there for a thread that looks.
-#[inline(always)]
 fn note_look(looks: &mut Vec<Look>, who: Thread, at: Moment, seen: Vec<SeenWindow>)
     ensures { EachLook (λ t k. if who.0 == t then look_at at seen.items else k) looks.old.items looks.new.items }
 {

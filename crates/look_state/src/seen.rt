@@ -23,7 +23,6 @@ pub struct SeenWindow {
 }
 
 /// The dirty pixels of the windows of the entry's thread, where the entry is a look. Want of memory is the only error.
-#[inline(always)]
 pub fn seen_by(
     alloc: Global,
     tree: &Tree,

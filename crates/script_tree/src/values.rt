@@ -14,6 +14,7 @@ use win_num::Msg;
 
 impl Operand {
     /// Its value where the variables are these; a constant of no ordinal is 0.
+    #[inline(always)]
     pub fn value(&self, variables: &Variables) -> u64
         ensures { result ≡ value_of self.now variables.now }
     {

@@ -26,7 +26,6 @@ pub struct Stamp {
 }
 
 /// The thread that an entry posts to, and the message.
-#[inline(always)]
 pub fn posting(tree: &Tree, stamp: Stamp, entry: &Entry) -> Option<(u64, Msg)>
     requires { FitsPost tree.now.live stamp.shift entry.now.call }
     ensures { result ≡ posting tree.now.live stamp.time stamp.cursor stamp.shift entry.now.who.0 entry.now.call }

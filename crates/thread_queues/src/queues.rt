@@ -49,7 +49,6 @@ pub fn end(threads: &mut Vec<ThreadState>, who: Thread)
 }
 
 /// Takes out what a retrieval handed out and removes: a posted message, or quit. WM_PAINT and WM_TIMER aren't kept here.
-#[inline(always)]
 pub fn take(threads: &mut Vec<ThreadState>, entry: &Entry, origin: Origin, number: u32)
     requires { IsOne threads.old.items entry.now.who.0 }
     ensures { EachBy (λ t. changed t (taken_if entry.now.call (removal entry.now.who.0 origin number))) threads.old.items threads.new.items }
@@ -65,7 +64,6 @@ pub fn take(threads: &mut Vec<ThreadState>, entry: &Entry, origin: Origin, numbe
 }
 
 /// Takes a message out of the queue of a thread.
-#[inline(always)]
 fn take_post(threads: &mut Vec<ThreadState>, who: Thread, number: u32)
     requires { IsOne threads.old.items who.0 }
     ensures { EachBy (λ t. changed t (takes who.0 number)) threads.old.items threads.new.items }
@@ -82,7 +80,6 @@ pub fn set_quit(threads: &mut Vec<ThreadState>, who: Thread, quit: Option<u64>)
 }
 
 /// Keeps of the entry's own thread whether it waits now.
-#[inline(always)]
 pub fn note_entry(threads: &mut Vec<ThreadState>, entry: &Entry)
     ensures { EachBy (λ t. noted t entry.now) threads.old.items threads.new.items }
 {
@@ -95,7 +92,6 @@ pub fn note_entry(threads: &mut Vec<ThreadState>, entry: &Entry)
 }
 
 /// Where the entry is a look of its own thread at its queue, what is there came before. `count` says how many posts there were with it.
-#[inline(always)]
 pub fn mark_look(threads: &mut Vec<ThreadState>, entry: &Entry, count: u32)
     ensures { EachBy (λ t. marked t entry.now count) threads.old.items threads.new.items }
 {

@@ -192,7 +192,6 @@ impl ThreadState {
     }
 
     /// The thread looks, when there were so many posts of all threads: what is there came before.
-    #[inline(always)]
     pub fn look(&mut self, posts: u32)
         ensures { self.new ≡ record self.old { quit_is_new = false; seen = posts } }
     {
