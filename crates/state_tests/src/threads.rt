@@ -77,6 +77,8 @@ fn quit_and_waits_are_kept(rt: HostRuntime) {
     assert_eq!(rt; thread.quit(), Some(7));
     thread.note(Some(Call::Await(1)));
     assert!(rt; thread.waiting().is_some());
+    thread.go_on();
+    assert!(rt; thread.waiting().is_none());
 }
 
 #[test]

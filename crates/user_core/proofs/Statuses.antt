@@ -14,7 +14,6 @@ use Rattle.user_model.specs.Refusals.{refuse}
 use Rattle.user_model.specs.ReplyDelivery.{status_reply}
 use Rattle.user_model.specs.Replies.{is_barred_by, thread_reply}
 use Rattle.user_model.specs.Stacks.{top}
-use Rattle.user_model.specs.Status.{status}
 use Rattle.user_model.specs.Idle.{is_wait}
 use Rattle.core_deliver.specs.Groups.{is_status}
 
@@ -28,8 +27,3 @@ never_waits setup past t (Status flags) h =
     (refused (not (is_running setup past t)) NotNow _
     (refused (is_barred_by (Status flags) (top past t)) NotNow (status_reply setup past t flags) (refused (nat_lt 127 flags) _ _ refl)))
 never_waits setup past t _ h = absurd (false≢true h)
-
--- any other call is none
-pub other_call : (call : Call) → ((flags : ℕ) → call ≡ Status flags → ⊥) → is_status call ≡ false
-other_call (Status flags) h = absurd (h flags refl)
-other_call _ h = refl
