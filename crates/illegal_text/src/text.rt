@@ -199,7 +199,6 @@ fn put_kept<M: Machine>(
 }
 
 /// The three lines.
-#[tactic(auto, using(user_io::proofs::Texts::two), unfolding(crate::specs::Texts::illegal_text))]
 fn three_lines<M: Machine>(
     alloc: Global,
     script: &Script,

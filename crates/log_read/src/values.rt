@@ -42,7 +42,6 @@ pub fn small_at(word: &[u8]) -> u32
 }
 
 /// A number with its sign.
-#[tactic(auto, unfolding(crate::specs::Reading::signed_at))]
 pub fn signed_at(word: &[u8]) -> i64
     ensures { result ≡ signed_at word.now }
 {

@@ -1,3 +1,4 @@
+use Rattle.std.proofs.lemmas.Grind.{common_steps}
 use Rattle.std.proofs.Common.{◌≡◌, drop, take, take_at, length, ◌++◌, sym, subst, arith, rules}
 use Rattle.std.specs.Prelude.{IsNone}
 use Rattle.user_pool.specs.Teams.{AreTeams, HaveNoSeats}
@@ -20,3 +21,45 @@ loop-preserved g c =
       teams = subst (λ xs. AreTeams c.args.script.now c.in_ok-program.program past xs (λ x. x.workers.items)) c.deref.ensures.value c.in_ok-end.ensures.teams;
       none = subst (λ xs. HaveNoSeats xs (λ x. x.seats.items)) (sym whole) c.in_ok-machine.ensures.none;
     }
+
+pub new_groups-requires-clause-program : goal.new_groups-requires-clause-program
+new_groups-requires-clause-program g c = grind (arith, common_steps)
+
+pub loop-init : goal.loop-init
+loop-init g c = grind (arith, common_steps)
+
+pub run_phase-requires : goal.run_phase-requires
+run_phase-requires g c = grind (arith, common_steps)
+
+pub go_on-requires-clause-program : goal.go_on-requires-clause-program
+go_on-requires-clause-program g c = grind (arith, common_steps)
+
+pub go_on-requires-clause-teams : goal.go_on-requires-clause-teams
+go_on-requires-clause-teams g c = grind (arith, common_steps)
+
+pub returns-in_err-end-clause-run : goal.returns-in_err-end-clause-run
+returns-in_err-end-clause-run g c = grind (arith, common_steps)
+
+pub returns-in_err-end-clause-lawful : goal.returns-in_err-end-clause-lawful
+returns-in_err-end-clause-lawful g c = grind (arith, common_steps)
+
+pub returns-in_err-end-clause-end : goal.returns-in_err-end-clause-end
+returns-in_err-end-clause-end g c = grind (arith, common_steps)
+
+pub returns-in_err-end-clause-over : goal.returns-in_err-end-clause-over
+returns-in_err-end-clause-over g c = grind (arith, common_steps)
+
+pub returns-in_err-end-clause-setup : goal.returns-in_err-end-clause-setup
+returns-in_err-end-clause-setup g c = grind (arith, common_steps)
+
+pub returns-in-Some-2-clause-run : goal.returns-in-Some-2-clause-run
+returns-in-Some-2-clause-run g c = grind (arith, common_steps)
+
+pub returns-in-Some-2-clause-end : goal.returns-in-Some-2-clause-end
+returns-in-Some-2-clause-end g c = search rules
+
+pub returns-in-Some-2-clause-over : goal.returns-in-Some-2-clause-over
+returns-in-Some-2-clause-over g c = grind (arith, common_steps)
+
+pub loop-smaller : goal.loop-smaller
+loop-smaller g c = grind (arith, common_steps)

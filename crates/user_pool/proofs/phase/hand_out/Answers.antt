@@ -1,3 +1,4 @@
+use Rattle.std.proofs.lemmas.Grind.{common_steps}
 use Rattle.std.proofs.Common.{◌≡◌, ◌+◌, ◌<◌, ◌%◌, suc, ◌∷◌, [], ◌++◌, length, get_or, length-set, add-one, refl, sym, ap, ◌∙◌, arith}
 use Rattle.std.proofs.lemmas.Nat.{mod_below}
 use Rattle.turn_lock.specs.Seats.{new_seat, new_seats}
@@ -32,3 +33,6 @@ pub returns-clause-clock : goal.returns-clause-clock
 returns-clause-clock g c =
     let clock = c.remove-clock.result in
     c.remove-clock.ensures.value ∙ ap (λ seats. get_or seats 0 clock) c.requires.seats ∙ new_seats_at c.args.desk.now (c.args.threads + 1) 0 clock (omega arith)
+
+pub remove-clock-requires : goal.remove-clock-requires
+remove-clock-requires g c = grind (arith, common_steps)

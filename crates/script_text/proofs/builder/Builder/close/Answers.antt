@@ -1,4 +1,5 @@
-use Rattle.std.proofs.Common.{◌≡◌, ◌++◌, ◌∷◌, [], List, sym, ap, ◌∙◌, append_assoc}
+use Rattle.std.proofs.lemmas.Grind.{common_steps}
+use Rattle.std.proofs.Common.{◌≡◌, ◌++◌, ◌∷◌, [], List, sym, ap, ◌∙◌, append_assoc, arith}
 use Rattle.script_lines.specs.declared.line.Line.{Line}
 use Rattle.script_lines.specs.declared.line.Line.TheVariants.{If, Else, End}
 use Rattle.script_text.specs.declared.builder.Opening.{Opening}
@@ -26,3 +27,15 @@ returns-in-Else-clause-lines c =
     ∙ sym (append_assoc one two (End ∷ []))
     ∙ ap (λ (o : Opening). (opening_lines o ++ two) ++ End ∷ []) (sym c.in-Else.is) in
     closed_block c.args.self.now.procedures.items c.args.self.now.threads.items c.add_statement-in-Else.new.blocks.items c.args.self.now.blocks.items c.pop_front.new.self.items b c.closed_else.result c.add_statement-in-Else.result c.in-Some.ensures.items same c.add_statement-in-Else.ensures.lines
+
+pub returns-in-Procedure-clause-nest : goal.returns-in-Procedure-clause-nest
+returns-in-Procedure-clause-nest c = grind (arith, common_steps)
+
+pub returns-in-Thread-clause-nest : goal.returns-in-Thread-clause-nest
+returns-in-Thread-clause-nest c = grind (arith, common_steps)
+
+pub returns-in-If-clause-lines : goal.returns-in-If-clause-lines
+returns-in-If-clause-lines c = grind (arith, common_steps)
+
+pub returns-in-While-clause-lines : goal.returns-in-While-clause-lines
+returns-in-While-clause-lines c = grind (arith, common_steps)

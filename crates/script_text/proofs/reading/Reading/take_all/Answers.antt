@@ -1,4 +1,5 @@
-use Rattle.std.proofs.Common.{ℕ, ◌+◌, List, Bor, take, subst}
+use Rattle.std.proofs.lemmas.Grind.{common_steps}
+use Rattle.std.proofs.Common.{ℕ, ◌+◌, List, Bor, take, subst, arith}
 use Rattle.std.specs.Prelude.{map}
 use Rattle.script_text.specs.Grammar.{Begins}
 use Rattle.script_text.proofs.Judging.{one_taken, taken_length}
@@ -13,3 +14,9 @@ returns-then-not-branch-clause-bad c = λ e.
     let bad = c.in_ok-take_next.ensures.bad (map read (take i texts)) (taken_length read texts i c.loop-before-test.true) c.loop-before.invariant c.if-not-branch.true in
     let B : List (List ℕ) → Type 0 = λ l. Begins l → ⊥ in
     no_text read texts (i + 1) (subst B (one_taken read texts i _ c.loop-before-test.true) bad)
+
+pub loop-before-preserved : goal.loop-before-preserved
+loop-before-preserved c = grind (arith, common_steps)
+
+pub returns-clause-good : goal.returns-clause-good
+returns-clause-good c = grind (arith, common_steps)

@@ -1,3 +1,4 @@
+use Rattle.std.proofs.lemmas.Grind.{common_steps}
 use Rattle.std.proofs.Common.{◌≡◌, ℕ, ◌+◌, List, Bor, length, sym, ◌∙◌, arith}
 use Rattle.std.specs.Prelude.{map}
 use Rattle.std.proofs.lemmas.Bool.{false≢true}
@@ -78,3 +79,45 @@ returns-clause-added c =
     let old = c.args.self.now in
     let found = rw c.in-Some.is at c.in_ok-line.ensures.found in
     added_last c.take.result old.known c.line_at.new.known (map read c.args.words.now) c.args.text.now c.in-Some.line found c.requires.split (lines_in old.builder) (lines_in c.take.new.self) c.take.ensures.lines
+
+pub returns-in_err-line-clause-taken : goal.returns-in_err-line-clause-taken
+returns-in_err-line-clause-taken c = grind (arith, common_steps)
+
+pub returns-in_err-line-clause-refused : goal.returns-in_err-line-clause-refused
+returns-in_err-line-clause-refused c = grind (arith, common_steps)
+
+pub returns-in_err-line-clause-added : goal.returns-in_err-line-clause-added
+returns-in_err-line-clause-added c = grind (arith, common_steps)
+
+pub returns-in_err-line-clause-sound : goal.returns-in_err-line-clause-sound
+returns-in_err-line-clause-sound c = grind (arith, common_steps)
+
+pub returns-in_default-clause-taken : goal.returns-in_default-clause-taken
+returns-in_default-clause-taken c = grind (arith, common_steps)
+
+pub returns-in_default-clause-added : goal.returns-in_default-clause-added
+returns-in_default-clause-added c = grind (arith, common_steps)
+
+pub returns-in_err-is_text_of-clause-taken : goal.returns-in_err-is_text_of-clause-taken
+returns-in_err-is_text_of-clause-taken c = grind (arith, common_steps)
+
+pub returns-in_err-is_text_of-clause-refused : goal.returns-in_err-is_text_of-clause-refused
+returns-in_err-is_text_of-clause-refused c = grind (arith, common_steps)
+
+pub returns-in_err-is_text_of-clause-added : goal.returns-in_err-is_text_of-clause-added
+returns-in_err-is_text_of-clause-added c = grind (arith, common_steps)
+
+pub returns-in_err-is_text_of-clause-sound : goal.returns-in_err-is_text_of-clause-sound
+returns-in_err-is_text_of-clause-sound c = grind (arith, common_steps)
+
+pub returns-then-not-branch-clause-taken : goal.returns-then-not-branch-clause-taken
+returns-then-not-branch-clause-taken c = grind (arith, common_steps)
+
+pub returns-then-not-branch-clause-added : goal.returns-then-not-branch-clause-added
+returns-then-not-branch-clause-added c = grind (arith, common_steps)
+
+pub returns-then-not-names_go_on-clause-taken : goal.returns-then-not-names_go_on-clause-taken
+returns-then-not-names_go_on-clause-taken c = grind (arith, common_steps)
+
+pub returns-then-not-names_go_on-clause-added : goal.returns-then-not-names_go_on-clause-added
+returns-then-not-names_go_on-clause-added c = grind (arith, common_steps)

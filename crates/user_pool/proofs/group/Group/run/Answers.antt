@@ -1,4 +1,5 @@
-use Rattle.std.proofs.Common.{◌∙◌}
+use Rattle.std.proofs.lemmas.Grind.{common_steps}
+use Rattle.std.proofs.Common.{◌∙◌, arith}
 use Rattle.user_pool.proofs.group.Group.run.Goals as goal
 
 pub loop-preserved : goal.loop-preserved
@@ -10,3 +11,6 @@ loop-preserved g c = record {
 
 pub returns-in-Ok-false-clause-works : goal.returns-in-Ok-false-clause-works
 returns-in-Ok-false-clause-works g c = λ fed s program same at. c.in-Ok-false.ensures.works s program same (c.loop.invariant.works s program same at)
+
+pub returns-in-Err-clause-works : goal.returns-in-Err-clause-works
+returns-in-Err-clause-works g c = grind (arith, common_steps)
