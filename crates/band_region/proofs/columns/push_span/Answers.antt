@@ -1,4 +1,4 @@
-use Rattle.std.proofs.Common.{◌≡◌, List, ◌++◌, ◌∷◌, [], refl, ap, ◌∙◌, to_z, of_z, w32, arith}
+use Rattle.std.proofs.Common.{List, ◌++◌, ◌∷◌, [], refl, ap, ◌∙◌, to_z, of_z, w32, arith}
 use Rattle.std.proofs.lemmas.Int.{ints}
 use Rattle.band_region.specs.declared.columns.Span.{Span}
 use Rattle.band_region.proofs.Spans.{span_pushed, last_joined, ended_apart, last_kept, none_ended, added_at}
