@@ -22,7 +22,7 @@ use Rattle.script_proc.specs.declared.item.Item.TheVariants.{At, Once, PassEnd a
 use Rattle.script_proc.specs.declared.item.Mode.{Mode}
 use Rattle.script_proc.specs.declared.item.Mode.TheVariants.{Going as GoingMode, Returning as ReturningMode, Given as GivenMode}
 use Rattle.script_proc.specs.Programs.{Says, Stands, lines_at}
-use Rattle.script_proc.specs.Items.{piece, Covers, AllCover, IsLoop, loops, above, state_of, Keeps, IsPlain, ArePlain, IsSettling, IsThrough, IsPlaceless, ArePlaceless}
+use Rattle.script_proc.specs.Items.{piece, Covers, AllCover, IsLoop, loops, above, state_of, Keeps, IsPlain, ArePlain, IsSettling, IsPlaceless, ArePlaceless}
 use Rattle.script_proc.specs.Works.{statements, no_tree, as_long, all_long, Moves, Steps}
 use Rattle.script_proc.proofs.StandLaws.{drop_here, drop_past, within, drop_behind, IsSimple, says, said_weight, nothing_stands, are_lines, keeps_on, by_step, lines_pass, alone_goes, else_goes, end_goes, then_goes, otherwise_goes, IsWhile, is_while, while_comes}
 
@@ -404,19 +404,8 @@ module _ (p : Program) (n : ℕ) where
   hands_on mode h = tt
 
   -- a step in the mode that hands nothing on
-  pub going_to : (items new : List Item) (st : State) (v : Variables) (mode : Mode) → mode ≡ GoingMode → Steps p n items st new (Going v) → Steps p n items st new (state_of v mode)
-  going_to items new st v mode e h = subst (λ x. Steps p n items st new (state_of v x)) (sym e) h
-
   pub going_from : (items new : List Item) (st : State) (v : Variables) (mode : Mode) → mode ≡ GoingMode → Steps p n items (state_of v mode) new st → Steps p n items (Going v) new st
   going_from items new st v mode e h = subst (λ x. Steps p n items (state_of v x) new st) e h
-
--- an item in whose place nothing comes has no place in the program
-pub through_plain : (item : Item) (mode : Mode) → IsThrough item mode → IsPlain item
-through_plain (At at) mode h = absurd h
-through_plain (Once at) mode h = absurd h
-through_plain (PassEndItem at began) mode h = absurd h
-through_plain (Running run) mode h = absurd h
-through_plain item mode h = tt
 
 -- an answer passes the end of a procedure
 pub leaving_given : (run : Run) (mode : Mode) (v : Variables) (s : Tree) (n : ℕ) → (mode ≡ GoingMode → ⊥) → ((x : ℕ) → mode ≡ ReturningMode x → ⊥) → Becomes [] (state_of v mode) ≡ step s (LeavingPiece run) (state_of v mode) n
