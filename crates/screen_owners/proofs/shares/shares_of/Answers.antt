@@ -1,3 +1,4 @@
+use Rattle.std.proofs.lemmas.Grind.{common_steps}
 use Rattle.std.proofs.Common.{◌≡◌, ◌<◌, ◌∙◌, length, map, ◌+◌, get_or, sym, ap, subst, arith}
 use Rattle.std.specs.Prelude.{MatchOption}
 use Rattle.std.proofs.lemmas.List.{get_or_default, length-map}
@@ -27,3 +28,9 @@ loop-k-preserved c =
           let never = subst (λ o. MatchOption o (IsUnreached ws z c.args.part.now u) (IsShareOf ws z c.args.part.now u)) b.in_default.is (c.in_ok-share.ensures u at) in
           subst (λ v. IsSharedUpTo (k + 1) ws z c.args.part.now v.items) (sym b.shares-is) (same_shared ws c.args.order.now c.args.tree.now.last c.args.part.now c.windows-windows.ensures.ordered c.requires k u c.loop-k.shares.items inside at never c.loop-k.invariant)
     ]
+
+pub share_of-requires-clause-within : goal.share_of-requires-clause-within
+share_of-requires-clause-within c = grind (arith, common_steps)
+
+pub returns-clause-shares : goal.returns-clause-shares
+returns-clause-shares c = grind (arith, common_steps)
