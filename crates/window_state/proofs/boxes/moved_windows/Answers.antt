@@ -1,3 +1,4 @@
+use Rattle.std.proofs.lemmas.Grind.{common_steps}
 use Rattle.std.proofs.Common.{◌≡◌, ◌∙◌, List, length, map, filter, ap, subst, sym, arith}
 use Rattle.std.specs.List.Sorted.{IsNonDecreasingBy}
 use Rattle.std.proofs.lemmas.List.{take_all}
@@ -19,3 +20,21 @@ returns-clause-sorted c = subst (λ (hs : List Hwnd). IsNonDecreasingBy (λ (h :
 
 pub returns-clause-moved : goal.returns-clause-moved
 returns-clause-moved c = subst (AreMoved c.args.old.now c.args.new.now) (sym (returns-clause-windows c)) (are_moved c.args.old.now c.args.new.now)
+
+pub has_moved-requires-clause-before : goal.has_moved-requires-clause-before
+has_moved-requires-clause-before c = grind (arith, common_steps)
+
+pub has_moved-requires-clause-after : goal.has_moved-requires-clause-after
+has_moved-requires-clause-after c = grind (arith, common_steps)
+
+pub loop-k-preserved : goal.loop-k-preserved
+loop-k-preserved c = grind (arith, common_steps)
+
+pub returns-in_err-push-clause-windows : goal.returns-in_err-push-clause-windows
+returns-in_err-push-clause-windows c = grind (arith, common_steps)
+
+pub returns-in_err-push-clause-sorted : goal.returns-in_err-push-clause-sorted
+returns-in_err-push-clause-sorted c = grind (arith, common_steps)
+
+pub returns-in_err-push-clause-moved : goal.returns-in_err-push-clause-moved
+returns-in_err-push-clause-moved c = grind (arith, common_steps)
