@@ -1,5 +1,5 @@
 -- The nearest window that isn't disabled, as the past has it.
-use Rattle.std.proofs.Common.{◌≡◌, ◌≢◌, ◌∙◌, ℕ, zero, suc, ◌-◌, Bool, true, false, cond, eqb, List, Option, Some, None, refl, sym, ap, inl, inr, arith}
+use Rattle.std.proofs.Common.{◌≡◌, ◌≢◌, ◌∙◌, ℕ, zero, suc, ◌-◌, Bool, true, false, cond, List, Option, Some, None, refl, sym, ap, inl, inr, arith}
 use Rattle.std.specs.Prelude.{◌⊎◌, ◌&&◌, option_map}
 use Rattle.std.proofs.lemmas.Bool.{eq-eqb, ne_eqb}
 use Rattle.win_rows.specs.declared.row.WindowRow.{WindowRow}
@@ -10,12 +10,12 @@ use Rattle.user_model.specs.declared.entry.Setup.{Setup}
 use Rattle.user_model.specs.Legal.{IsLawful}
 use Rattle.user_model.specs.Looks.{is_disabled}
 use Rattle.user_model.specs.Past.{Past}
-use Rattle.user_model.specs.Targets.{enabled_at, enabled_within}
+use Rattle.user_model.specs.Targets.{enabled_within}
 use Rattle.user_model.specs.Windows.{is_live, live, parent_in}
 use Rattle.window_state.specs.Enabled.{IsEnabledAt, enabled_from}
 use Rattle.window_state.specs.Placings.{disabled_in}
 use Rattle.window_state.specs.Trees.{IsTreeAt}
-use Rattle.window_state.proofs.BoxLaws.{InTable, in_table, no_row}
+use Rattle.window_state.proofs.BoxLaws.{in_table, no_row}
 use Rattle.window_state.proofs.LookSteps.{disabled_at}
 
 -- one step up in the table

@@ -1,7 +1,6 @@
 -- How windows of the table look after an entry that changes it.
-use Rattle.std.proofs.Common.{◌≡◌, ℕ, ◌+◌, Bool, true, false, cond, eqb, List, [], ◌∷◌, length, map, Option, Some, None, refl, ap, ◌∙◌, sym, subst, arith}
-use Rattle.std.specs.Prelude.{◌&&◌, ◌||◌, ℤ, pos, negsuc, ◌+ℤ◌, ◌-ℤ◌, ◌≤ℤ◌, int_lt, is_some, option_map}
-use Rattle.std.specs.List.{AllByRecursion}
+use Rattle.std.proofs.Common.{◌≡◌, ℕ, Bool, true, false, cond, eqb, List, [], ◌∷◌, map, Option, Some, None, refl, ap, ◌∙◌, sym, subst, arith}
+use Rattle.std.specs.Prelude.{◌&&◌, ℤ, pos, negsuc, ◌+ℤ◌, ◌-ℤ◌, int_lt, is_some, option_map}
 use Rattle.std.proofs.lemmas.Bool.{eqb-true, eq-eqb, ne_eqb, or_parts, or_from, true≢false}
 use Rattle.std.proofs.lemmas.Int.{ints, to_z-of_z}
 use mir.Val.{SFits, of_z, to_z}
@@ -23,7 +22,7 @@ use Rattle.user_model.specs.declared.entry.Setup.{Setup}
 use Rattle.user_model.specs.Past.{Past}
 use Rattle.user_model.specs.Windows.{has_flag, live, is_live, numbers_made}
 use Rattle.user_model.specs.ReplyWindows.{changes_told}
-use Rattle.user_model.specs.Destruction.{Step, told, ended, is_marked, was_given}
+use Rattle.user_model.specs.Destruction.{Step, is_marked, was_given}
 use Rattle.user_model.specs.Looks.{Look, look, is_disabled, is_shown, look_of, corner_and_size, moved_by, placed, shown_look, enabled_look}
 use Rattle.user_model.specs.Refusals.{is_no_rect, is_outside}
 use Rattle.user_model.specs.Idle.{reply}

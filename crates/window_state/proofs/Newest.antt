@@ -1,12 +1,12 @@
 -- The window that a table got last.
-use Rattle.std.proofs.Common.{◌≡◌, ◌∙◌, ℕ, suc, ◌+◌, ◌<◌, ◌≤◌, Bool, true, false, cond, eqb, List, [], ◌∷◌, ◌++◌, Option, Some, None, refl, sym, ap, subst, arith}
+use Rattle.std.proofs.Common.{◌≡◌, ◌∙◌, ℕ, suc, ◌<◌, ◌≤◌, Bool, true, false, cond, eqb, List, [], ◌∷◌, ◌++◌, Some, None, refl, sym, ap, subst, arith}
 use Rattle.std.specs.Prelude.{find, OnOk, Result, Ok, Err}
 use Rattle.std.proofs.lemmas.Bool.{eq-eqb, ne_eqb}
 use Rattle.win_rows.specs.declared.row.WindowRow.{WindowRow}
 use Rattle.win_rows.specs.declared.window.Window.{Window}
 use Rattle.win_rows.specs.Windows.{IsOrdered, Windows, window_of}
 use Rattle.win_tree.specs.Kin.{with_window}
-use Rattle.win_order.specs.Layers.{IsNew, Layers}
+use Rattle.win_order.specs.Layers.{Layers}
 use Rattle.window_state.specs.Orders.{FitsEntering, IsEntered, IsRankable, added_as, with_row}
 
 none_over : (from last : ℕ) (ws : List Window) (w : ℕ) → IsOrdered from last ws → last < w → window_of ws w ≡ None

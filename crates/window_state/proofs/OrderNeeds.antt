@@ -1,6 +1,6 @@
 -- What the change of an entry needs of the order.
-use Rattle.std.proofs.Common.{◌≡◌, ◌∙◌, ℕ, zero, suc, ◌+◌, ◌<◌, ◌≤◌, ◌^◌, Bool, true, false, not, cond, eqb, List, [], ◌∷◌, map, filter, length, refl, sym, ap, subst, arith}
-use Rattle.std.specs.Prelude.{◌&&◌, ◌||◌, ℤ, pos, negsuc, int_lt}
+use Rattle.std.proofs.Common.{◌≡◌, ◌∙◌, ℕ, zero, suc, ◌+◌, ◌<◌, Bool, true, false, not, cond, eqb, List, [], ◌∷◌, map, filter, length, refl, sym, subst, arith}
+use Rattle.std.specs.Prelude.{◌&&◌, ℤ, pos, negsuc, int_lt}
 use Rattle.std.proofs.lemmas.Bool.{true≢false, false≢true, lt-ltb}
 use Rattle.std.proofs.lemmas.List.{append-nil}
 use Rattle.win_num.specs.declared.message.Hwnd.{Hwnd}
@@ -22,9 +22,8 @@ use Rattle.user_model.specs.Past.{Past}
 use Rattle.user_model.specs.Idle.{reply}
 use Rattle.user_model.specs.Legal.{IsLawful}
 use Rattle.user_model.specs.Machines.{entry_of}
-use Rattle.user_model.specs.ReplyWindows.{is_order, is_sibling}
-use Rattle.user_model.specs.Windows.{Window, drops, has_flag, is_live, live, parent_in, up, windows_made}
-use Rattle.user_model.specs.ZOrder.{hwnd}
+use Rattle.user_model.specs.ReplyWindows.{is_order}
+use Rattle.user_model.specs.Windows.{Window, drops, has_flag, is_live, live, parent_in, windows_made}
 use Rattle.user_model.proofs.DeliveryReplies.{end_told}
 use Rattle.user_model.proofs.Forests.{IsRising}
 use Rattle.user_model.proofs.LiveWindows.{new_window, sound}
@@ -33,11 +32,11 @@ use Rattle.user_model.proofs.WindowFacts.{live_fits}
 use Rattle.user_model.proofs.WindowLaws.{live-next}
 use Rattle.user_model.proofs.WindowReplies.{new_window_told, place_told}
 use Rattle.window_state.specs.Effects.{IsRowOf}
-use Rattle.window_state.specs.Orders.{FitsEntering, FitsLeaving, FitsMakingOrder, FitsOrder, FitsOrderEffect, FitsReordering, FitsPlacing, IsOrderAt, added_as}
+use Rattle.window_state.specs.Orders.{FitsEntering, FitsOrder, FitsOrderEffect, FitsPlacing, IsOrderAt, added_as}
 use Rattle.window_state.specs.Trees.{as_made, IsTreeAt}
 use Rattle.window_state.proofs.NewWindows.{new_as_made}
 use Rattle.window_state.proofs.OrderSteps.{as_numbers}
-use Rattle.window_state.proofs.OrdersLeft.{may_stay_left, numbers}
+use Rattle.window_state.proofs.OrdersLeft.{may_stay_left}
 use Rattle.window_state.proofs.OrdersMade.{new_fits}
 use Rattle.window_state.proofs.OrdersPlaced.{place_fits}
 use Rattle.window_state.proofs.Standings.{stands_at}

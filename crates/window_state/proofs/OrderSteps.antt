@@ -1,19 +1,15 @@
 -- The order that an entry leaves is the order of the past with the entry.
-use Rattle.std.proofs.Common.{◌≡◌, ◌∙◌, ℕ, zero, suc, ◌+◌, ◌<◌, ◌≤◌, Bool, true, false, not, cond, eqb, List, [], ◌∷◌, ◌++◌, map, length, Option, Some, None, refl, sym, ap, subst, arith}
-use Rattle.std.specs.Prelude.{◌&&◌, ◌||◌, ℤ, filter, is_some}
-use Rattle.std.specs.List.{AllByRecursion, list_any, list_all}
-use Rattle.std.proofs.lemmas.Bool.{true≢false, false≢true, or_from}
+use Rattle.std.proofs.Common.{◌≡◌, ◌∙◌, ℕ, ◌+◌, Bool, true, false, not, cond, eqb, List, [], ◌∷◌, ◌++◌, map, length, refl, sym, ap, subst}
+use Rattle.std.specs.Prelude.{ℤ, filter, is_some}
+use Rattle.std.proofs.lemmas.Bool.{true≢false, or_from}
 use Rattle.std.proofs.lemmas.List.{append-nil, append_cancel_left}
-use Rattle.win_num.specs.PixelSets.{box}
 use Rattle.win_num.specs.declared.message.Hwnd.{Hwnd}
 use Rattle.win_num.specs.declared.message.Thread.{Thread}
 use Rattle.win_num.specs.declared.names.TheConstants.{SWP_NOZORDER, WS_EX_TOPMOST}
-use Rattle.win_rows.specs.declared.row.WindowRow.{WindowRow}
 use Rattle.win_rows.specs.declared.window.Window.{Window as KeptWindow}
 use Rattle.win_rows.specs.Windows.{Windows, number_of}
 use Rattle.win_order.specs.Kept.{is_child}
 use Rattle.win_order.specs.Layers.{Layers, empty, inserted, kept, placed as put_at, siblings_of}
-use Rattle.win_order.specs.Standing.{Standing}
 use Rattle.win_order.proofs.Booleans.{all_one, keep_all}
 use Rattle.win_order.proofs.ChildLaws.{each_child}
 use Rattle.win_order.proofs.KeptLaws.{empty_kept}
@@ -29,10 +25,10 @@ use Rattle.user_model.specs.Places.{ends_thread}
 use Rattle.user_model.specs.Deeds.{deed}
 use Rattle.user_model.specs.Idle.{reply}
 use Rattle.user_model.specs.Legal.{IsLawful}
-use Rattle.user_model.specs.Looks.{Look, look, look_of, made_look, set_look, placed, shown_look, enabled_look, relooked}
+use Rattle.user_model.specs.Looks.{Look, look, shown_look, enabled_look, relooked}
 use Rattle.user_model.specs.Machines.{entry_of}
 use Rattle.user_model.specs.Windows.{Window, drops, drops_kin, find_window, has_flag, is_live, live, made_by, windows_made}
-use Rattle.user_model.specs.ZOrder.{after_of, hwnd, is_pinned, rearranged, siblings, standings, still_live}
+use Rattle.user_model.specs.ZOrder.{after_of, hwnd, is_pinned, rearranged, siblings, still_live}
 use Rattle.user_model.proofs.DeliveryReplies.{end_told}
 use Rattle.user_model.proofs.LiveWindows.{made_by-other, new_window, sound}
 use Rattle.user_model.proofs.ReplyLaws.{by_row}

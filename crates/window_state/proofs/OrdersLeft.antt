@@ -1,8 +1,8 @@
 -- An order whose windows were dropped but for those that are live still.
-use Rattle.std.proofs.Common.{◌≡◌, ◌∙◌, ℕ, zero, suc, ◌+◌, ◌<◌, ◌≤◌, Bool, true, false, not, cond, eqb, List, [], ◌∷◌, map, reverse, length, Option, Some, None, refl, sym, ap, subst, inl, inr, arith}
-use Rattle.std.specs.Prelude.{◌&&◌, ◌||◌, filter, is_some, option_map}
-use Rattle.std.specs.List.{AllByRecursion, list_any, list_all}
-use Rattle.std.proofs.lemmas.Bool.{cases_Bool, eqb-true, eq-eqb, ne_eqb, false≢true, true≢false, not-true}
+use Rattle.std.proofs.Common.{◌≡◌, ◌∙◌, ℕ, Bool, true, false, not, cond, eqb, List, [], ◌∷◌, map, reverse, Option, Some, refl, sym, ap, subst, inl, inr, arith}
+use Rattle.std.specs.Prelude.{◌&&◌, ◌||◌, filter, is_some}
+use Rattle.std.specs.List.{AllByRecursion, list_all}
+use Rattle.std.proofs.lemmas.Bool.{eqb-true, false≢true, true≢false}
 use Rattle.std.proofs.lemmas.List.Folds.{list_all-map}
 use Rattle.win_num.specs.declared.message.Hwnd.{Hwnd}
 use Rattle.win_rows.proofs.Alls.{all_of_picked}
@@ -14,12 +14,11 @@ use Rattle.win_order.proofs.ChildLaws.{each_child}
 use Rattle.win_order.proofs.KeptLaws.{kept_kept, nobody_stands, windows_gone, windows_left}
 use Rattle.win_order.proofs.StandingLaws.{among, child_along, child_among}
 use Rattle.user_model.specs.declared.entry.Entry.{Entry}
-use Rattle.user_model.specs.declared.entry.Setup.{Setup}
 use Rattle.user_model.specs.Past.{Past}
-use Rattle.user_model.specs.Windows.{Window, find_window, live, window, is_live, up}
+use Rattle.user_model.specs.Windows.{Window, find_window, live, is_live, up}
 use Rattle.user_model.specs.ZOrder.{hwnd, is_pinned, siblings, standing, standings, still_live}
 use Rattle.user_model.proofs.Forests.{IsRising, IsUnder, all_both, all_by_number, find_filter, none_before, thread_found}
-use Rattle.user_model.proofs.ListLaws.{all_weaker, filter_agree}
+use Rattle.user_model.proofs.ListLaws.{filter_agree}
 use Rattle.window_state.specs.Orders.{IsOrderAt}
 use Rattle.window_state.proofs.Reversed.{all_rev, filter_rev, found_any, map_agree}
 use Rattle.window_state.proofs.Standings.{found_out}

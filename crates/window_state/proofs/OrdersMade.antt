@@ -1,18 +1,15 @@
 -- An order with a new window.
-use Rattle.std.proofs.Common.{◌≡◌, ◌∙◌, ℕ, zero, suc, ◌+◌, ◌<◌, ◌≤◌, Bool, true, false, not, cond, eqb, List, [], ◌∷◌, ◌++◌, map, reverse, length, Option, Some, None, refl, sym, ap, subst, inl, inr, arith}
+use Rattle.std.proofs.Common.{◌≡◌, ◌∙◌, ℕ, ◌+◌, Bool, true, false, not, cond, eqb, List, [], ◌∷◌, ◌++◌, map, reverse, length, Option, Some, None, refl, sym, ap, subst, inl, inr, arith}
 use Rattle.std.specs.Prelude.{◌&&◌, ◌||◌, ℤ, is_some, option_map, unwrap_or}
-use Rattle.std.proofs.lemmas.Bool.{eqb-true, eqb-false, eq-eqb, ne_eqb, false≢true, true≢false}
+use Rattle.std.proofs.lemmas.Bool.{eqb-true, eqb-false, eq-eqb, ne_eqb, true≢false}
 use Rattle.std.proofs.lemmas.List.{map-append}
-use Rattle.win_num.specs.PixelSets.{box}
 use Rattle.win_num.specs.declared.message.Hwnd.{Hwnd}
 use Rattle.win_num.specs.declared.message.Thread.{Thread}
 use Rattle.win_num.specs.declared.names.TheConstants.{WS_CHILD, WS_EX_TOPMOST}
-use Rattle.win_order.specs.declared.after.After.{After}
 use Rattle.win_order.specs.declared.after.After.TheVariants.{Top}
 use Rattle.win_order.specs.Families.{put, windows_of}
 use Rattle.win_order.specs.Kept.{is_child}
 use Rattle.win_order.specs.Layers.{IsNew, Layers, inserted, settled, siblings_of, stands, stands_on_top}
-use Rattle.win_order.specs.Siblings.{Siblings}
 use Rattle.win_order.specs.Standing.{Standing}
 use Rattle.win_order.proofs.Booleans.{or_first, or_second}
 use Rattle.win_order.proofs.KeptLaws.{inserted_kept, windows_else, windows_same}
@@ -23,11 +20,11 @@ use Rattle.user_model.specs.declared.entry.Setup.{Setup}
 use Rattle.user_model.specs.Past.{Past}
 use Rattle.user_model.specs.Idle.{reply}
 use Rattle.user_model.specs.Legal.{IsLawful}
-use Rattle.user_model.specs.Looks.{Look, look_of}
+use Rattle.user_model.specs.Looks.{Look}
 use Rattle.user_model.specs.Machines.{entry_of}
 use Rattle.user_model.specs.Windows.{Window, find_window, has_flag, live, window, is_live, parent_in, up, top_of, windows_made}
-use Rattle.user_model.specs.ZOrder.{arranged, hwnd, is_pinned, siblings, standing, standings, with_made}
-use Rattle.user_model.proofs.Forests.{IsBetween, IsUnder, all_between, number_found, thread_found, top_has_none}
+use Rattle.user_model.specs.ZOrder.{arranged, hwnd, is_pinned, siblings, standing, standings}
+use Rattle.user_model.proofs.Forests.{IsBetween, IsUnder, all_between, thread_found, top_has_none}
 use Rattle.user_model.proofs.LiveWindows.{IsSound, live-new, new_under, new_window, sound}
 use Rattle.user_model.proofs.WindowFacts.{not_made}
 use Rattle.user_model.proofs.WindowLooks.{look-new, look-other}

@@ -1,13 +1,12 @@
 -- An order after a window was placed.
-use Rattle.std.proofs.Common.{◌≡◌, ◌∙◌, ℕ, zero, suc, Bool, true, false, not, cond, eqb, List, [], ◌∷◌, map, reverse, Option, Some, None, refl, sym, ap, subst}
-use Rattle.std.specs.Prelude.{◌&&◌, ◌||◌, ℤ, pos, negsuc, is_some}
+use Rattle.std.proofs.Common.{◌≡◌, ◌∙◌, ℕ, zero, suc, Bool, true, false, not, cond, eqb, List, [], ◌∷◌, map, reverse, Some, refl, sym, ap}
+use Rattle.std.specs.Prelude.{◌&&◌, ℤ, pos, negsuc}
 use Rattle.std.specs.List.{AllByRecursion, list_any}
 use Rattle.std.proofs.lemmas.Bool.{eqb-true, false≢true, true≢false}
-use Rattle.win_num.specs.PixelSets.{Box, box}
+use Rattle.win_num.specs.PixelSets.{box}
 use Rattle.win_num.specs.declared.message.Hwnd.{Hwnd}
 use Rattle.win_num.specs.declared.message.Thread.{Thread}
 use Rattle.win_num.specs.declared.names.TheConstants.{SWP_NOZORDER, WS_EX_TOPMOST}
-use Rattle.win_order.specs.declared.after.After.{After}
 use Rattle.win_order.specs.Families.{put, windows_of}
 use Rattle.win_order.specs.Layers.{Layers, has_place, placed as put_at, settled, siblings_of}
 use Rattle.win_order.specs.Standing.{Standing}
@@ -23,7 +22,7 @@ use Rattle.user_model.specs.Idle.{reply}
 use Rattle.user_model.specs.Looks.{Look, look, pinned, placed}
 use Rattle.user_model.specs.Machines.{entry_of}
 use Rattle.user_model.specs.ReplyWindows.{is_order, is_sibling}
-use Rattle.user_model.specs.Windows.{Window, find_window, has_flag, live, window, is_live, parent_in}
+use Rattle.user_model.specs.Windows.{Window, has_flag, live, window, is_live, parent_in}
 use Rattle.user_model.specs.ZOrder.{after_of, arranged, hwnd, is_pinned, siblings, standing, standings}
 use Rattle.user_model.proofs.WindowFacts.{live_window}
 use Rattle.user_model.proofs.WindowLaws.{live-same}

@@ -1,5 +1,5 @@
 -- Lists that are turned round, and what is found in lists.
-use Rattle.std.proofs.Common.{◌≡◌, ◌∙◌, Bool, true, false, cond, List, [], ◌∷◌, ◌++◌, map, reverse, Option, Some, None, refl, sym, ap}
+use Rattle.std.proofs.Common.{◌≡◌, ◌∙◌, Bool, true, false, cond, List, [], ◌∷◌, ◌++◌, map, reverse, Some, refl, sym, ap}
 use Rattle.std.specs.Prelude.{◌&&◌, ◌||◌, filter, find, is_some}
 use Rattle.std.specs.List.{AllByRecursion, list_any, list_all}
 use Rattle.std.proofs.lemmas.List.{append-nil, map-append, reverse-append}

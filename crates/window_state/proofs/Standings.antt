@@ -1,20 +1,19 @@
 -- What mending asks of the live windows, and what an order tells of them.
-use Rattle.std.proofs.Common.{◌≡◌, ◌∙◌, ℕ, zero, suc, ◌+◌, ◌<◌, ◌≤◌, Bool, true, false, not, cond, eqb, List, [], ◌∷◌, ◌++◌, map, reverse, length, Option, Some, None, refl, sym, ap, subst, inl, inr, arith}
-use Rattle.std.specs.Prelude.{◌&&◌, ◌||◌, filter, find, is_some, option_map, unwrap_or}
-use Rattle.std.specs.List.{AllByRecursion, list_any, list_all}
-use Rattle.std.proofs.lemmas.Bool.{cases_Bool, eqb-true, eq-eqb, ne_eqb, false≢true, true≢false, not-true}
+use Rattle.std.proofs.Common.{◌≡◌, ◌∙◌, ℕ, Bool, true, false, cond, eqb, List, [], ◌∷◌, map, Option, Some, None, refl, sym, ap, arith}
+use Rattle.std.specs.Prelude.{◌&&◌, filter, option_map, unwrap_or}
+use Rattle.std.specs.List.{list_any}
+use Rattle.std.proofs.lemmas.Bool.{eqb-true, eq-eqb, false≢true}
 use Rattle.win_num.specs.declared.message.Hwnd.{Hwnd}
-use Rattle.win_order.specs.Kept.{AllCameNew, IsKept, is_child}
+use Rattle.win_order.specs.Kept.{is_child}
 use Rattle.win_order.specs.Layers.{Layers, siblings_of, stands}
 use Rattle.win_order.specs.Standing.{Standing}
 use Rattle.win_order.specs.Standings.{parent_of}
 use Rattle.win_order.proofs.Booleans.{any_over}
-use Rattle.win_order.proofs.ChildLaws.{child_listed, each_child}
-use Rattle.win_order.proofs.KeptLaws.{lone_child, parent_is}
-use Rattle.user_model.specs.declared.entry.Setup.{Setup}
+use Rattle.win_order.proofs.ChildLaws.{child_listed}
+use Rattle.win_order.proofs.KeptLaws.{lone_child}
 use Rattle.user_model.specs.Past.{Past}
-use Rattle.user_model.specs.Windows.{Window, find_window, live, window, is_live, parent_in, up, top_of, top_within, windows_made}
-use Rattle.user_model.specs.ZOrder.{hwnd, is_pinned, siblings, standing, standings}
+use Rattle.user_model.specs.Windows.{Window, find_window, live, window, is_live, parent_in}
+use Rattle.user_model.specs.ZOrder.{standing, standings}
 use Rattle.user_model.proofs.Forests.{IsRising, none_before, number_found, rising_filter}
 use Rattle.window_state.specs.Orders.{IsOrderAt}
 use Rattle.window_state.proofs.Reversed.{any_found, any_rev, found_any}

@@ -30,7 +30,7 @@ use Rattle.user_model.proofs.Steps.{all_map}
 use Rattle.user_model.proofs.WindowLaws.{live-refused, live-next, live-same, windows_made-same, is_marked-next, is_marked-same, was_given-next, was_given-same}
 use Rattle.user_model.proofs.WindowReplies.{doom_okay, drop_okay}
 use Rattle.user_model.proofs.LiveWindows.{made_by-other}
-use Rattle.user_model.specs.Looks.{Look, look, look_of}
+use Rattle.user_model.specs.Looks.{look}
 use Rattle.user_model.proofs.WindowLooks.{changes_look, look-same, look-refused}
 use Rattle.window_state.specs.Trees.{as_made, HasLook, HasMarks, IsTreeAt}
 use Rattle.window_state.proofs.Bridges.{filter_made}

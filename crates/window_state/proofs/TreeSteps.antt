@@ -1,6 +1,5 @@
 -- What an entry does to the table of windows is what it does to the live windows.
 use Rattle.std.proofs.Common.{◌≡◌, ℕ, Bool, true, false, eqb, ◌∷◌, refl, ap, sym, subst}
-use Rattle.std.specs.Prelude.{ℤ}
 use Rattle.std.proofs.lemmas.Bool.{true≢false}
 use Rattle.win_num.specs.PixelSets.{box}
 use Rattle.win_num.specs.declared.message.Hwnd.{Hwnd}

@@ -1,5 +1,5 @@
 -- What one entry does to the tables.
-use Rattle.std.specs.Prelude.{if◌then◌else◌, ◌≡◌, ◌==◌, ℕ, map, Option, Some}
+use Rattle.std.specs.Prelude.{if◌then◌else◌, ◌≡◌, ◌==◌, ℕ, map, Some}
 use Rattle.win_num.specs.declared.shapes.Rect.{Rect}
 use Rattle.win_num.specs.Rects.{box_in}
 use Rattle.win_num.specs.PixelSets.{box}

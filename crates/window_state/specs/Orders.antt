@@ -1,6 +1,5 @@
 -- The z-order that a past has made, and what one entry does to it.
 use Rattle.std.specs.Prelude.{if◌then◌else◌, ◌≡◌, ℕ, suc, ◌<◌, ◌==◌, false, ℤ, pos, int_lt, true, Some, [], ◌∷◌, ◌++◌, map}
-use Rattle.win_num.specs.declared.message.Hwnd.{Hwnd}
 use Rattle.win_num.specs.declared.names.TheConstants.{SWP_NOZORDER, WS_EX_TOPMOST}
 use Rattle.win_rows.specs.declared.row.WindowRow.{WindowRow}
 use Rattle.win_rows.specs.declared.window.Window.{Window as KeptWindow}

@@ -1,4 +1,3 @@
-use Rattle.win_num.specs.Rects.{box_in}
 use Rattle.window_state.proofs.LookSteps.{same_look}
 use Rattle.window_state.proofs.looks.placed.Goals as goal
 

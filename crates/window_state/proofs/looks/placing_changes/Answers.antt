@@ -1,7 +1,4 @@
-use Rattle.std.proofs.Common.{ap, sym, ◌∙◌}
-use Rattle.std.specs.Prelude.{Option, Some, None}
-use Rattle.win_rows.specs.declared.window.Window.{Window}
-use Rattle.user_model.specs.Looks.{placed}
+use Rattle.std.proofs.Common.{ap, ◌∙◌}
 use Rattle.user_model.specs.ReplyWindows.{changes_told}
 use Rattle.window_state.specs.Trees.{look_in}
 use Rattle.window_state.specs.Placings.{box_of}

@@ -1,7 +1,6 @@
-use Rattle.std.proofs.Common.{◌≡◌, ◌∙◌, suc, Some, ap, sym, subst}
+use Rattle.std.proofs.Common.{◌≡◌, Some, sym, subst}
 use Rattle.win_rows.specs.declared.window.Window.{Window}
 use Rattle.win_rows.specs.Windows.{Windows, window_of}
-use Rattle.win_tree.specs.Kin.{with_window}
 use Rattle.window_state.specs.Orders.{added_as, with_row}
 use Rattle.window_state.proofs.Newest.{newest_found, ok_then, rankable}
 use Rattle.window_state.proofs.ranks.enter.Goals as goal
