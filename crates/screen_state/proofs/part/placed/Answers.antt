@@ -1,4 +1,4 @@
-use Rattle.std.proofs.Common.{◌≡◌, ◌∙◌, w32, arith}
+use Rattle.std.proofs.Common.{◌≡◌, ◌∙◌, w32, arith, rules}
 use Rattle.std.specs.Prelude.{◌+ℤ◌}
 use Rattle.std.proofs.lemmas.Int.{ints, to_z-of_z}
 use mir.Val.{of_z, to_z}
@@ -30,3 +30,42 @@ moved-b-requires-clause-low c = let e = are_edges c.args.place.l c.args.place.t 
 
 pub moved-b-requires-clause-high : goal.moved-b-requires-clause-high
 moved-b-requires-clause-high c = let e = are_edges c.args.place.l c.args.place.t c.args.place.r c.args.place.b c.requires.place in omega (arith, ints, e.top, e.down, e.bottom)
+
+pub moved-l-requires-clause-low : goal.moved-l-requires-clause-low
+moved-l-requires-clause-low c = search rules
+
+pub moved-l-requires-clause-high : goal.moved-l-requires-clause-high
+moved-l-requires-clause-high c = search rules
+
+pub moved-l-requires-clause-near_low : goal.moved-l-requires-clause-near_low
+moved-l-requires-clause-near_low c = search rules
+
+pub moved-l-requires-clause-near_high : goal.moved-l-requires-clause-near_high
+moved-l-requires-clause-near_high c = search rules
+
+pub moved-t-requires-clause-low : goal.moved-t-requires-clause-low
+moved-t-requires-clause-low c = search rules
+
+pub moved-t-requires-clause-high : goal.moved-t-requires-clause-high
+moved-t-requires-clause-high c = search rules
+
+pub moved-t-requires-clause-near_low : goal.moved-t-requires-clause-near_low
+moved-t-requires-clause-near_low c = search rules
+
+pub moved-t-requires-clause-near_high : goal.moved-t-requires-clause-near_high
+moved-t-requires-clause-near_high c = search rules
+
+pub moved-r-requires-clause-near_low : goal.moved-r-requires-clause-near_low
+moved-r-requires-clause-near_low c = search rules
+
+pub moved-r-requires-clause-near_high : goal.moved-r-requires-clause-near_high
+moved-r-requires-clause-near_high c = search rules
+
+pub moved-b-requires-clause-near_low : goal.moved-b-requires-clause-near_low
+moved-b-requires-clause-near_low c = search rules
+
+pub moved-b-requires-clause-near_high : goal.moved-b-requires-clause-near_high
+moved-b-requires-clause-near_high c = search rules
+
+pub returns : goal.returns
+returns c = search rules
