@@ -7,7 +7,7 @@ use Rattle.std.proofs.lemmas.Str.Ascii.{IsAscii-nil, IsAscii-cons}
 use Rattle.serde_json.specs.Data.{Data, string}
 use Rattle.serde_json.specs.View.{view, items_of}
 use Rattle.serde_json.specs.Written.{has_float, items_have_float}
-use Rattle.serde_json.specs.declared.value.Value.{Value, String as StringValue, the_lemmas}
+use Rattle.serde_json.specs.declared.value.Value.{String as StringValue, the_lemmas}
 use Rattle.user_io.specs.Text.{Adds}
 use Rattle.log_text.specs.Frames.{digit, rows}
 use Rattle.log_text.proofs.FrameTexts.{front_cut, back_cut}

@@ -1,12 +1,15 @@
 -- The frames among the pieces that are left are the stack of the thread.
-use Rattle.std.proofs.Common.{◌≡◌, ℕ, Bool, true, false, List, [], ◌∷◌, ◌++◌, refl, subst}
-use Rattle.std.specs.Prelude.{◌==◌, if◌then◌else◌}
+use Rattle.std.proofs.Common.{◌≡◌, ℕ, Bool, true, false, List, [], ◌∷◌, ◌++◌, refl, sym, ◌∙◌, subst}
+use Rattle.std.specs.Prelude.{◌==◌, not, ◌||◌, if◌then◌else◌}
+use Rattle.win_num.specs.declared.message.Hwnd.{Hwnd}
+use Rattle.win_num.specs.declared.send.SendId.{SendId}
+use Rattle.win_num.specs.declared.send.Cause.{Cause}
 use Rattle.win_num.specs.declared.send.Frame.{Frame}
 use Rattle.user_model.specs.declared.call.Call.{Call}
 use Rattle.user_model.specs.declared.call.Call.TheVariants.{Peek, Get, Dispatch, Send, SendTimeout, SendNotify, SendCallback, Await, Leave, Doom, EndThread}
 use Rattle.user_model.specs.declared.entry.Answer.{Answer}
-use Rattle.user_model.specs.declared.entry.Answer.TheVariants.{Wait, Called, Inside, Begun, Left as LeftOf, Enter, Callback, Done, Refused}
-use Rattle.user_model.specs.Stacks.{stacked}
+use Rattle.user_model.specs.declared.entry.Answer.TheVariants.{Wait, Called, Inside, Begun, Left as LeftOf, Enter, Callback, Done, Ended, Refused}
+use Rattle.user_model.specs.Stacks.{leaves, stacked}
 use Rattle.script_tree.specs.declared.statement.Statement.{Statement}
 use Rattle.script_tree.specs.declared.statement.Statement.TheVariants.{Let, Compute, If', IfElse', While', Return, Call as CallOf, Sleep, Create, Destroy, Compound as CompoundOf, Default as DefaultOf}
 use Rattle.script_tree.specs.declared.frame.Lead.{Lead}
@@ -16,9 +19,9 @@ use Rattle.script_tree.specs.Tree.{Tree}
 use Rattle.script_tree.specs.Values.{holds, call_of}
 use Rattle.script_tree.specs.Compounds.{compound_begin, default_result, compound_after}
 use Rattle.script_tree.specs.Pieces.{Piece, Lines, One, PassEnd, Making, Again, Giving, Settle, Quiet, Sleeping, Running, Leaving, Leaves, Left, Restore, Feed, State, Going, Returning, Given, Step, Becomes, Asks, Trace, End, Cut}
-use Rattle.script_tree.specs.Steps.{step, statement, begins, returns_to, takes, goes_on, sleeps, is_callback, follows, answered, variables_of}
+use Rattle.script_tree.specs.Steps.{step, statement, begins, returns_to, takes, goes_on, sleeps, is_callback, is_last, follows, given, answered, variables_of}
 use Rattle.script_tree.specs.Traces.{Makes, IsTrace, over, silent, entry, cut}
-use Rattle.script_tree.specs.Stacks.{stack_after, awaited, frames_in, is_listed, AreListed, Goes, Returns, Gives, kind_of, AwaitsNone, MakingSuits, Suits, Fits}
+use Rattle.script_tree.specs.Stacks.{stack_after, awaited, frames_in, is_listed, serves, sends, dispatches, awaits, AreListed, Goes, Returns, Gives, kind_of, AwaitsNone, MakingSuits, Suits, Fits}
 use Rattle.script_tree.proofs.Defaults.{default_either}
 use Rattle.script_tree.proofs.PlainCalls.{IsPlain, LeadIsPlain, plain_begin, plain_default, plain_compound, plain_statement}
 
@@ -115,36 +118,82 @@ abbrev Asked : List Frame → State → List Piece → Step → Type 0
 Asked frames st left (Becomes ps st') = Unit {0}
 Asked frames st left (Asks call) = Answers call frames st left
 
+-- the pieces behind a call that was to be made and its answer suit, and their frames are the stack behind it
+abbrev Entry : Call → Answer → Variables → List Piece → Type 0
+Entry call a v left = Suits (follows call a ++ left) (kind_of (answered call a v)) × (frames_in (follows call a ++ left) ≡ stacked call a (awaited call (frames_in left)))
+
 module _ (s : Tree) (n : ℕ) (left : List Piece) where
-  making_entry : (call : Call) (a : Answer) (v : Variables) → is_listed call a ≡ true → Suits (Making call ∷ left) Goes → Suits (follows call a ++ left) (kind_of (answered call a v)) × (frames_in (follows call a ++ left) ≡ stacked call a (frames_in (Making call ∷ left)))
-  making_entry (Leave x) a v e h = absurd h
-  making_entry (Await t) Wait v e h = (h, refl)
-  making_entry (Await t) (Enter i j w m p q) v e h = ((tt, h), refl)
-  making_entry (Await t) (Callback i j w m p q) v e h = ((tt, h), refl)
-  making_entry (Await t) (Done x y) v e h = (h, refl)
-  making_entry (Await t) a v e h = absurd cc
+  -- a call of no frame and no wait
+  plain_call : (call : Call) → not (leaves call || awaits call) ≡ true → Suits (Making call ∷ left) Goes → Suits left Gives × (awaited call (frames_in left) ≡ frames_in left)
+  plain_call (Leave x) e h = absurd h
+  plain_call (Await t) e h = absurd cc
+  plain_call call e h = (h.1, refl)
+
+  last_is_plain : (call : Call) → is_last call ≡ true → not (leaves call || awaits call) ≡ true
+  last_is_plain EndThread e = refl
+  last_is_plain call e = absurd cc
+
+  -- nothing follows, whether or not the call is the last one
+  nothing_follows : (b : Bool) (a : Answer) (v : Variables) → Suits left Gives → Suits ((if b then [] else []) ++ left) (kind_of (if b then given v a else given v a)) × (frames_in ((if b then [] else []) ++ left) ≡ frames_in left)
+  nothing_follows true a v h = (h, refl)
+  nothing_follows false a v h = (h, refl)
+
+  plain_entry : (call : Call) (a : Answer) (v : Variables) → not (leaves call || awaits call) ≡ true → Suits (Making call ∷ left) Goes → Suits ((if is_last call then [] else []) ++ left) (kind_of (if is_last call then given v a else given v a)) × (frames_in ((if is_last call then [] else []) ++ left) ≡ awaited call (frames_in left))
+  plain_entry call a v e h =
+      let p = plain_call call e h in
+      let r = nothing_follows (is_last call) a v p.0 in
+      (r.0, r.1 ∙ sym p.1)
+
+  enter_entry : (call : Call) (i : SendId) (j : ℕ) (w : Hwnd) (m p q : ℕ) (v : Variables) → serves call ≡ true → Suits (Making call ∷ left) Goes → Entry call (Enter i j w m p q) v left
+  enter_entry (Await t) i j w m p q v e h = ((tt, h), refl)
+  enter_entry (Peek w' min max flags) i j w m p q v e h = ((tt, h), refl)
+  enter_entry (Get w' min max) i j w m p q v e h = ((tt, h), refl)
+  enter_entry call i j w m p q v e h = absurd cc
+
+  callback_entry : (call : Call) (i : SendId) (j : ℕ) (w : Hwnd) (m p q : ℕ) (v : Variables) → (serves call || leaves call) ≡ true → Suits (Making call ∷ left) Goes → Entry call (Callback i j w m p q) v left
+  callback_entry (Leave x) i j w m p q v e h = absurd h
+  callback_entry (Await t) i j w m p q v e h = ((tt, h), refl)
+  callback_entry (Peek w' min max flags) i j w m p q v e h = ((tt, h), refl)
+  callback_entry (Get w' min max) i j w m p q v e h = ((tt, h), refl)
+  callback_entry call i j w m p q v e h = absurd cc
+
+  called_entry : (call : Call) (i : ℕ) (v : Variables) → dispatches call ≡ true → Suits (Making call ∷ left) Goes → Entry call (Called i) v left
+  called_entry (Dispatch w m p q) i v e h = ((tt, h.1), refl)
+  called_entry call i v e h = absurd cc
+
+  inside_entry : (call : Call) (i : SendId) (j : ℕ) (v : Variables) → sends call ≡ true → Suits (Making call ∷ left) Goes → Entry call (Inside i j) v left
+  inside_entry (Send w m p q) i j v e h = ((tt, h.1), refl)
+  inside_entry (SendTimeout w m p q f ms) i j v e h = ((tt, h.1), refl)
+  inside_entry (SendNotify w m p q) i j v e h = ((tt, h.1), refl)
+  inside_entry (SendCallback w m p q r x) i j v e h = ((tt, h.1), refl)
+  inside_entry call i j v e h = absurd cc
+
+  begun_entry : (call : Call) (i : SendId) (v : Variables) → sends call ≡ true → Suits (Making call ∷ left) Goes → Entry call (Begun i) v left
+  begun_entry (Send w m p q) i v e h = (h.1, refl)
+  begun_entry (SendTimeout w m p q f ms) i v e h = (h.1, refl)
+  begun_entry (SendNotify w m p q) i v e h = (h.1, refl)
+  begun_entry (SendCallback w m p q r x) i v e h = (h.1, refl)
+  begun_entry call i v e h = absurd cc
+
+  done_entry : (call : Call) (x : ℕ) (y : Cause) (v : Variables) → awaits call ≡ true → Suits (Making call ∷ left) Goes → Entry call (Done x y) v left
+  done_entry (Await t) x y v e h = (h, refl)
+  done_entry call x y v e h = absurd cc
+
+  leave_is_made_by_its_frame : (call : Call) → leaves call ≡ true → Suits (Making call ∷ left) Goes → ⊥
+  leave_is_made_by_its_frame (Leave x) e h = h
+  leave_is_made_by_its_frame call e h = cc
+
+  making_entry : (call : Call) (a : Answer) (v : Variables) → is_listed call a ≡ true → Suits (Making call ∷ left) Goes → Entry call a v left
   making_entry call Wait v e h = (h, refl)
-  making_entry (Peek w min max flags) (Enter i j w' m p q) v e h = ((tt, h), refl)
-  making_entry (Get w min max) (Enter i j w' m p q) v e h = ((tt, h), refl)
-  making_entry call (Enter i j w m p q) v e h = absurd cc
-  making_entry (Peek w min max flags) (Callback i j w' m p q) v e h = ((tt, h), refl)
-  making_entry (Get w min max) (Callback i j w' m p q) v e h = ((tt, h), refl)
-  making_entry call (Callback i j w m p q) v e h = absurd cc
-  making_entry (Dispatch w m p q) (Called i) v e h = ((tt, h.1), refl)
-  making_entry call (Called i) v e h = absurd cc
-  making_entry (Send w m p q) (Inside i j) v e h = ((tt, h.1), refl)
-  making_entry (SendTimeout w m p q f ms) (Inside i j) v e h = ((tt, h.1), refl)
-  making_entry (SendNotify w m p q) (Inside i j) v e h = ((tt, h.1), refl)
-  making_entry (SendCallback w m p q r x) (Inside i j) v e h = ((tt, h.1), refl)
-  making_entry call (Inside i j) v e h = absurd cc
-  making_entry (Send w m p q) (Begun i) v e h = (h.1, refl)
-  making_entry (SendTimeout w m p q f ms) (Begun i) v e h = (h.1, refl)
-  making_entry (SendNotify w m p q) (Begun i) v e h = (h.1, refl)
-  making_entry (SendCallback w m p q r x) (Begun i) v e h = (h.1, refl)
-  making_entry call (Begun i) v e h = absurd cc
-  making_entry call (LeftOf i) v e h = absurd cc
-  making_entry call (Done x y) v e h = absurd cc
-  making_entry call a v e h = (h.1, refl)
+  making_entry call (Enter i j w m p q) v e h = enter_entry call i j w m p q v e h
+  making_entry call (Callback i j w m p q) v e h = callback_entry call i j w m p q v e h
+  making_entry call (Called i) v e h = called_entry call i v e h
+  making_entry call (Inside i j) v e h = inside_entry call i j v e h
+  making_entry call (Begun i) v e h = begun_entry call i v e h
+  making_entry call (LeftOf i) v e h = absurd (leave_is_made_by_its_frame call e h)
+  making_entry call (Done x y) v e h = done_entry call x y v e h
+  making_entry call Ended v e h = plain_entry call Ended v (last_is_plain call e) h
+  making_entry call a v e h = plain_entry call a v e h
 
   leaves_entry : (frame : Frame) (x : ℕ) (a : Answer) (v : Variables) → is_listed (Leave x) a ≡ true → Suits (Leaves frame x ∷ left) Goes → Suits (follows (Leave x) a ++ left) (kind_of (answered (Leave x) a v)) × (frames_in (follows (Leave x) a ++ left) ≡ stacked (Leave x) a (frames_in (Leaves frame x ∷ left)))
   leaves_entry frame x (LeftOf i) v e h = (h.1, refl)

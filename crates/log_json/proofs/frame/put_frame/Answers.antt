@@ -1,4 +1,3 @@
-use Rattle.std.proofs.Common.{◌∙◌}
 use Rattle.log_json.proofs.FrameLines.{frame_plain}
 use Rattle.log_json.proofs.frame.put_frame.Goals as goal
 
