@@ -9,6 +9,7 @@ ghost use Rattle.user_app.specs.declared.request.LogForm.{LogForm};
 ghost use Rattle.user_pool.specs.Runs.{IsListed};
 ghost use Rattle.user_app.specs.Checks.{CheckEnds};
 ghost use Rattle.user_app.specs.Requests.{AskNothing, AskToRead, AskForThreads, IsMake, run_words, check_words};
+ghost use Rattle.user_app.specs.Made.{IsMade};
 ghost use Rattle.user_app.specs.Outcomes.{RunEnds, MakeEnds, InputEnds, IsWhole};
 
 use crate::check::check_input;
@@ -23,7 +24,7 @@ use script_tree::Script;
 use std::alloc::{AllocError, Global};
 use user_core::User;
 use user_io::{Sink, Source};
-use user_model::Setup;
+use user_model::{Machine, Setup};
 use user_pool::{run_listed, runs_answer_their_sends};
 
 /// Does what the words ask for. At the one word `run` it reads a script from the source to its end, runs
@@ -114,14 +115,31 @@ fn run<K: Sink>(alloc: Global, form: LogForm, script: &Script, sink: &mut K) -> 
     ensures written { RunEnds IsListed form script.now (K.holds sink.old) (K.holds sink.new) (K.faults sink.old) (K.faults sink.new) result }
     ensures whole { IsWhole result → K.faults sink.new ≡ K.faults sink.old }
 {
-    let Ok(user) = machine(alloc, script) else {
-        return Status::Memory;
-    };
-    let Ok((user, end)) = run_listed(alloc, script, user) else {
+    match machine(alloc, script) {
+        Ok(user) => run_on(alloc, form, script, user, sink),
+        Err(_) => Status::Memory,
+    }
+}
+
+/// Runs a script on a machine for it that has no entries, and writes its log in this form.
+fn run_on<M: Machine + Drop, K: Sink>(
+    alloc: Global,
+    form: LogForm,
+    script: &Script,
+    machine: M,
+    sink: &mut K,
+) -> Status
+    requires script { IsScript script.now }
+    requires empty { M.past machine ≡ [] }
+    requires setup { M.setup machine ≡ setup_of script.now }
+    ensures written { RunEnds IsListed form script.now (K.holds sink.old) (K.holds sink.new) (K.faults sink.old) (K.faults sink.new) result }
+    ensures whole { IsWhole result → K.faults sink.new ≡ K.faults sink.old }
+{
+    let Ok((machine, end)) = run_listed(alloc, script, machine) else {
         return Status::Memory;
     };
     runs_answer_their_sends();
-    let outcome = write_history(alloc, form, script, &user, end, sink);
+    let outcome = write_history(alloc, form, script, &machine, end, sink);
     written_status(outcome, end)
 }
 
@@ -132,15 +150,41 @@ fn run_made<K: Sink>(alloc: Global, number: u32, sink: &mut K) -> Status
     ensures written { MakeEnds number (K.holds sink.old) (K.holds sink.new) (K.faults sink.old) (K.faults sink.new) result }
     ensures whole { IsWhole result → K.faults sink.new ≡ K.faults sink.old }
 {
-    let Ok(script) = made_script(alloc, number) else {
+    match made_script(alloc, number) {
+        Ok(script) => sum_up(alloc, number, &script, sink),
+        Err(_) => Status::Memory,
+    }
+}
+
+/// Runs the script that was made from a number, and writes the summary of its run.
+fn sum_up<K: Sink>(alloc: Global, number: u32, script: &Script, sink: &mut K) -> Status
+    requires made { IsMade number script.now }
+    ensures written { MakeEnds number (K.holds sink.old) (K.holds sink.new) (K.faults sink.old) (K.faults sink.new) result }
+    ensures whole { IsWhole result → K.faults sink.new ≡ K.faults sink.old }
+{
+    match machine(alloc, script) {
+        Ok(user) => sum_up_on(alloc, number, script, user, sink),
+        Err(_) => Status::Memory,
+    }
+}
+
+/// The same on a machine for the script that has no entries.
+fn sum_up_on<M: Machine + Drop, K: Sink>(
+    alloc: Global,
+    number: u32,
+    script: &Script,
+    machine: M,
+    sink: &mut K,
+) -> Status
+    requires made { IsMade number script.now }
+    requires empty { M.past machine ≡ [] }
+    requires setup { M.setup machine ≡ setup_of script.now }
+    ensures written { MakeEnds number (K.holds sink.old) (K.holds sink.new) (K.faults sink.old) (K.faults sink.new) result }
+    ensures whole { IsWhole result → K.faults sink.new ≡ K.faults sink.old }
+{
+    let Ok((machine, end)) = run_listed(alloc, script, machine) else {
         return Status::Memory;
     };
-    let Ok(user) = machine(alloc, &script) else {
-        return Status::Memory;
-    };
-    let Ok((user, end)) = run_listed(alloc, &script, user) else {
-        return Status::Memory;
-    };
-    let outcome = write_summary(alloc, number, &user, end, sink);
+    let outcome = write_summary(alloc, number, &machine, end, sink);
     written_status(outcome, end)
 }
