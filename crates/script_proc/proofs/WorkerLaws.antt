@@ -13,11 +13,11 @@ use Rattle.script_proc.specs.declared.program.Program.{Program}
 use Rattle.script_proc.specs.declared.item.Item.{Item}
 use Rattle.script_proc.specs.declared.item.Item.TheVariants.{At, Making as MakingItem, Settle as SettleItem, Leaves as LeavesItem}
 use Rattle.script_proc.specs.declared.item.Next.{Next}
-use Rattle.script_proc.specs.declared.item.Next.TheVariants.{Top, Line as LineNext, Stating as StatingNext}
+use Rattle.script_proc.specs.declared.item.Next.TheVariants.{Top, Line as LineNext}
 use Rattle.script_proc.specs.declared.item.Mode.{Mode}
 use Rattle.script_proc.specs.declared.item.Mode.TheVariants.{Going as GoingMode, Returning as ReturningMode, Given as GivenMode}
 use Rattle.script_proc.specs.Programs.{IsProgramOf, Stands, lines_at}
-use Rattle.script_proc.specs.Items.{piece, Covers, AllCover, hands_on, above, state_of, state_at, mode_at, with_next, IsNoLine, asks, ArePlaceless, Keeps, KeepsAll, Asking, IsReady}
+use Rattle.script_proc.specs.Items.{piece, Covers, AllCover, hands_on, above, state_of, state_at, with_next, asks, ArePlaceless, Keeps, KeepsAll, Asking, IsReady}
 use Rattle.script_proc.specs.Works.{no_tree, as_long, all_long, work, Moves, Steps}
 use Rattle.script_proc.specs.Workers.{end_of}
 use Rattle.script_proc.proofs.StandLaws.{by_step}
