@@ -1,6 +1,6 @@
 -- What the lines that come next say of the pieces that they stand for.
-use Rattle.std.proofs.Common.{◌≡◌, ℕ, zero, suc, ◌+◌, ◌<◌, ◌≤◌, min, Bool, true, false, List, [], ◌∷◌, ◌++◌, length, drop, Some, None, refl, sym, ap, subst, ◌∙◌, inl, inr, arith, add-one, drop-drop}
-use Rattle.std.specs.Prelude.{◌⊎◌, slice_get, if◌then◌else◌}
+use Rattle.std.proofs.Common.{◌≡◌, ℕ, zero, suc, ◌+◌, ◌<◌, ◌≤◌, min, Bool, true, false, List, [], ◌∷◌, ◌++◌, length, drop, Some, None, refl, sym, ap, ◌∙◌, arith, add-one, drop-drop}
+use Rattle.std.specs.Prelude.{slice_get, if◌then◌else◌}
 use Rattle.std.proofs.lemmas.List.{drop_all}
 use Rattle.script_tree.specs.declared.operand.Letter.{Letter}
 use Rattle.script_tree.specs.declared.operand.Operand.{Operand}
@@ -18,7 +18,7 @@ use Rattle.script_tree.specs.Traces.{silent}
 use Rattle.script_tree.specs.Weights.{weight}
 use Rattle.script_proc.specs.declared.program.Line.{Line}
 use Rattle.script_proc.specs.declared.program.Line.TheVariants.{Let, Compute, If, Else, While, End, Return, Call, Sleep, Create, Destroy, Compound, Default}
-use Rattle.script_proc.specs.Programs.{Says, IsSetting, IsCompound, Stands, alone, branch, branches, loop, out, over_else, end}
+use Rattle.script_proc.specs.Programs.{Says, IsCompound, IsSlow, Stands, alone, branch, branches, loop, out, over_else, end}
 use Rattle.script_proc.specs.Items.{Keeps}
 
 -- the list from a place on is the element there and the list behind it
@@ -59,29 +59,26 @@ IsSimple (While t k) = ⊥
 IsSimple End = ⊥
 IsSimple line = Unit {0}
 
-pub is_simple : (line : Line) → ((t : Test) (k : ℕ) → line ≡ If t k → ⊥) → ((k : ℕ) → line ≡ Else k → ⊥) → ((t : Test) (k : ℕ) → line ≡ While t k → ⊥) → (line ≡ End → ⊥) → IsSimple line
-is_simple (If t k) a b c d = a t k refl
-is_simple (Else k) a b c d = b k refl
-is_simple (While t k) a b c d = c t k refl
-is_simple End a b c d = d refl
-is_simple line a b c d = tt
+-- a line that isn't one of the others puts items above the others
+pub is_slow : (line : Line) → ((t : Test) (k : ℕ) → line ≡ If t k → ⊥) → ((k : ℕ) → line ≡ Else k → ⊥) → (line ≡ End → ⊥) → ((c : CallStatement) → line ≡ Call c → ⊥) → ((x : Letter) (e : Operand) → line ≡ Let x e → ⊥) → ((x : Letter) (e : Operand) (op : Operator) (f : Operand) → line ≡ Compute x e op f → ⊥) → IsSlow line
+is_slow (Let x e) a b c d f g = f x e refl
+is_slow (Compute x e op y) a b c d f g = g x e op y refl
+is_slow (If t k) a b c d f g = a t k refl
+is_slow (Else k) a b c d f g = b k refl
+is_slow End a b c d f g = c refl
+is_slow (Call k) a b c d f g = d k refl
+is_slow line a b c d f g = tt
 
--- a line that isn't one of the others begins a compound or a `sleep`
-pub is_compound : (line : Line) → IsSimple line → ((x : Letter) (e : Operand) → line ≡ Let x e → ⊥) → ((x : Letter) (e : Operand) (op : Operator) (f : Operand) → line ≡ Compute x e op f → ⊥) → ((e : Operand) → line ≡ Return e → ⊥) → ((c : CallStatement) → line ≡ Call c → ⊥) → IsCompound line
-is_compound (Let x e) h a b c d = a x e refl
-is_compound (Compute x e op f) h a b c d = b x e op f refl
-is_compound (Return e) h a b c d = c e refl
-is_compound (Call k) h a b c d = d k refl
-is_compound (Sleep e) h a b c d = tt
-is_compound (Create k) h a b c d = tt
-is_compound (Destroy e) h a b c d = tt
-is_compound (Compound k) h a b c d = tt
-is_compound Default h a b c d = tt
-is_compound line h a b c d = absurd h
-
-pub is_setting : (line : Line) → (((x : Letter) × (e : Operand) × (line ≡ Let x e)) ⊎ ((x : Letter) × (e : Operand) × (op : Operator) × (f : Operand) × (line ≡ Compute x e op f))) → IsSetting line × IsSimple line
-is_setting line (inl x) = subst (λ l. IsSetting l × IsSimple l) (sym x.2) (tt, tt)
-is_setting line (inr x) = subst (λ l. IsSetting l × IsSimple l) (sym x.4) (tt, tt)
+-- of these lines all but two begin a compound or a `sleep`
+pub slow_compound : (line : Line) → IsSlow line → ((t : Test) (k : ℕ) → line ≡ While t k → ⊥) → ((e : Operand) → line ≡ Return e → ⊥) → IsSimple line × IsCompound line
+slow_compound (While t k) h a b = absurd (a t k refl)
+slow_compound (Return e) h a b = absurd (b e refl)
+slow_compound (Sleep e) h a b = (tt, tt)
+slow_compound (Create k) h a b = (tt, tt)
+slow_compound (Destroy e) h a b = (tt, tt)
+slow_compound (Compound k) h a b = (tt, tt)
+slow_compound Default h a b = (tt, tt)
+slow_compound line h a b = absurd h
 
 -- it says a statement
 pub says : (line : Line) → IsSimple line → (line' : Statement) × Says line line'

@@ -95,6 +95,24 @@ module _ (p : Program) where
     pub keeps_same : (s : Tree) (items mid new : List Item) (a b : State) → new ≡ mid → KeepsAll s p n items a mid b → KeepsAll s p n items a new b
     keeps_same s items mid new a b e h = subst (λ xs. KeepsAll s p n items a xs b) (sym e) h
 
+    -- the line that is next puts items above the others, for which room was taken
+    pub slow_steps : (items taken new : List Item) (call : Call) (next : Next) (at : ℕ) (v v' : Variables) (mode : Mode) (st : State) → next ≡ LineNext at → taken ≡ items → v' ≡ v → Steps p n (taken ++ At at ∷ []) (Going v') new st → Steps p n (with_next items call next) (state_at v mode next) new st
+    slow_steps items taken new call next at v v' mode st e f g h = line_steps items taken new call next at v mode st e f (subst (λ x. Steps p n (taken ++ At at ∷ []) (Going x) new st) g h)
+
+    -- nothing has changed for want of that room
+    pub slow_keeps : (s : Tree) (first items taken : List Item) (call : Call) (next : Next) (at : ℕ) (v v' : Variables) (mode : Mode) (st : State) → next ≡ LineNext at → taken ≡ items → v' ≡ v → KeepsAll s p n first st (with_next items call next) (state_at v mode next) → KeepsAll s p n first st (taken ++ At at ∷ []) (Going v')
+    slow_keeps s first items taken call next at v v' mode st e f g k =
+        subst (λ xs. KeepsAll s p n first st (xs ++ At at ∷ []) (Going v')) (sym f)
+        (subst (λ x. KeepsAll s p n first st (items ++ At at ∷ []) (Going x)) (sym g)
+        (subst (λ x. KeepsAll s p n first st (with_next items call x) (state_at v mode x)) e k))
+
+    -- the call of the last item was put in its place
+    pub top_keeps : (s : Tree) (first items taken : List Item) (call call' : Call) (next : Next) (v : Variables) (mode : Mode) (st : State) → next ≡ Top → taken ≡ items → KeepsAll s p n first st (with_next items call next) (state_at v mode next) → KeepsAll s p n first st (with_next taken call' next) (state_at v mode next)
+    top_keeps s first items taken call call' next v mode st e f k =
+        subst (λ x. KeepsAll s p n first st (with_next taken call' x) (state_at v mode next)) (sym e)
+        (subst (λ xs. KeepsAll s p n first st xs (state_at v mode next)) (sym f)
+        (subst (λ x. KeepsAll s p n first st (with_next items call x) (state_at v mode next)) e k))
+
     pub keeps_all_on : (s : Tree) (items mid new : List Item) (a b c : State) → KeepsAll s p n items a mid b → KeepsAll s p n mid b new c → KeepsAll s p n items a new c
     keeps_all_on s items mid new a b c h k ps x =
         let r = h ps x in

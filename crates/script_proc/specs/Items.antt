@@ -193,6 +193,11 @@ pub record Enters (s : Tree) (ps : List Piece) (st : State) (qs : List Piece) (s
 abbrev pub KeepsAll : Tree → Program → ℕ → List Item → State → List Item → State → Type 0
 KeepsAll s p n items st items' st' = (ps : List Piece) → AllCover p items ps → (qs : List Piece) × AllCover p items' qs × Keeps s ps st qs st' n
 
+-- that call, where there is one
+abbrev pub call_if : Call → Bool → Option Call
+call_if call true = Some call
+call_if call false = None
+
 -- the last of the items makes that call
 abbrev pub Asking : List Item → Mode → Call → Type 0
 Asking items mode call = (below : List Item) × (item : Item) × (items ≡ below ++ item ∷ []) × (asks item mode ≡ Some call)

@@ -1,5 +1,5 @@
 -- What the lines of a program stand for.
-use Rattle.std.specs.Prelude.{◌≡◌, ℕ, ◌-◌, List, [], ◌∷◌, ◌++◌, drop, slice_get, unwrap_or}
+use Rattle.std.specs.Prelude.{◌≡◌, ℕ, ◌-◌, List, [], ◌∷◌, ◌++◌, Some, drop, slice_get, unwrap_or}
 use Rattle.script_tree.specs.declared.statement.Statement.{Statement, items-the_row-Statement}
 use Rattle.script_tree.specs.declared.statement.Statement.TheVariants as tree
 use Rattle.script_tree.specs.declared.operand.Test.{Test}
@@ -29,12 +29,6 @@ Says (Compound c) line = line ≡ tree.Compound c
 Says Default line = line ≡ tree.Default
 Says border line = ⊥
 
--- a line that sets a letter
-abbrev pub IsSetting : Line → Type 0
-IsSetting (Let x e) = Unit {0}
-IsSetting (Compute x e op f) = Unit {0}
-IsSetting line = ⊥
-
 -- a line that begins a compound or a `sleep`
 abbrev pub IsCompound : Line → Type 0
 IsCompound (Sleep e) = Unit {0}
@@ -43,6 +37,12 @@ IsCompound (Destroy e) = Unit {0}
 IsCompound (Compound c) = Unit {0}
 IsCompound Default = Unit {0}
 IsCompound line = ⊥
+
+-- a line that puts items above the others
+abbrev pub IsSlow : Line → Type 0
+IsSlow (While t passed) = Unit {0}
+IsSlow (Return e) = Unit {0}
+IsSlow line = IsCompound line
 
 -- these lines, the next one first, stand for those statements that are left to do, block by block, the innermost first
 pub data Stands : List Line → List Piece → Type 0 where
@@ -95,6 +95,10 @@ EachStarts body lines (place ∷ places) [] = ⊥
 -- the lines from a place on
 abbrev pub lines_at : Program → ℕ → List Line
 lines_at p at = drop at p.lines.items
+
+-- there is such a line at the place
+abbrev pub IsSlowAt : Program → ℕ → Type 0
+IsSlowAt p at = (line : Line) × (slice_get p.lines.items at ≡ Some line) × IsSlow line
 
 -- the program has the script's budget, and each body of the script begins at its place
 pub record IsProgramOf (s : Tree) (p : Program) : Type 0 where

@@ -1,5 +1,5 @@
 -- What a worker stands for.
-use Rattle.std.specs.Prelude.{◌≡◌, ◌≤◌, ◌+◌, ℕ, List, ◌++◌, length, Option, Some, None, vec_len, vec_capacity}
+use Rattle.std.specs.Prelude.{◌≡◌, ◌≤◌, ◌+◌, ℕ, List, ◌++◌, length, Bool, Option, Some, None, vec_len, vec_capacity}
 use Rattle.user_model.specs.declared.call.Call.{Call}
 use Rattle.script_tree.specs.Tree.{Tree}
 use Rattle.script_tree.specs.Pieces.{Piece, Trace, End, Whole, Cut}
@@ -8,7 +8,7 @@ use Rattle.script_proc.specs.declared.program.Program.{Program}
 use Rattle.script_proc.specs.declared.worker.Worker.{Worker}
 use Rattle.script_proc.specs.Programs.{IsProgramOf}
 use Rattle.script_proc.specs.declared.item.Item.{Item}
-use Rattle.script_proc.specs.Items.{AllCover, mode_at, state_at, with_next, IsNoLine, IsReady}
+use Rattle.script_proc.specs.Items.{AllCover, mode_at, state_at, with_next, IsNoLine, IsReady, call_if}
 
 -- the thread of the worker
 abbrev pub thread_of : Worker → ℕ
@@ -36,6 +36,14 @@ pub record IsAt (w : Worker) (next : Option Call) : Type 0 where
   pub ready : IsReady (items_of w) (mode_at w.mode w.next) next
   pub no_line : IsNoLine w.next
   pub room : vec_len w.items + 7 ≤ vec_capacity w.items
+
+-- the call that the worker keeps
+abbrev pub call_of : Worker → Call
+call_of w = w.call
+
+-- its next call, where there is one
+abbrev pub next_of : Worker → Bool → Option Call
+next_of w more = call_if w.call more
 
 -- how a trace ends that has this next call
 abbrev pub end_of : Option Call → End

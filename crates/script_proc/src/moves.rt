@@ -3,18 +3,20 @@
 ghost use Rattle.std.specs.Prelude.{◌≡◌, ◌≢◌, ℕ, [], ◌∷◌, ◌++◌};
 ghost use Rattle.script_tree.specs.Tree.{Tree};
 ghost use Rattle.script_tree.specs.declared.statement.Statement.{Statement};
-ghost use Rattle.script_tree.specs.Values.{settled as settled_of};
+ghost use Rattle.script_tree.specs.Values.{call_of, settled as settled_of};
 ghost use Rattle.script_tree.specs.Pieces.{Settle, Left, Leaving, Going, Becomes};
 ghost use Rattle.script_tree.specs.Compounds.{default_result};
 ghost use Rattle.script_tree.specs.Steps.{statement as statement_of, step, begins, returns_to, takes, goes_on, sleeps as sleeps_of, default_pieces};
 ghost use Rattle.script_tree.specs.declared.variables.Variables.{Variables};
-ghost use Rattle.script_proc.specs.Programs.{Says, IsSetting, IsCompound};
+ghost use Rattle.script_proc.specs.Programs.{Says, IsCompound};
 ghost use Rattle.script_proc.specs.declared.item.Item.{Item};
 ghost use Rattle.script_proc.specs.Items.{piece, above, few_items, state_of, IsPlain, ArePlain, IsSilent, IsSettling, IsThrough, IsWaiting, IsWaitingIn};
 
 use crate::item::{Few, Item, Mode};
 use crate::program::Line;
-use script_tree::{Begin, CallStatement, Lead, Parameters, Place, Run, Variables};
+use script_tree::{
+    Begin, CallStatement, Lead, Letter, Operand, Operator, Parameters, Place, Run, Variables,
+};
 use user_model::{Answer, Call};
 use win_num::Frame;
 
@@ -69,29 +71,75 @@ fn begins_with(begin: Begin) -> Few
     settled_by(begin.call, begin)
 }
 
-/// A statement that sets a letter.
-pub fn sets(line: &Line, variables: &mut Variables)
-    ensures { (line' : Statement) (n : ℕ) → IsSetting line.now → Says line.now line' → Becomes [] (Going variables.new) ≡ statement_of line' variables.old n }
+/// A `let` of one operand.
+pub fn lets(letter: Letter, operand: &Operand, variables: &mut Variables)
+    ensures { (n : ℕ) → Becomes [] (Going variables.new) ≡ statement_of (Statement.Let letter operand.now) variables.old n }
 {
-    match line {
-        Line::Let(letter, operand) => {
-            let value = operand.value(variables);
-            variables.assign(*letter, value);
-        }
-        Line::Compute(letter, left, operator, right) => {
-            let value = operator.compute(left.value(variables), right.value(variables));
-            variables.assign(*letter, value);
-        }
-        _ => {}
-    }
+    let value = operand.value(variables);
+    variables.assign(letter, value);
+}
+
+/// A `let` of two operands and an operator.
+pub fn computes(
+    letter: Letter,
+    left: &Operand,
+    operator: Operator,
+    right: &Operand,
+    variables: &mut Variables,
+)
+    ensures { (n : ℕ) → Becomes [] (Going variables.new) ≡ statement_of (Statement.Compute letter left.now operator right.now) variables.old n }
+{
+    let value = operator.compute(left.value(variables), right.value(variables));
+    variables.assign(letter, value);
 }
 
 /// The call of a statement, which settles what it is answered.
-#[inline(never)]
-pub fn called(statement: &CallStatement, variables: &Variables) -> Call
-    ensures { (line' : Statement) (n : ℕ) → Says (Line.Call statement.now) line' → Becomes (above (Item.Settle result ∷ Item.Making result ∷ [])) (Going variables.now) ≡ statement_of line' variables.now n }
+#[inline(always)]
+pub fn called(statement: &CallStatement, variables: &Variables, call: &mut Call)
+    ensures { (line' : Statement) (n : ℕ) → Says (Line.Call statement.now) line' → Becomes (above (Item.Settle call.new ∷ Item.Making call.new ∷ [])) (Going variables.now) ≡ statement_of line' variables.now n }
 {
-    statement.call(variables)
+    put_call(statement, variables, call);
+}
+
+/// Puts the call of a statement in its place. The most frequent calls are made there at once.
+#[inline(never)]
+fn put_call(statement: &CallStatement, variables: &Variables, call: &mut Call)
+    ensures { call.new ≡ call_of statement.now variables.now }
+{
+    match statement {
+        CallStatement::Get(window, least, greatest) => {
+            *call = Call::Get(
+                window.value(variables),
+                least.value(variables),
+                greatest.value(variables),
+            );
+        }
+        CallStatement::Post(window, number, wparam, lparam) => {
+            *call = Call::Post(
+                window.value(variables),
+                number.value(variables),
+                wparam.value(variables),
+                lparam.value(variables),
+            );
+        }
+        CallStatement::PostThread(thread, number, wparam, lparam) => {
+            *call = Call::PostThread(
+                thread.value(variables),
+                number.value(variables),
+                wparam.value(variables),
+                lparam.value(variables),
+            );
+        }
+        _ => put_other_call(statement, variables, call),
+    }
+}
+
+/// The same for any statement.
+#[inline(never)]
+fn put_other_call(statement: &CallStatement, variables: &Variables, call: &mut Call)
+    ensures { call.new ≡ call_of statement.now variables.now }
+{
+    *call = statement.call(variables);
 }
 
 /// What a statement does that begins a compound or a `sleep`, above the place behind it.

@@ -1,6 +1,6 @@
 //! What items do, those that have a place in the program and the others.
 
-ghost use Rattle.std.specs.Prelude.{◌≡◌, ◌≢◌, ◌+◌, ◌-◌, ◌<◌, ◌≤◌, ◌==◌, false, [], ◌∷◌, ◌++◌, ◌^◌, ℕ, List, min, if◌then◌else◌, vec_len, vec_capacity};
+ghost use Rattle.std.specs.Prelude.{◌≡◌, ◌≢◌, ◌+◌, ◌-◌, ◌<◌, ◌≤◌, ◌==◌, false, [], ◌∷◌, ◌++◌, ◌^◌, ℕ, List, min, if◌then◌else◌, IfSome, IfNone, vec_len, vec_capacity};
 ghost use Rattle.script_tree.specs.Values.{holds as holds_of, value_of};
 ghost use Rattle.script_tree.specs.Pieces.{Going};
 ghost use Rattle.script_tree.specs.declared.variables.Variables.{Variables};
@@ -9,10 +9,11 @@ ghost use Rattle.script_proc.specs.declared.item.Item.{Item};
 ghost use Rattle.script_proc.specs.Items.{state_of, state_at, with_next, IsPlain, IsSilent, IsWaitingIn};
 ghost use Rattle.script_proc.specs.declared.item.Mode.{Mode};
 ghost use Rattle.script_proc.specs.Works.{Last, Puts, Steps};
+ghost use Rattle.script_proc.specs.Programs.{IsSlowAt};
 ghost use Rattle.user_model.specs.declared.call.Call.{Call};
 
 use crate::item::{Item, Mode, Next};
-use crate::moves::{called, plain, sets, settled, statement, through};
+use crate::moves::{called, computes, lets, plain, settled, statement, through};
 use crate::program::{Line, Program};
 use crate::top::{drop_last, push_few, put_one, set_last};
 use script_tree::{Operand, Run, Test, Variables};
@@ -86,44 +87,73 @@ pub fn hand_nothing(mode: &mut Mode)
     }
 }
 
-/// The line at a place of the program, above the items.
+/// The line at a place of the program where it puts no item above the others. None comes where it puts some, and then
+/// nothing has changed.
 #[inline(always)]
-pub fn line_at(
+pub fn quick_line(
     program: &Program,
-    items: &mut Vec<Item>,
     at: usize,
     variables: &mut Variables,
     mode: &mut Mode,
     call: &mut Call,
-    used: u32,
-) -> Next
-    requires going { mode.old ≡ Mode.Going }
-    requires room { vec_len items.old + 6 ≤ vec_capacity items.old }
-    ensures { Steps program.now used (items.old.items ++ Item.At at ∷ []) (Going variables.old) (with_next items.new.items call.new result) (state_at variables.new mode.new result) }
+) -> Option<Next>
+    ensures quick { IfSome result (λ next. (below : List Item) (used : ℕ) → Steps program.now used (below ++ Item.At at ∷ []) (Going variables.old) (with_next below call.new next) (state_at variables.new mode.new next)) }
+    ensures slow { IfNone result (IsSlowAt program.now at × (variables.new ≡ variables.old) × (mode.new ≡ mode.old) × (call.new ≡ call.old)) }
 {
     let Some(line) = program.lines().get(at) else {
-        return Next::Top;
+        hand_nothing(mode);
+        return Some(Next::Top);
     };
     match line {
         Line::If(test, passed) => {
             if test.holds(variables) {
-                Next::Line(at + 1)
+                Some(Next::Line(at + 1))
             } else {
-                Next::Line(behind(at, *passed))
+                Some(Next::Line(behind(at, *passed)))
             }
         }
-        Line::Else(passed) => Next::Line(behind(at, *passed)),
+        Line::Else(passed) => Some(Next::Line(behind(at, *passed))),
+        Line::End => {
+            hand_nothing(mode);
+            Some(Next::Top)
+        }
+        Line::Call(statement) => {
+            called(statement, variables, call);
+            Some(Next::Stating(at + 1))
+        }
+        Line::Let(letter, operand) => {
+            lets(*letter, operand, variables);
+            Some(Next::Line(at + 1))
+        }
+        Line::Compute(letter, left, operator, right) => {
+            computes(*letter, left, *operator, right, variables);
+            Some(Next::Line(at + 1))
+        }
+        _ => None,
+    }
+}
+
+/// The line at a place of the program that puts items above the others.
+#[inline(never)]
+pub fn slow_line(
+    program: &Program,
+    items: &mut Vec<Item>,
+    at: usize,
+    variables: &Variables,
+    mode: &mut Mode,
+    used: u32,
+) -> Next
+    requires slow { IsSlowAt program.now at }
+    requires room { vec_len items.old + 6 ≤ vec_capacity items.old }
+    ensures { (call : Call) → Steps program.now used (items.old.items ++ Item.At at ∷ []) (Going variables.now) (with_next items.new.items call result) (state_at variables.now mode.new result) }
+{
+    hand_nothing(mode);
+    let Some(line) = program.lines().get(at) else {
+        return Next::Top;
+    };
+    match line {
         Line::While(test, passed) => {
             Next::Line(while_at(items, at, test, *passed, variables, used))
-        }
-        Line::End => Next::Top,
-        Line::Call(statement) => {
-            *call = called(statement, variables);
-            Next::Stating(at + 1)
-        }
-        Line::Let(_, _) | Line::Compute(_, _, _, _) => {
-            sets(line, variables);
-            Next::Line(at + 1)
         }
         Line::Return(operand) => {
             returns(items, at, operand, variables, mode);
@@ -133,6 +163,26 @@ pub fn line_at(
             begins(items, at, line, variables);
             Next::Top
         }
+    }
+}
+
+/// The line at a place of the program, above the items.
+#[inline(never)]
+fn line_at(
+    program: &Program,
+    items: &mut Vec<Item>,
+    at: usize,
+    variables: &mut Variables,
+    mode: &mut Mode,
+    call: &mut Call,
+    used: u32,
+) -> Next
+    requires room { vec_len items.old + 6 ≤ vec_capacity items.old }
+    ensures { Steps program.now used (items.old.items ++ Item.At at ∷ []) (Going variables.old) (with_next items.new.items call.new result) (state_at variables.new mode.new result) }
+{
+    match quick_line(program, at, variables, mode, call) {
+        Some(next) => next,
+        None => slow_line(program, items, at, variables, mode, used),
     }
 }
 

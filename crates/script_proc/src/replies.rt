@@ -11,7 +11,7 @@ use crate::item::{Item, Mode, Next};
 use crate::top::{drop_last, put_one};
 use script_tree::{Parameters, Run, Variables, result_of};
 use user_model::{Answer, Call};
-use win_num::Frame;
+use win_num::{Frame, names};
 
 /// Whether an item makes a call now.
 pub fn is_asking(item: &Item, mode: &Mode) -> bool
@@ -25,14 +25,15 @@ pub fn is_asking(item: &Item, mode: &Mode) -> bool
     }
 }
 
-/// The call that an item makes now.
-pub fn asked(item: &Item, mode: &Mode) -> Call
+/// Puts the call that an item makes now in its place.
+#[inline(never)]
+pub fn put_asked(item: &Item, mode: &Mode, call: &mut Call)
     requires { IsSome (asks item.now mode.now) }
-    ensures { asks item.now mode.now ≡ Some result }
+    ensures { asks item.now mode.now ≡ Some call.new }
 {
     match item {
-        Item::Making(call) => *call,
-        Item::Leaves(_, value) => Call::Leave(*value),
+        Item::Making(making) => *call = *making,
+        Item::Leaves(_, value) => *call = Call::Leave(*value),
         _ => unreachable!(),
     }
 }
@@ -120,7 +121,19 @@ fn gives(items: &mut Vec<Item>, answer: &Answer, variables: &mut Variables, mode
 }
 
 /// Whether the answer is handed on at once: no procedure runs for it, and no call is made for it again.
+#[inline(always)]
 pub fn hands_on(call: &Call, answer: &Answer) -> bool
+    ensures { result ≡ hands_on_of call.now answer.now }
+{
+    match answer {
+        Answer::Posted(_) | Answer::Got { .. } => true,
+        _ => hands_any_on(call, answer),
+    }
+}
+
+/// The same for any answer.
+#[inline(never)]
+fn hands_any_on(call: &Call, answer: &Answer) -> bool
     ensures { result ≡ hands_on_of call.now answer.now }
 {
     match answer {
@@ -193,8 +206,28 @@ fn goes_on(items: &mut Vec<Item>, call: &Call, answer: &Answer)
     }
 }
 
-/// The statement whose call was answered is over.
+/// The statement whose call was answered is over. The most frequent answers set `r` and `err` at once.
+#[inline(always)]
 pub fn end_statement(call: &Call, answer: &Answer, variables: &mut Variables)
+    ensures { variables.new ≡ settled (received variables.old answer.now) call.now answer.now (result_of_answer answer.now) }
+{
+    match answer {
+        Answer::Posted(_) => {
+            variables.last_result = 1;
+            variables.last_error = 0;
+        }
+        Answer::Got { msg, .. } => {
+            variables.got = *msg;
+            variables.last_result = u64::from(msg.number != names::WM_QUIT);
+            variables.last_error = 0;
+        }
+        _ => end_by_any(call, answer, variables),
+    }
+}
+
+/// The same for any answer.
+#[inline(never)]
+fn end_by_any(call: &Call, answer: &Answer, variables: &mut Variables)
     ensures { variables.new ≡ settled (received variables.old answer.now) call.now answer.now (result_of_answer answer.now) }
 {
     variables.receive(answer);
@@ -202,17 +235,18 @@ pub fn end_statement(call: &Call, answer: &Answer, variables: &mut Variables)
 }
 
 /// The call of a statement stands apart from what it sets, and from the place behind it.
-pub fn separate(items: &mut Vec<Item>, next: &mut Next, call: Call)
+#[inline(never)]
+pub fn separate(items: &mut Vec<Item>, next: &mut Next, call: &Call)
     requires no_line { IsNoLine next.old }
     requires room { vec_len items.old + 7 ≤ vec_capacity items.old }
     ensures room { vec_len items.new + 4 ≤ vec_capacity items.new }
-    ensures items { items.new.items ≡ with_next items.old.items call next.old }
+    ensures items { items.new.items ≡ with_next items.old.items call.now next.old }
     ensures next { next.new ≡ Next.Top }
 {
     if let Next::Stating(at) = *next {
         items.push_reserved(Item::At(at));
-        items.push_reserved(Item::Settle(call));
-        items.push_reserved(Item::Making(call));
+        items.push_reserved(Item::Settle(*call));
+        items.push_reserved(Item::Making(*call));
         *next = Next::Top;
     }
 }

@@ -6,13 +6,14 @@ ghost use Rattle.script_tree.specs.Pieces.{Trace, Whole, Cut};
 ghost use Rattle.script_tree.specs.Traces.{IsTrace};
 ghost use Rattle.script_tree.specs.Tree.{Tree};
 ghost use Rattle.script_proc.specs.Programs.{IsProgramOf};
-ghost use Rattle.script_proc.specs.Workers.{IsWorkerOf, IsAt, thread_of, uses};
+ghost use Rattle.user_model.specs.declared.call.Call.{Call};
+ghost use Rattle.script_proc.specs.Workers.{IsWorkerOf, IsAt, thread_of, uses, call_of};
 ghost use Rattle.script_proc.specs.Turns.{Stays, Asked, Did, AsksNobody};
 
 use crate::program::Program;
 use crate::worker::Worker;
 use std::alloc::AllocError;
-use user_model::{Call, Teller, Told};
+use user_model::{Teller, Told};
 
 /// What a turn of a worker came to.
 #[derive(Clone, Copy, Debug, PartialEq, Eq)]
@@ -45,23 +46,23 @@ impl Worker {
         ensures serves { (t : ℕ) → T.serves teller.old t ↔ T.serves teller.new t }
         ensures thread { thread_of self.new ≡ thread_of self.old }
     {
-        let Some(call) = self.next_call(program)? else {
+        if !self.go_on(program)? {
             return Ok(Turn::Ended);
-        };
+        }
         let spent = self.used() >= program.budget();
         if spent {
             return Ok(Turn::Spent);
         }
-        ask(self, teller, call)
+        ask(self, teller)
     }
 }
 
 /// Asks the teller for the call at which the worker stands, and takes the answer.
-fn ask<T: Teller>(worker: &mut Worker, teller: &mut T, call: Call) -> Result<Turn, AllocError>
-    requires at { IsAt worker.old (Some call) }
+fn ask<T: Teller>(worker: &mut Worker, teller: &mut T) -> Result<Turn, AllocError>
+    requires at { IsAt worker.old (Some (call_of worker.old)) }
     requires room { uses worker.old + 1 < 2 ^ 32 }
     requires serves { T.serves teller.old (thread_of worker.old) }
-    ensures asked { IfOk result (Asked worker.old worker.new (T.view teller.old) (T.view teller.new) call) }
+    ensures asked { IfOk result (Asked worker.old worker.new (T.view teller.old) (T.view teller.new) (call_of worker.old)) }
     ensures no_memory { OnErr result (worker.new ≡ worker.old) }
     ensures no_entry { OnErr result ((T.view teller.new).mine (thread_of worker.old) ≡ (T.view teller.old).mine (thread_of worker.old)) }
     ensures goes_on { GoesOn (T.view teller.old) (T.view teller.new) (T.serves teller.old) (thread_of worker.old) }
@@ -69,9 +70,9 @@ fn ask<T: Teller>(worker: &mut Worker, teller: &mut T, call: Call) -> Result<Tur
     ensures serves { (t : ℕ) → T.serves teller.old t ↔ T.serves teller.new t }
     ensures thread { thread_of worker.new ≡ thread_of worker.old }
 {
-    match teller.turn(worker.thread(), call)? {
+    match teller.turn(worker.thread(), *worker.call())? {
         Told::Answered(answer) => {
-            worker.take(&call, &answer);
+            worker.take_answer(&answer);
             Ok(Turn::Went)
         }
         Told::Barred => Ok(Turn::Idle),

@@ -6,12 +6,12 @@ ghost use Rattle.script_tree.specs.Pieces.{Trace};
 ghost use Rattle.script_tree.specs.Traces.{IsTrace};
 ghost use Rattle.script_proc.specs.declared.program.Program.{Program};
 ghost use Rattle.script_proc.specs.Programs.{IsProgramOf};
-ghost use Rattle.script_proc.specs.Items.{state_at, mode_at, with_next, IsNoLine, IsReady, KeepsAll};
+ghost use Rattle.script_proc.specs.Items.{state_at, mode_at, with_next, call_if, IsNoLine, IsReady, KeepsAll};
 
 use crate::item::{Item, Mode, Next};
-use crate::places::{hand_nothing, line_at, step};
+use crate::places::{quick_line, slow_line, step};
 use crate::program::Program;
-use crate::replies::{asked, end_statement, follow, hands_on, is_asking, separate};
+use crate::replies::{end_statement, follow, hands_on, is_asking, put_asked, separate};
 use crate::top::take_room;
 use script_tree::Variables;
 use std::alloc::{AllocError, Global};
@@ -32,7 +32,7 @@ pub struct Worker {
 }
 
 impl Worker {
-    ghost use Rattle.script_proc.specs.Workers.{IsWorkerOf, IsAt, thread_of, uses, end_of};
+    ghost use Rattle.script_proc.specs.Workers.{IsWorkerOf, IsAt, thread_of, uses, call_of, next_of, end_of};
 
     /// The worker of a thread, from 1, at the beginning of its body in that program. `AllocError` comes
     /// only for want of memory.
@@ -76,6 +76,23 @@ impl Worker {
         ensures used { uses self.new ≡ uses self.old }
         ensures thread { thread_of self.new ≡ thread_of self.old }
     {
+        if self.go_on(program)? {
+            Ok(Some(self.call))
+        } else {
+            Ok(None)
+        }
+    }
+
+    /// Goes on to the next call, and tells whether there is one: false exactly where the program has ended.
+    /// `call` then tells the call. It has made no entry, also where memory is wanting, and may then be asked
+    /// again. It is asked with the program that it was made with.
+    pub fn go_on(&mut self, program: &Program) -> Result<bool, AllocError>
+        ensures worker { (s : Tree) (t : ℕ) (tr : Trace) → IsWorkerOf s program.now t tr self.old → IsWorkerOf s program.now t tr self.new }
+        ensures next { IfOk result (λ more. (s : Tree) (t : ℕ) (tr : Trace) → IsWorkerOf s program.now t tr self.old → IsTrace s t tr (end_of (next_of self.new more))) }
+        ensures at { IfOk result (λ more. IsAt self.new (next_of self.new more)) }
+        ensures used { uses self.new ≡ uses self.old }
+        ensures thread { thread_of self.new ≡ thread_of self.old }
+    {
         settle(
             program,
             &mut self.items,
@@ -87,6 +104,13 @@ impl Worker {
         )
     }
 
+    /// The call at which it stands, once it has gone on to one.
+    pub fn call(&self) -> &Call
+        ensures { result.now ≡ call_of self.now }
+    {
+        &self.call
+    }
+
     /// Takes the answer to its next call, which is one entry more.
     pub fn take(&mut self, call: &Call, answer: &Answer)
         requires at { IsAt self.old (Some call.now) }
@@ -95,18 +119,30 @@ impl Worker {
         ensures used { uses self.new ≡ uses self.old + 1 }
         ensures thread { thread_of self.new ≡ thread_of self.old }
     {
+        self.call = *call;
+        self.take_answer(answer);
+    }
+
+    /// Takes the answer to the call at which it stands, which is one entry more.
+    pub fn take_answer(&mut self, answer: &Answer)
+        requires at { IsAt self.old (Some (call_of self.old)) }
+        requires room { uses self.old + 1 < 2 ^ 32 }
+        ensures worker { (s : Tree) (p : Program) (t : ℕ) (tr : Trace) → IsWorkerOf s p t tr self.old → IsWorkerOf s p t (tr ++ (call_of self.old, answer.now) ∷ []) self.new }
+        ensures used { uses self.new ≡ uses self.old + 1 }
+        ensures thread { thread_of self.new ≡ thread_of self.old }
+    {
         self.used += 1;
         if let Next::Stating(at) = self.next {
-            if hands_on(call, answer) {
-                end_statement(call, answer, &mut self.variables);
+            if hands_on(&self.call, answer) {
+                end_statement(&self.call, answer, &mut self.variables);
                 self.next = Next::Line(at);
                 return;
             }
         }
-        separate(&mut self.items, &mut self.next, self.call);
+        separate(&mut self.items, &mut self.next, &self.call);
         follow(
             &mut self.items,
-            call,
+            &self.call,
             answer,
             &mut self.variables,
             &mut self.mode,
@@ -124,28 +160,39 @@ fn settle(
     next: &mut Next,
     call: &mut Call,
     used: u32,
-) -> Result<Option<Call>, AllocError>
+) -> Result<bool, AllocError>
     ensures kept { (s : Tree) → IsProgramOf s program.now → KeepsAll s program.now used (with_next items.old.items call.old next.old) (state_at variables.old mode.old next.old) (with_next items.new.items call.new next.new) (state_at variables.new mode.new next.new) }
-    ensures ready { IfOk result (IsReady (with_next items.new.items call.new next.new) (mode_at mode.new next.new)) }
+    ensures ready { IfOk result (λ more. IsReady (with_next items.new.items call.new next.new) (mode_at mode.new next.new) (call_if call.new more)) }
     ensures no_line { OnOk result (IsNoLine next.new) }
     ensures room { OnOk result (vec_len items.new + 7 ≤ vec_capacity items.new) }
 {
+    let mut ahead = *next;
     'steps: loop {
-        take_room(items)?;
-        match *next {
-            Next::Line(at) => {
-                hand_nothing(mode);
-                *next = line_at(program, items, at, variables, mode, call, used);
+        match ahead {
+            Next::Line(at) => match quick_line(program, at, variables, mode, call) {
+                Some(following) => ahead = following,
+                None => {
+                    *next = ahead;
+                    take_room(items)?;
+                    ahead = slow_line(program, items, at, variables, mode, used);
+                }
+            },
+            Next::Stating(_) => {
+                *next = ahead;
+                take_room(items)?;
+                return Ok(true);
             }
-            Next::Stating(_) => return Ok(Some(*call)),
             Next::Top => {
+                *next = ahead;
+                take_room(items)?;
                 let Some(item) = items.last() else {
-                    return Ok(None);
+                    return Ok(false);
                 };
                 if is_asking(item, mode) {
-                    return Ok(Some(asked(item, mode)));
+                    put_asked(item, mode, call);
+                    return Ok(true);
                 }
-                *next = step(program, items, variables, mode, call, used);
+                ahead = step(program, items, variables, mode, call, used);
             }
         }
     }

@@ -1,5 +1,5 @@
 -- Seats at a past with one entry more.
-use Rattle.std.proofs.Common.{◌≡◌, ◌≢◌, ℕ, zero, suc, ◌+◌, ◌-◌, ◌<◌, ◌≤◌, Bool, true, false, not, cond, eqb, List, [], ◌∷◌, ◌++◌, length, get_or, set, Some, None, refl, ap, ◌∙◌, sym, subst, inl, inr, arith, length-set}
+use Rattle.std.proofs.Common.{◌≡◌, ◌≢◌, ℕ, zero, suc, ◌+◌, ◌-◌, ◌<◌, ◌≤◌, Bool, true, false, not, cond, eqb, List, [], ◌∷◌, ◌++◌, length, get_or, set, Some, None, Result, Ok, OnOk, refl, ap, ◌∙◌, sym, subst, inl, inr, arith, length-set}
 use Rattle.std.specs.Prelude.{◌&&◌, is_none}
 use Rattle.std.proofs.lemmas.Bool.Decides.{nat_tests, eqb_tells}
 use Rattle.std.proofs.lemmas.List.{get_or-set_same, get_or-set_other}
@@ -26,6 +26,10 @@ use Rattle.user_pool.specs.Moves.{HasMoved}
 use Rattle.user_pool.specs.Seats.{IsSeatOf, SeatsStand, SeatsCount}
 use Rattle.user_pool.proofs.Ended.{has_ended-next}
 use Rattle.user_pool.proofs.Turns.{chosen_free, chosen_left}
+
+-- what is known where there is a value
+pub on_ok : {X E : Type 0} (P : Type 0) (r : Result X E) (x : X) → r ≡ Ok x → OnOk r P → P
+on_ok P r x e h = subst (λ o. OnOk o P) e h
 
 -- what a call that came next does to the past
 pub with_entry : (s : Tree) (past now : Past) (t : ℕ) (call : Call) (setup : Setup) → setup ≡ setup_of s → is_full past ≡ false

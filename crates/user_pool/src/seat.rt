@@ -55,19 +55,23 @@ impl Seat {
         ensures seat { OnOk result (IsSeatOf script.now program.now (M.past machine.new) actor self.new) }
         ensures setup { M.setup machine.new ≡ setup_of script.now }
     {
-        let Some(call) = self.worker.next_call(program)? else {
+        if !self.worker.go_on(program)? {
             unreachable!();
-        };
-        let answer = machine.step(Thread(actor), call)?;
-        self.worker.take(&call, &answer);
-        self.ended = ended_by(self.ended, answer);
-        Ok(())
+        }
+        match &machine.step(Thread(actor), *self.worker.call()) {
+            Ok(answer) => {
+                self.worker.take_answer(answer);
+                self.ended = ended_by(self.ended, answer);
+                Ok(())
+            }
+            Err(_) => Err(AllocError),
+        }
     }
 }
 
 /// Whether a thread has ended that had, or that is given this answer.
-fn ended_by(ended: bool, answer: Answer) -> bool
-    ensures { result ≡ (if is_end answer then true else ended) }
+fn ended_by(ended: bool, answer: &Answer) -> bool
+    ensures { result ≡ (if is_end answer.now then true else ended) }
 {
     ended || matches!(answer, Answer::Ended)
 }

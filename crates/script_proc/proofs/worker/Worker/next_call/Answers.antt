@@ -1,20 +1,10 @@
-use Rattle.script_proc.specs.Items.{mode_at, with_next}
-use Rattle.script_proc.proofs.Workings.{next_ends}
+use Rattle.std.proofs.Common.{subst}
+use Rattle.script_tree.specs.Traces.{IsTrace}
+use Rattle.script_proc.specs.Workers.{next_of, end_of}
 use Rattle.script_proc.proofs.worker.Worker.next_call.Goals as goal
 
-pub returns-clause-worker : goal.returns-clause-worker
-returns-clause-worker c s t tr h =
-    let w = c.args.self.now in
-    let new = c.settle.new in
-    let k = c.settle.ensures.kept s h.program h.left h.stands in
-    record {
-      program = h.program;
-      left = k.0;
-      stands = k.1;
-      by = λ more e m. h.by more e (k.2.by more e m);
-      counts = h.counts;
-      thread = h.thread;
-    }
+pub returns-then-branch-clause-next : goal.returns-then-branch-clause-next
+returns-then-branch-clause-next c s t tr h = subst (λ b. IsTrace s t tr (end_of (next_of c.go_on.new.self b))) c.if-branch.true (c.in_ok-go_on.ensures.next s t tr h)
 
-pub returns-clause-next : goal.returns-clause-next
-returns-clause-next c = next_ends c.args.program.now c.args.self.now (with_next c.settle.new.items.items c.settle.new.call c.settle.new.next) c.settle.new.variables (mode_at c.settle.new.mode c.settle.new.next) c.settle.result c.settle.ensures.kept c.settle.ensures.ready
+pub returns-else-branch-clause-next : goal.returns-else-branch-clause-next
+returns-else-branch-clause-next c s t tr h = subst (λ b. IsTrace s t tr (end_of (next_of c.go_on.new.self b))) c.if-branch.false (c.in_ok-go_on.ensures.next s t tr h)

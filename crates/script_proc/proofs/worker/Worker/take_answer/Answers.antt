@@ -2,12 +2,12 @@ use Rattle.std.proofs.Common.{◌+◌, suc, [], ◌∷◌, ◌++◌, sym, ◌∙
 use Rattle.script_tree.specs.Pieces.{Going}
 use Rattle.script_proc.specs.Items.{state_of, state_at, mode_at, with_next, AllCover, Asking}
 use Rattle.script_proc.proofs.WorkerLaws.{Completes, entered, stated}
-use Rattle.script_proc.proofs.worker.Worker.take.Goals as goal
+use Rattle.script_proc.proofs.worker.Worker.take_answer.Goals as goal
 
 pub returns-then-hands_on-clause-worker : goal.returns-then-hands_on-clause-worker
 returns-then-hands_on-clause-worker c s p t past h =
     let w = c.args.self.now in
-    let call = c.args.call.now in
+    let call = w.call in
     let a = c.args.answer.now in
     let at = c.in-Stating.at in
     let next = c.in-Stating.is in
@@ -28,7 +28,7 @@ returns-then-hands_on-clause-worker c s p t past h =
 pub returns-clause-worker : goal.returns-clause-worker
 returns-clause-worker c s p t past h =
     let w = c.args.self.now in
-    let call = c.args.call.now in
+    let call = w.call in
     let a = c.args.answer.now in
     let v = c.follow.new.variables in
     let mode = c.follow.new.mode in
