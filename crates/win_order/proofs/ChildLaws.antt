@@ -1,5 +1,5 @@
 -- Who is in the list of a parent.
-use Rattle.std.proofs.Common.{◌≡◌, ◌∙◌, ℕ, List, [], ◌∷◌, Bool, true, false, cond, not, ◌&&◌, ◌||◌, eqb, ltb, refl, sym, ap}
+use Rattle.std.proofs.Common.{◌≡◌, ◌∙◌, ℕ, [], true, eqb, ltb, sym, ap}
 use Rattle.std.specs.List.{list_any, list_all}
 use Rattle.win_num.specs.declared.message.Hwnd.{Hwnd}
 use Rattle.win_order.specs.Kept.{IsKept, is_child}

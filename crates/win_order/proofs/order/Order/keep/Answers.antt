@@ -1,6 +1,6 @@
 use Rattle.std.proofs.Common.{◌≡◌, ◌∙◌, List, ap, sym, subst}
 use Rattle.win_order.specs.Kept.{IsKept}
-use Rattle.win_order.specs.Layers.{Layers, kept, stands}
+use Rattle.win_order.specs.Layers.{Layers, kept}
 use Rattle.win_order.specs.Lone.{GoesAlone}
 use Rattle.win_order.specs.Siblings.{Siblings}
 use Rattle.win_order.specs.Standing.{Standing}
