@@ -134,7 +134,6 @@ fn listed_command(word: &[u8]) -> Option<Command>
 }
 
 /// The same. The words of which long scripts mostly consist are told at once.
-#[tactic(auto, using(std::proofs::lemmas::Slice::Eq::text_from_reads), unfolding(crate::specs::Rows::own_command, call_table::specs::Calls::call_named))]
 fn first_command(word: &[u8]) -> Option<Command>
     ensures { result ≡ first_command word.now }
 {
