@@ -1,3 +1,4 @@
 pub mod Admitted
 pub mod DueTimers
 mod Reading
+mod Searching

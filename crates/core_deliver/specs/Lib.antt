@@ -1,3 +1,4 @@
 pub mod Admission
 pub mod Groups
 pub mod Reads
+pub mod Searches

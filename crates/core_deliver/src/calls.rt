@@ -11,7 +11,7 @@ ghost use Rattle.user_model.specs.Replies.{is_barred_by, row};
 ghost use Rattle.user_model.specs.Stacks.{top};
 
 use crate::admission::admit;
-use crate::delivery::{get_answer, peek_answer, post_answer, post_thread_answer, translate_answer};
+use crate::delivery::{post_answer, post_thread_answer, translate_answer, write_found};
 use crate::messages::message_answer;
 use crate::sends::{
     await_answer, dispatch_answer, in_send_answer, leave_answer, reply_answer, send_answer,
@@ -24,24 +24,7 @@ use std::alloc::AllocError;
 use std::marker::Brand;
 use std::sync::ledger::{Blank, Ledger};
 use user_model::{Answer, Call, Entry};
-use win_num::{Filter, Thread};
-
-/// The answer of a retrieval to a running thread, where its stack allows it.
-fn retrieval_row<L: Ledger>(state: &CoreState, who: u8, call: &Call, steps: &mut Steps<L>) -> Answer
-    requires group { is_retrieval call.now ≡ true }
-    requires some { 0 < who }
-    requires known { who ≤ state.now.setup.threads }
-    ensures answer { result ≡ row state.now.setup state.now.past who call.now }
-    ensures reads { steps.new ≤ steps.old + reads_by state.now.past who call.now }
-{
-    match *call {
-        Call::Peek(hwnd, min, max, flags) => {
-            peek_answer(state, who, Filter { hwnd, min, max }, flags, steps)
-        }
-        Call::Get(hwnd, min, max) => get_answer(state, who, Filter { hwnd, min, max }, steps),
-        _ => unreachable!(),
-    }
-}
+use win_num::Thread;
 
 /// The answer of a call of delivery to a running thread, where its stack allows it.
 fn delivery_row(state: &CoreState, who: u8, call: &Call) -> Answer
@@ -74,20 +57,50 @@ fn delivery_row(state: &CoreState, who: u8, call: &Call) -> Answer
     }
 }
 
-/// What a retrieval answers, in one step for each posted message that is read.
-fn counted_answer<L: Ledger>(
+/// Writes the answer of a call of delivery to a running thread, where its stack allows it.
+#[inline(always)]
+fn write_delivery_row(state: &CoreState, who: u8, call: &Call, answer: &mut Answer)
+    requires group { is_delivery call.now ≡ true }
+    requires room { is_full state.now.past ≡ false }
+    requires some { 0 < who }
+    requires known { who ≤ state.now.setup.threads }
+    requires allowed { is_barred_by call.now (top state.now.past who) ≡ false }
+    ensures { answer.new ≡ row state.now.setup state.now.past who call.now }
+{
+    match *call {
+        Call::PostThread(to, number, _, _) => *answer = post_thread_answer(state, to, number),
+        _ => write_long_row(state, who, call, answer),
+    }
+}
+
+/// Writes the same for any call of delivery.
+#[inline(never)]
+fn write_long_row(state: &CoreState, who: u8, call: &Call, answer: &mut Answer)
+    requires group { is_delivery call.now ≡ true }
+    requires room { is_full state.now.past ≡ false }
+    requires some { 0 < who }
+    requires known { who ≤ state.now.setup.threads }
+    requires allowed { is_barred_by call.now (top state.now.past who) ≡ false }
+    ensures { answer.new ≡ row state.now.setup state.now.past who call.now }
+{
+    *answer = delivery_row(state, who, call);
+}
+
+/// Writes what a retrieval answers, in one step for each posted message that is read.
+fn write_retrieval<L: Ledger>(
     state: &CoreState,
     who: Thread,
     call: &Call,
+    answer: &mut Answer,
     steps: &mut Steps<L>,
-) -> Answer
+)
     requires { is_retrieval call.now ≡ true }
-    ensures answer { result ≡ reply state.now.setup state.now.past who.0 call.now }
+    ensures answer { answer.new ≡ reply state.now.setup state.now.past who.0 call.now }
     ensures reads { steps.new ≤ steps.old + reads_by state.now.past who.0 call.now }
 {
     match admit(state, who, call) {
-        Some(code) => Answer::Refused(code),
-        None => retrieval_row(state, who.0, call, steps),
+        Some(code) => *answer = Answer::Refused(code),
+        None => write_found(state, who.0, call, answer, steps),
     }
 }
 
@@ -100,7 +113,9 @@ fn uncounted_answer<L: Ledger>(blank: Blank, state: &CoreState, who: Thread, cal
     ensures { result ≡ reply state.now.setup state.now.past who.0 call.now }
 {
     let mut steps = Steps::<L>::new(blank);
-    counted_answer(state, who, call, &mut steps)
+    let mut answer = Answer::Nothing;
+    write_retrieval(state, who, call, &mut answer, &mut steps);
+    answer
 }
 
 /// What a retrieval answers.
@@ -111,15 +126,25 @@ pub fn retrieval_answer(state: &CoreState, who: Thread, call: &Call) -> Answer
     uncounted_answer::<Brand>(Blank::new(1), state, who, call)
 }
 
+/// Writes what a call of delivery answers.
+fn write_delivery(state: &CoreState, who: Thread, call: &Call, answer: &mut Answer)
+    requires { is_delivery call.now ≡ true }
+    ensures { answer.new ≡ reply state.now.setup state.now.past who.0 call.now }
+{
+    match admit(state, who, call) {
+        Some(code) => *answer = Answer::Refused(code),
+        None => write_delivery_row(state, who.0, call, answer),
+    }
+}
+
 /// What a call of delivery answers.
 pub fn delivery_answer(state: &CoreState, who: Thread, call: &Call) -> Answer
     requires { is_delivery call.now ≡ true }
     ensures { result ≡ reply state.now.setup state.now.past who.0 call.now }
 {
-    match admit(state, who, call) {
-        Some(code) => Answer::Refused(code),
-        None => delivery_row(state, who.0, call),
-    }
+    let mut answer = Answer::Nothing;
+    write_delivery(state, who, call, &mut answer);
+    answer
 }
 
 /// What a status with these flags answers. Want of memory is the only error.
@@ -133,6 +158,21 @@ fn status_answer(state: &CoreState, who: Thread, flags: u64) -> Result<Answer, A
             Ok(answer)
         }
     }
+}
+
+/// Adds an entry whose call was answered, where the history has room: else it stays as it was. After want of memory nothing
+/// has changed.
+#[inline(always)]
+fn keep(s: &mut CoreState, entry: &Entry) -> Result<(), AllocError>
+    requires { entry.now.answer ≡ reply s.old.setup s.old.past entry.now.who.0 entry.now.call }
+    ensures entry { OnOk result (s.new.past ≡ after s.old.setup s.old.past entry.now.who entry.now.call) }
+    ensures err { OnErr result (s.new.past ≡ s.old.past) }
+    ensures setup { s.new.setup ≡ s.old.setup }
+{
+    if s.is_full() {
+        return Ok(());
+    }
+    s.append(entry)
 }
 
 /// Adds the entry of a call that was answered, where the history has room: else it stays as it was. After
@@ -150,16 +190,31 @@ pub fn enter(
     ensures err { OnErr result (s.new.past ≡ s.old.past) }
     ensures setup { s.new.setup ≡ s.old.setup }
 {
-    if s.is_full() {
-        return Ok(answer);
-    }
     let entry = Entry {
         who,
         call: *call,
         answer,
     };
-    s.append(&entry)?;
+    keep(s, &entry)?;
     Ok(answer)
+}
+
+/// Makes the get or the peek of an entry, as `retrieve` does, and writes what it answers into the entry.
+#[inline(always)]
+pub fn retrieve_in<L: Ledger>(
+    s: &mut CoreState,
+    entry: &mut Entry,
+    steps: &mut Steps<L>,
+) -> Result<(), AllocError>
+    requires { is_retrieval entry.old.call ≡ true }
+    ensures answer { OnOk result (entry.new.answer ≡ reply s.old.setup s.old.past entry.old.who.0 entry.old.call) }
+    ensures entry { OnOk result (s.new.past ≡ after s.old.setup s.old.past entry.old.who entry.old.call) }
+    ensures err { OnErr result (s.new.past ≡ s.old.past) }
+    ensures setup { s.new.setup ≡ s.old.setup }
+    ensures reads { steps.new ≤ steps.old + reads_by s.old.past entry.old.who.0 entry.old.call }
+{
+    write_retrieval(s, entry.who, &entry.call, &mut entry.answer, steps);
+    keep(s, entry)
 }
 
 /// Makes a get or a peek. The answer is the reply of the definitions, and stands with the call as the
@@ -182,8 +237,26 @@ pub fn retrieve<L: Ledger>(
     ensures unfiltered { is_unfiltered call.now ≡ true → steps.new ≤ steps.old + 1 }
     ensures most { steps.new ≤ steps.old + length (posted s.old.past who.0) }
 {
-    let answer = counted_answer(s, who, call, steps);
-    enter(s, who, call, answer)
+    let mut entry = Entry {
+        who,
+        call: *call,
+        answer: Answer::Nothing,
+    };
+    retrieve_in(s, &mut entry, steps)?;
+    Ok(entry.answer)
+}
+
+/// Makes the call of delivery of an entry, as `deliver` does, and writes what it answers into the entry.
+#[inline(always)]
+pub fn deliver_in(s: &mut CoreState, entry: &mut Entry) -> Result<(), AllocError>
+    requires { is_delivery entry.old.call ≡ true }
+    ensures answer { OnOk result (entry.new.answer ≡ reply s.old.setup s.old.past entry.old.who.0 entry.old.call) }
+    ensures entry { OnOk result (s.new.past ≡ after s.old.setup s.old.past entry.old.who entry.old.call) }
+    ensures err { OnErr result (s.new.past ≡ s.old.past) }
+    ensures setup { s.new.setup ≡ s.old.setup }
+{
+    write_delivery(s, entry.who, &entry.call, &mut entry.answer);
+    keep(s, entry)
 }
 
 /// Makes a call of delivery. The answer is the reply of the definitions, and stands with the call as the
@@ -196,8 +269,13 @@ pub fn deliver(s: &mut CoreState, who: Thread, call: &Call) -> Result<Answer, Al
     ensures err { OnErr result (s.new.past ≡ s.old.past) }
     ensures setup { s.new.setup ≡ s.old.setup }
 {
-    let answer = delivery_answer(s, who, call);
-    enter(s, who, call, answer)
+    let mut entry = Entry {
+        who,
+        call: *call,
+        answer: Answer::Nothing,
+    };
+    deliver_in(s, &mut entry)?;
+    Ok(entry.answer)
 }
 
 /// Asks which kinds of messages are there, and which of them came since the thread looked last. The answer is the reply of the

@@ -1,7 +1,9 @@
 //! What posts and retrievals answer.
 
-ghost use Rattle.std.specs.Prelude.{◌≡◌, ◌<◌, ◌≤◌, ◌+◌, IfSome, false};
-ghost use Rattle.core_deliver.specs.Reads.{reads_for};
+ghost use Rattle.std.specs.Prelude.{◌≡◌, ◌==◌, ◌&&◌, ◌<◌, ◌≤◌, ◌+◌, IfSome, None, Some, false, if◌then◌else◌, true, unwrap_or};
+ghost use Rattle.core_deliver.specs.Reads.{reads_by, reads_for};
+ghost use Rattle.core_deliver.specs.Groups.{is_retrieval};
+ghost use Rattle.core_deliver.specs.Searches.{filter_in, filter_refusal, next_unposted, none_found};
 ghost use Rattle.user_model.specs.Past.{is_full};
 ghost use Rattle.user_model.specs.Filters.{is_no_filter_window};
 ghost use Rattle.user_model.specs.Places.{clock, cursor};
@@ -9,47 +11,84 @@ ghost use Rattle.user_model.specs.Next.{next, next_input, next_paint, next_poste
 ghost use Rattle.user_model.specs.Characters.{has_character};
 ghost use Rattle.user_model.specs.Posts.{message, queue_of};
 ghost use Rattle.user_model.specs.Refusals.{invalid_window_handle, refuse};
+ghost use Rattle.user_model.specs.Windows.{is_live, thread_of};
 ghost use Rattle.user_model.specs.ReplyInput.{translate_reply};
-ghost use Rattle.user_model.specs.ReplyDelivery.{get_reply, is_no_post_window, peek_reply, post_reply, post_thread_reply, post_to};
+ghost use Rattle.user_model.specs.Replies.{row};
+ghost use Rattle.user_model.specs.ReplyDelivery.{is_no_post_window, post_reply, post_thread_reply, post_to};
 
 use crate::codes::{INVALID_PARAMETER, INVALID_THREAD_ID, INVALID_WINDOW_HANDLE, NOT_ENOUGH_QUOTA};
 use core_state::CoreState;
 use post_queue::Steps;
 use std::sync::ledger::Ledger;
-use user_model::{Answer, Origin, QUEUE_LIMIT};
-use win_num::{Filter, Hwnd, Msg, names};
+use user_model::{Answer, Call, Origin, QUEUE_LIMIT};
+use win_num::{Code, Filter, Hwnd, Msg, names};
 
 /// The greatest number of a message.
 const LAST_MESSAGE: u64 = 65535;
 
 /// Whether a filter's window is neither none nor minus one nor a live window of the caller.
+#[inline(always)]
 fn is_no_filter_window(state: &CoreState, who: u8, w: u64) -> bool
     ensures { result ≡ is_no_filter_window state.now.past who w }
 {
     if w == 0 || w == names::NO_WINDOW {
         return false;
     }
-    !state.is_live(w) || state.thread_of(w) != who
+    !is_own(state, who, w)
 }
 
-/// What is ready, else the first posted message that passes, else quit, else input, else painting, else a timer.
-fn next<L: Ledger>(
+/// Whether it is a live window of the caller.
+#[inline(never)]
+fn is_own(state: &CoreState, who: u8, w: u64) -> bool
+    ensures { result ≡ (is_live state.now.past w && (thread_of state.now.past w == who)) }
+{
+    state.is_live(w) && state.thread_of(w) == who
+}
+
+/// Writes what is ready, else the first posted message that passes, else quit, else input, else painting, else a timer. Where none of
+/// them is there the answer stays.
+#[inline(always)]
+fn write_next<L: Ledger>(
     state: &CoreState,
     who: u8,
     filter: Filter,
+    answer: &mut Answer,
     steps: &mut Steps<L>,
-) -> Option<Answer>
+)
     requires some { 0 < who }
     requires known { who ≤ state.now.setup.threads }
-    ensures answer { result ≡ next state.now.setup state.now.past who filter }
+    ensures answer { answer.new ≡ unwrap_or (next state.now.setup state.now.past who filter) answer.old }
     ensures reads { steps.new ≤ steps.old + reads_for state.now.past who filter }
 {
-    if let Some(answer) = state.next_ready(who) {
-        return Some(answer);
+    if let Some(ready) = state.next_ready(who) {
+        *answer = ready;
+        return;
     }
-    if let Some(answer) = next_posted(state, who, filter, steps) {
-        return Some(answer);
+    if let Some(found) = next_posted(state, who, filter, steps) {
+        *answer = found;
+        return;
     }
+    write_unposted(state, who, filter, answer);
+}
+
+/// Writes quit, else input, else painting, else a timer. Where none of them is there the answer stays.
+#[inline(never)]
+fn write_unposted(state: &CoreState, who: u8, filter: Filter, answer: &mut Answer)
+    requires some { 0 < who }
+    requires known { who ≤ state.now.setup.threads }
+    ensures { answer.new ≡ unwrap_or (next_unposted state.now.setup state.now.past who filter) answer.old }
+{
+    if let Some(other) = next_unposted(state, who, filter) {
+        *answer = other;
+    }
+}
+
+/// Quit, else input, else painting, else a timer.
+fn next_unposted(state: &CoreState, who: u8, filter: Filter) -> Option<Answer>
+    requires some { 0 < who }
+    requires known { who ≤ state.now.setup.threads }
+    ensures { result ≡ next_unposted state.now.setup state.now.past who filter }
+{
     if let Some(answer) = next_quit(state, who) {
         return Some(answer);
     }
@@ -63,6 +102,7 @@ fn next<L: Ledger>(
 }
 
 /// The first posted message that passes, in one step for each that is read: those up to it, and where none passes at most all.
+#[inline(always)]
 fn next_posted<L: Ledger>(
     state: &CoreState,
     who: u8,
@@ -154,53 +194,82 @@ fn got(state: &CoreState, origin: Origin, hwnd: Hwnd, number: u32, wparam: u64) 
     }
 }
 
-/// The answer of a get, in one step for each posted message that is read.
-pub fn get_answer<L: Ledger>(
-    state: &CoreState,
-    who: u8,
-    filter: Filter,
-    steps: &mut Steps<L>,
-) -> Answer
-    requires some { 0 < who }
-    requires known { who ≤ state.now.setup.threads }
-    ensures answer { result ≡ get_reply state.now.setup state.now.past who filter.hwnd filter.min filter.max }
-    ensures reads { steps.new ≤ steps.old + reads_for state.now.past who filter }
+/// What a get or a peek is refused with: flags that there aren't, or the window of its filter.
+#[inline(always)]
+fn filter_refusal(state: &CoreState, who: u8, call: &Call) -> Option<Code>
+    requires { is_retrieval call.now ≡ true }
+    ensures { result ≡ filter_refusal state.now.past who call.now }
 {
-    if is_no_filter_window(state, who, filter.hwnd) {
-        return Answer::Refused(INVALID_WINDOW_HANDLE);
-    }
-    match next(state, who, filter, steps) {
-        Some(answer) => answer,
-        None => Answer::Wait,
+    match *call {
+        Call::Get(w, _, _) => window_refusal(state, who, w),
+        Call::Peek(_, _, _, flags) if flags > 3 => Some(INVALID_PARAMETER),
+        Call::Peek(w, _, _, _) => window_refusal(state, who, w),
+        _ => unreachable!(),
     }
 }
 
-/// The answer of a peek, in one step for each posted message that is read.
-pub fn peek_answer<L: Ledger>(
+/// What a filter is refused with for its window.
+#[inline(always)]
+fn window_refusal(state: &CoreState, who: u8, w: u64) -> Option<Code>
+    ensures { result ≡ (if is_no_filter_window state.now.past who w then Some invalid_window_handle else None) }
+{
+    if is_no_filter_window(state, who, w) {
+        Some(INVALID_WINDOW_HANDLE)
+    } else {
+        None
+    }
+}
+
+/// The filter of a get or a peek.
+#[inline(always)]
+fn filter_in(call: &Call) -> Filter
+    requires { is_retrieval call.now ≡ true }
+    ensures { result ≡ filter_in call.now }
+{
+    match *call {
+        Call::Get(hwnd, min, max) => Filter { hwnd, min, max },
+        Call::Peek(hwnd, min, max, _) => Filter { hwnd, min, max },
+        _ => unreachable!(),
+    }
+}
+
+/// The answer of a get or a peek where no message is there.
+#[inline(always)]
+fn none_found(call: &Call) -> Answer
+    ensures { result ≡ none_found call.now }
+{
+    match *call {
+        Call::Get(..) => Answer::Wait,
+        _ => Answer::Nothing,
+    }
+}
+
+/// Writes the answer of a get or a peek, in one step for each posted message that is read.
+#[inline(always)]
+pub fn write_found<L: Ledger>(
     state: &CoreState,
     who: u8,
-    filter: Filter,
-    flags: u64,
+    call: &Call,
+    answer: &mut Answer,
     steps: &mut Steps<L>,
-) -> Answer
+)
+    requires group { is_retrieval call.now ≡ true }
     requires some { 0 < who }
     requires known { who ≤ state.now.setup.threads }
-    ensures answer { result ≡ peek_reply state.now.setup state.now.past who filter.hwnd filter.min filter.max flags }
-    ensures reads { steps.new ≤ steps.old + reads_for state.now.past who filter }
+    ensures answer { answer.new ≡ row state.now.setup state.now.past who call.now }
+    ensures reads { steps.new ≤ steps.old + reads_by state.now.past who call.now }
 {
-    if flags > 3 {
-        return Answer::Refused(INVALID_PARAMETER);
-    }
-    if is_no_filter_window(state, who, filter.hwnd) {
-        return Answer::Refused(INVALID_WINDOW_HANDLE);
-    }
-    match next(state, who, filter, steps) {
-        Some(answer) => answer,
-        None => Answer::Nothing,
+    match filter_refusal(state, who, call) {
+        Some(code) => *answer = Answer::Refused(code),
+        None => {
+            *answer = none_found(call);
+            write_next(state, who, filter_in(call), answer, steps);
+        }
     }
 }
 
 /// The answer of a post to the queue of a thread.
+#[inline(always)]
 fn post_to(state: &CoreState, to: u64) -> Answer
     requires room { is_full state.now.past ≡ false }
     requires some { 0 < to }
@@ -263,6 +332,7 @@ pub fn translate_answer(state: &CoreState, who: u8, w: u64, number: u64, key: u6
 }
 
 /// The answer of a post to a thread.
+#[inline(always)]
 pub fn post_thread_answer(state: &CoreState, to: u64, number: u64) -> Answer
     requires { is_full state.now.past ≡ false }
     ensures { result ≡ post_thread_reply state.now.setup state.now.past to number }

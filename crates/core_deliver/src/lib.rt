@@ -17,7 +17,9 @@ mod sends;
 mod status_words;
 
 pub use admission::admit;
-pub use calls::{deliver, delivery_answer, enter, retrieval_answer, retrieve, status};
+pub use calls::{
+    deliver, deliver_in, delivery_answer, enter, retrieval_answer, retrieve, retrieve_in, status,
+};
 pub use groups::{
     Group, group_of, is_delivery, is_drawing, is_retrieval, is_status, is_window_call,
 };

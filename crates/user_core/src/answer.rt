@@ -142,6 +142,7 @@ pub fn have_all_ended(state: &CoreState) -> bool
 }
 
 /// Whether the clock has nothing to do: a thread isn't idle, all have ended, or nothing can go on.
+#[inline(never)]
 #[tactic(auto, unfolding(user_model::specs::Idle::is_barred))]
 pub fn is_clock_barred(state: &CoreState) -> bool
     ensures { result ≡ is_barred state.now.setup state.now.past 0 }

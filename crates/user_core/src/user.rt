@@ -1,7 +1,7 @@
 //! The machine.
 
-ghost use Rattle.std.specs.Prelude.{◌≡◌, [], IfOk, OnErr, OnOk, reverse, true};
-ghost use Rattle.core_deliver.specs.Groups.{group_of, is_retrieval, is_status};
+ghost use Rattle.std.specs.Prelude.{◌≡◌, [], IfOk, OnErr, OnOk, false, reverse, true};
+ghost use Rattle.core_deliver.specs.Groups.{group_of, is_delivery, is_retrieval, is_status};
 ghost use Rattle.core_deliver.specs.declared.groups.Group.TheVariants.{Other};
 ghost use Rattle.user_model.specs.Stories.{send_story};
 ghost use Rattle.user_model.specs.Idle.{have_all_ended, reply};
@@ -11,7 +11,7 @@ ghost use Rattle.user_model.specs.Setups.{IsSetup};
 
 use crate::actor::{Actor, actor_of};
 use crate::answer::{answer, have_all_ended, is_barred, is_clock_barred};
-use core_deliver::{Group, deliver, enter, group_of, retrieve, status};
+use core_deliver::{Group, deliver_in, enter, group_of, retrieve_in, status};
 use core_draw::draw;
 use core_state::CoreState;
 use core_window::window;
@@ -76,18 +76,13 @@ impl Machine for User {
     ghost past = { λ u. u.past };
 
     fn step(&mut self, who: Thread, call: Call) -> Result<Answer, AllocError> {
-        match group_of(&call) {
-            Group::Retrieval => {
-                retrieve_uncounted::<Brand>(Blank::new(1), &mut self.state, who, &call)
-            }
-            Group::Status => {
-                status_uncounted::<Brand>(Blank::new(1), &mut self.state, who, &call)
-            }
-            Group::Delivery => deliver(&mut self.state, who, &call),
-            Group::Window => window(&mut self.state, who, &call),
-            Group::Drawing => draw(&mut self.state, who, &call),
-            Group::Other => make_other(&mut self.state, who, &call),
-        }
+        let mut entry = Entry {
+            who,
+            call,
+            answer: Answer::Nothing,
+        };
+        make(&mut self.state, &mut entry)?;
+        Ok(entry.answer)
     }
 
     fn barred(&self, who: Thread) -> bool {
@@ -110,24 +105,72 @@ impl Machine for User {
     }
 }
 
-/// Makes a get or a peek, in steps that nobody counts.
-fn retrieve_uncounted<L: Ledger>(
-    blank: Blank,
-    s: &mut CoreState,
-    who: Thread,
-    call: &Call,
-) -> Result<Answer, AllocError>
-    requires name { blank.name ≡ L.name }
-    requires parts { blank.parts ≡ L.parts }
-    requires one { blank.parts ≡ 1 }
-    requires group { is_retrieval call.now ≡ true }
+/// Makes the call of an entry, and writes what it answers into the entry.
+#[inline(always)]
+fn make(s: &mut CoreState, entry: &mut Entry) -> Result<(), AllocError>
+    ensures answer { OnOk result (entry.new.answer ≡ reply s.old.setup s.old.past entry.old.who.0 entry.old.call) }
+    ensures entry { OnOk result (s.new.past ≡ after s.old.setup s.old.past entry.old.who entry.old.call) }
+    ensures err { OnErr result (s.new.past ≡ s.old.past) }
+    ensures setup { s.new.setup ≡ s.old.setup }
+{
+    match group_of(&entry.call) {
+        Group::Retrieval => retrieve_uncounted::<Brand>(Blank::new(1), s, entry),
+        Group::Delivery => deliver_in(s, entry),
+        Group::Status | Group::Window | Group::Drawing | Group::Other => make_any(s, entry),
+    }
+}
+
+/// Makes a call that is neither a retrieval nor one of delivery, and writes what it answers into its entry.
+#[inline(never)]
+fn make_any(s: &mut CoreState, entry: &mut Entry) -> Result<(), AllocError>
+    requires retrieval { is_retrieval entry.old.call ≡ false }
+    requires delivery { is_delivery entry.old.call ≡ false }
+    ensures answer { OnOk result (entry.new.answer ≡ reply s.old.setup s.old.past entry.old.who.0 entry.old.call) }
+    ensures entry { OnOk result (s.new.past ≡ after s.old.setup s.old.past entry.old.who entry.old.call) }
+    ensures err { OnErr result (s.new.past ≡ s.old.past) }
+    ensures setup { s.new.setup ≡ s.old.setup }
+{
+    let answer = answered(s, entry.who, &entry.call)?;
+    entry.answer = answer;
+    Ok(())
+}
+
+/// Makes a call that is neither a retrieval nor one of delivery.
+fn answered(s: &mut CoreState, who: Thread, call: &Call) -> Result<Answer, AllocError>
+    requires retrieval { is_retrieval call.now ≡ false }
+    requires delivery { is_delivery call.now ≡ false }
     ensures answer { IfOk result (λ answer. answer ≡ reply s.old.setup s.old.past who.0 call.now) }
     ensures entry { OnOk result (s.new.past ≡ after s.old.setup s.old.past who call.now) }
     ensures err { OnErr result (s.new.past ≡ s.old.past) }
     ensures setup { s.new.setup ≡ s.old.setup }
 {
+    match group_of(call) {
+        Group::Status => status_uncounted::<Brand>(Blank::new(1), s, who, call),
+        Group::Window => window(s, who, call),
+        Group::Drawing => draw(s, who, call),
+        Group::Other => make_other(s, who, call),
+        Group::Retrieval | Group::Delivery => unreachable!(),
+    }
+}
+
+/// Makes a get or a peek, in steps that nobody counts, and writes what it answers into its entry.
+#[inline(always)]
+fn retrieve_uncounted<L: Ledger>(
+    blank: Blank,
+    s: &mut CoreState,
+    entry: &mut Entry,
+) -> Result<(), AllocError>
+    requires name { blank.name ≡ L.name }
+    requires parts { blank.parts ≡ L.parts }
+    requires one { blank.parts ≡ 1 }
+    requires group { is_retrieval entry.old.call ≡ true }
+    ensures answer { OnOk result (entry.new.answer ≡ reply s.old.setup s.old.past entry.old.who.0 entry.old.call) }
+    ensures entry { OnOk result (s.new.past ≡ after s.old.setup s.old.past entry.old.who entry.old.call) }
+    ensures err { OnErr result (s.new.past ≡ s.old.past) }
+    ensures setup { s.new.setup ≡ s.old.setup }
+{
     let mut steps = Steps::<L>::new(blank);
-    retrieve(s, who, call, &mut steps)
+    retrieve_in(s, entry, &mut steps)
 }
 
 /// Makes a status, in steps that nobody counts.
