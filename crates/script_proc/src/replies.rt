@@ -4,6 +4,7 @@ ghost use Rattle.std.specs.Prelude.{◌≡◌, ◌≢◌, ◌+◌, ◌≤◌, []
 ghost use Rattle.script_tree.specs.Steps.{result_of as result_of_answer, follows, answered, given as given_of, is_last as is_last_of, parameters_of, parameters_from};
 ghost use Rattle.user_model.specs.Stacks.{leaves as leaves_of, waits as waits_of};
 ghost use Rattle.script_tree.specs.Values.{received, settled};
+ghost use Rattle.user_model.specs.declared.call.Call.{Call};
 ghost use Rattle.script_proc.specs.declared.item.Item.{Item};
 ghost use Rattle.script_proc.specs.Items.{told as told_by, above, state_of, with_next, IsNoLine, asks, hands_on as hands_on_of, IsSilent, ArePlaceless};
 
@@ -121,19 +122,7 @@ fn gives(items: &mut Vec<Item>, answer: &Answer, variables: &mut Variables, mode
 }
 
 /// Whether the answer is handed on at once: no procedure runs for it, and no call is made for it again.
-#[inline(always)]
 pub fn hands_on(call: &Call, answer: &Answer) -> bool
-    ensures { result ≡ hands_on_of call.now answer.now }
-{
-    match answer {
-        Answer::Posted(_) | Answer::Got { .. } => true,
-        _ => hands_any_on(call, answer),
-    }
-}
-
-/// The same for any answer.
-#[inline(never)]
-fn hands_any_on(call: &Call, answer: &Answer) -> bool
     ensures { result ≡ hands_on_of call.now answer.now }
 {
     match answer {
@@ -143,6 +132,14 @@ fn hands_any_on(call: &Call, answer: &Answer) -> bool
         Answer::Begun(_) => { if is_last(call) { true } else { !waits(call) } }
         _ => true,
     }
+}
+
+/// Whether an answer is one of the most frequent, which are handed on at once whatever the call.
+#[inline(always)]
+pub fn is_frequent(answer: &Answer) -> bool
+    ensures { (call : Call) → result ≡ true → hands_on_of call answer.now ≡ true }
+{
+    matches!(answer, Answer::Posted(_) | Answer::Got { .. })
 }
 
 /// A procedure comes in the place of the last item, and behind it this.

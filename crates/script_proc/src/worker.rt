@@ -11,7 +11,9 @@ ghost use Rattle.script_proc.specs.Items.{state_at, mode_at, with_next, call_if,
 use crate::item::{Item, Mode, Next};
 use crate::places::{quick_line, slow_line, step};
 use crate::program::Program;
-use crate::replies::{end_statement, follow, hands_on, is_asking, put_asked, separate};
+use crate::replies::{
+    end_statement, follow, hands_on, is_asking, is_frequent, put_asked, separate,
+};
 use crate::top::take_room;
 use script_tree::Variables;
 use std::alloc::{AllocError, Global};
@@ -125,6 +127,26 @@ impl Worker {
 
     /// Takes the answer to the call at which it stands, which is one entry more.
     pub fn take_answer(&mut self, answer: &Answer)
+        requires at { IsAt self.old (Some (call_of self.old)) }
+        requires room { uses self.old + 1 < 2 ^ 32 }
+        ensures worker { (s : Tree) (p : Program) (t : ℕ) (tr : Trace) → IsWorkerOf s p t tr self.old → IsWorkerOf s p t (tr ++ (call_of self.old, answer.now) ∷ []) self.new }
+        ensures used { uses self.new ≡ uses self.old + 1 }
+        ensures thread { thread_of self.new ≡ thread_of self.old }
+    {
+        if let Next::Stating(at) = self.next {
+            if is_frequent(answer) {
+                self.used += 1;
+                end_statement(&self.call, answer, &mut self.variables);
+                self.next = Next::Line(at);
+                return;
+            }
+        }
+        self.take_any(answer);
+    }
+
+    /// The same for any answer.
+    #[inline(never)]
+    fn take_any(&mut self, answer: &Answer)
         requires at { IsAt self.old (Some (call_of self.old)) }
         requires room { uses self.old + 1 < 2 ^ 32 }
         ensures worker { (s : Tree) (p : Program) (t : ℕ) (tr : Trace) → IsWorkerOf s p t tr self.old → IsWorkerOf s p t (tr ++ (call_of self.old, answer.now) ∷ []) self.new }
