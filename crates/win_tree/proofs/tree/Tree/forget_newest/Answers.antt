@@ -1,4 +1,4 @@
-use Rattle.std.proofs.Common.{◌≡◌, ◌∙◌, ℕ, ◌-◌, List, sym, ap, map, remove, subst, rules, arith}
+use Rattle.std.proofs.Common.{◌∙◌, ◌-◌, List, sym, ap, map, remove, subst, rules, arith}
 use Rattle.win_num.specs.declared.message.Hwnd.{Hwnd}
 use Rattle.std.specs.List.{AllByRecursion}
 use Rattle.win_rows.specs.declared.window.Window.{Window}
