@@ -1,6 +1,6 @@
 -- Whether all dirty pixels were dirty at a look tells whether there is a new one.
-use Rattle.std.proofs.Common.{◌≡◌, ◌≢◌, ◌∙◌, ℕ, zero, suc, ◌+◌, ◌<◌, ◌≤◌, Bool, true, false, not, cond, eqb, List, [], ◌∷◌, get_or, length, take, Option, Some, None, refl, sym, ap, subst, arith}
-use Rattle.std.specs.Prelude.{◌&&◌, ◌||◌, ◌↔◌, All, IsTrue, find, is_some, option_map, unwrap_or}
+use Rattle.std.proofs.Common.{◌≡◌, ◌∙◌, ℕ, zero, suc, ◌+◌, ◌<◌, ◌≤◌, Bool, true, false, not, cond, eqb, List, [], ◌∷◌, get_or, length, take, Option, Some, None, refl, sym, ap, subst, arith}
+use Rattle.std.specs.Prelude.{◌&&◌, ◌||◌, ◌↔◌, All, IsTrue, option_map, unwrap_or}
 use Rattle.std.specs.List.{AllByRecursion, list_any}
 use Rattle.std.proofs.lemmas.Bool.{and_from, and_parts, eq-eqb, eqb-true, false≢true, false_from_ne_true}
 use Rattle.std.proofs.lemmas.List.{take_all}
@@ -8,7 +8,6 @@ use Rattle.std.proofs.lemmas.List.Elements.{All-more, All-same}
 use Rattle.win_num.specs.declared.shapes.Point.{Point}
 use Rattle.win_num.specs.declared.shapes.Rect.{Rect}
 use Rattle.win_num.specs.PixelSets.{has_pixel}
-use Rattle.win_rows.specs.declared.window.Window.{Window as KeptWindow}
 use Rattle.win_rows.specs.Windows.{Windows}
 use Rattle.band_region.specs.Regions.{IsEmpty, IsSameSet, region_has}
 use Rattle.region_box.specs.Screens.{screen_points}
@@ -28,14 +27,13 @@ use Rattle.user_model.proofs.LiveWindows.{sound}
 use Rattle.user_model.proofs.LookLaws.{tail_lawful}
 use Rattle.user_model.proofs.WindowFacts.{live_window}
 use Rattle.window_state.specs.Trees.{IsTreeAt, thread_in}
-use Rattle.screen_state.specs.Owned.{told_has}
 use Rattle.screen_state.specs.Walks.{AreDirtyAt}
 use Rattle.screen_state.proofs.DirtyAt.{passing}
 use Rattle.screen_state.proofs.Owning.{dead_owns}
 use Rattle.screen_state.proofs.Somewhere.{none_passes, some_listed}
 use Rattle.screen_state.proofs.Walking.{thread_same}
 use Rattle.look_state.specs.declared.seen.SeenWindow.{SeenWindow}
-use Rattle.look_state.specs.Looks.{IsCovered, IsSeenAt, IsWithin, seen_entry, seen_region, was_seen}
+use Rattle.look_state.specs.Looks.{IsCovered, IsSeenAt, IsWithin, was_seen}
 use Rattle.look_state.proofs.WindowPasts.{window_then}
 
 -- ---- regions

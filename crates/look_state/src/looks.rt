@@ -52,8 +52,19 @@ impl Looks {
         ensures { EachLook (λ t. look_after t entry.now after seen.items) self.old self.new }
     {
         if !is_refusal(entry.answer) && is_look(entry.call) {
-            note_look(&mut self.looks, entry.who, after, seen);
+            self.look(entry.who, after, seen);
         }
+    }
+
+    /// Notes what was there for a thread that looks.
+    pub fn look(&mut self, who: Thread, at: Moment, seen: Vec<SeenWindow>)
+        ensures { EachLook (λ t k. if who.0 == t then look_at at seen.items else k) self.old self.new }
+    {
+        let thread = usize::from(who.0);
+        if thread == 0 || thread > self.looks.len() {
+            return;
+        }
+        self.looks[thread - 1].renew(at, seen);
     }
 }
 
@@ -67,15 +78,4 @@ fn fresh_looks(alloc: Global, count: u8) -> Result<Vec<Look>, AllocError>
         looks.push(Look::new(alloc))?;
     }
     Ok(looks)
-}
-
-/// Notes what was there for a thread that looks.
-fn note_look(looks: &mut Vec<Look>, who: Thread, at: Moment, seen: Vec<SeenWindow>)
-    ensures { EachLook (λ t k. if who.0 == t then look_at at seen.items else k) looks.old.items looks.new.items }
-{
-    let thread = usize::from(who.0);
-    if thread == 0 || thread > looks.len() {
-        return;
-    }
-    looks[thread - 1].renew(at, seen);
 }

@@ -31,11 +31,10 @@ pub fn seen_by(
 ) -> Result<Vec<SeenWindow>, AllocError>
     ensures { IfOk result (λ seen. is_look entry.now.call ≡ true → seen.items ≡ seen_of tree.now.live entry.now.who.0 dirty.now) }
 {
-    if is_look(entry.call) {
-        seen_of(alloc, tree, dirty, entry.who)
-    } else {
-        Ok(Vec::new(alloc))
+    if dirty.is_empty() || !is_look(entry.call) {
+        return Ok(Vec::new(alloc));
     }
+    seen_of(alloc, tree, dirty, entry.who)
 }
 
 /// The dirty pixels of the windows of a thread, again.

@@ -3,8 +3,10 @@
 
 ghost use Rattle.std.specs.Prelude.{◌≡◌, ◌∷◌, true, false, OnOk, OnErr, List, None};
 ghost use Rattle.core_state.specs.Needs.{FitsPosting, FitsReading};
+ghost use Rattle.core_state.specs.Sendings.{FitsLook, is_looking, looked_by};
+ghost use Rattle.look_state.specs.Looks.{EachLook, look_after};
 ghost use Rattle.core_state.specs.PostEntries.{adds_post, finds_post_or_none, is_posted, names_post, reads_posts};
-ghost use Rattle.thread_queues.specs.Changes.{changed, noted};
+ghost use Rattle.thread_queues.specs.Changes.{changed, marked, noted};
 ghost use Rattle.thread_queues.specs.Deliveries.{FitsPost, change_of_post, effect_in, posting};
 ghost use Rattle.thread_queues.specs.Queues.{EachBy};
 ghost use Rattle.thread_state.specs.Threads.{waiting_with};
@@ -13,12 +15,13 @@ ghost use Rattle.user_model.specs.Idle.{reply};
 ghost use Rattle.win_rows.specs.declared.window.Window.{Window as KeptWindow};
 
 use super::{CoreState, make_place};
-use crate::sendings::note_look;
-use look_state::seen_by;
+use look_state::{Looks, Moment, SeenWindow, seen_by};
+use send_state::SendState;
 use std::alloc::AllocError;
-use thread_queues::{Stamp, count_after, mark_look, note_entry, post, posting, take};
+use thread_queues::{Stamp, count_after, note_entry, post, posting, take};
 use thread_state::ThreadState;
 use user_model::{Answer, Call, Entry, Origin};
+use win_num::{Hwnd, Msg};
 use win_tree::Tree;
 
 /// Whether an entry adds a post that its call names.
@@ -77,6 +80,7 @@ fn is_posted(origin: Origin) -> bool
 
 impl CoreState {
     /// Adds an entry that adds a post. After want of memory nothing has changed.
+    #[inline(never)]
     pub(super) fn append_post(&mut self, entry: &Entry) -> Result<(), AllocError>
         requires room { is_full self.old.past ≡ false }
         requires answer { entry.now.answer ≡ reply self.old.setup self.old.past entry.now.who.0 entry.now.call }
@@ -100,6 +104,7 @@ impl CoreState {
     }
 
     /// Adds an entry that looks for a message, and finds a post or none. After want of memory nothing has changed.
+    #[inline(never)]
     pub(super) fn append_read(&mut self, entry: &Entry) -> Result<(), AllocError>
         requires room { is_full self.old.past ≡ false }
         requires answer { entry.now.answer ≡ reply self.old.setup self.old.past entry.now.who.0 entry.now.call }
@@ -113,17 +118,47 @@ impl CoreState {
         make_place(&mut self.history)?;
         take_post(&mut self.threads, entry);
         note_wait(&mut self.threads, entry);
-        mark_look(&mut self.threads, entry, self.progress.posts);
+        mark_read(&mut self.threads, entry, self.progress.posts);
         let after = self.progress.moment();
-        self.looks.follow(entry, after, seen);
-        note_look(&mut self.sends, entry, place + 1);
+        note_seen(&mut self.looks, entry, after, seen);
+        note_ready(&mut self.sends, entry, place + 1);
         self.history.push_reserved(*entry);
         Ok(())
     }
 }
 
-/// Adds the message that a call posts under a number. After want of memory nothing has changed.
+/// Adds the message that a call posts under a number, at once where it is for a thread. After want of memory nothing has changed.
 fn add_post(
+    threads: &mut Vec<ThreadState>,
+    tree: &Tree,
+    stamp: Stamp,
+    number: u32,
+    entry: &Entry,
+) -> Result<(), AllocError>
+    requires call { FitsPost tree.now.live stamp.shift entry.now.call }
+    requires room { FitsPosting threads.old.items number (posting tree.now.live stamp.time stamp.cursor stamp.shift entry.now.who.0 entry.now.call) }
+    ensures ok { OnOk result (EachBy (λ t. changed t (change_of_post number (posting tree.now.live stamp.time stamp.cursor stamp.shift entry.now.who.0 entry.now.call))) threads.old.items threads.new.items) }
+    ensures err { OnErr result (threads.new.items ≡ threads.old.items) }
+{
+    match entry.call {
+        Call::PostThread(to, message, wparam, lparam) => {
+            let msg = Msg {
+                hwnd: Hwnd(0),
+                number: message as u32,
+                wparam,
+                lparam,
+                time: stamp.time,
+                point: stamp.cursor,
+            };
+            post(threads, to, number, msg)
+        }
+        _ => add_posting(threads, tree, stamp, number, entry),
+    }
+}
+
+/// Adds the same of any call.
+#[inline(never)]
+fn add_posting(
     threads: &mut Vec<ThreadState>,
     tree: &Tree,
     stamp: Stamp,
@@ -139,6 +174,35 @@ fn add_post(
         Some((to, msg)) => post(threads, to, number, msg),
         None => Ok(()),
     }
+}
+
+/// Keeps that the entry's own thread looked.
+fn mark_read(threads: &mut Vec<ThreadState>, entry: &Entry, count: u32)
+    requires { reads_posts entry.now.answer entry.now.call ≡ true }
+    ensures { EachBy (λ t. marked t entry.now count) threads.old.items threads.new.items }
+{
+    let thread = usize::from(entry.who.0);
+    if thread == 0 || thread > threads.len() {
+        return;
+    }
+    threads[thread - 1].look(count);
+}
+
+/// Notes what was there for the entry's own thread when it looked.
+fn note_seen(looks: &mut Looks, entry: &Entry, after: Moment, seen: Vec<SeenWindow>)
+    requires { reads_posts entry.now.answer entry.now.call ≡ true }
+    ensures { EachLook (λ t. look_after t entry.now after seen.items) looks.old looks.new }
+{
+    looks.look(entry.who, after, seen);
+}
+
+/// Notes of what is ready for the entry's own thread that it came before. `place` is that of the next entry.
+fn note_ready(sends: &mut SendState, entry: &Entry, place: u32)
+    requires reads { reads_posts entry.now.answer entry.now.call ≡ true }
+    requires look { is_looking entry.now ≡ true → FitsLook sends.old entry.now.who.0 place }
+    ensures { sends.new ≡ looked_by entry.now place sends.old }
+{
+    sends.look(entry.who, place);
 }
 
 /// Takes out the message that an entry hands out and removes, if it does.

@@ -23,8 +23,8 @@ take_post-requires-clause-fits c =
     let calm = read_calm e.answer e.call c.requires.reads in
     read_fits s.classes s.tree s.threads.items e.who.0 e.answer e.call (settling_fits s.setup past kept e s.classes s.tree s.threads.items c.self.invariant right (calm.classes e.call s.classes) (calm.tree e.who.0 e.call s.tree) refl)
 
-pub note_look-requires : goal.note_look-requires
-note_look-requires c =
+pub note_ready-requires-clause-look : goal.note_ready-requires-clause-look
+note_ready-requires-clause-look c =
     let e = c.args.entry.now in
     let s = c.self.inside in
     let past : Past = reverse s.history.items in
@@ -53,7 +53,7 @@ invariant_of-self-2 c =
     let here : c.len-place.result ≡ place_after past = long ∙ sym (length-reverse s.history.items) in
     let first = read_added s.tree.live s.progress.time s.progress.cursor (is_shift_down past e.who.0) e.who.0 e.answer e.call s.threads.items reads in
     let after = quiet_moment s.setup past kept e calm idle room right st c.moment-after.result s.progress went c.moment-after.ensures in
-    let looked : AreLooksAt s.setup (e ∷ past) c.follow.new.self = looks_step s.setup past e s.tree s.order s.display.screen c.moment-after.result c.in_ok-seen.seen.items s.looks c.follow.new.self (st.lawful, right) st.tree st.order st.display.screen st.looks after (λ is. c.in_ok-seen.ensures is ∙ ap (seen_of s.tree.live e.who.0) (c.dirty.ensures.value ∙ ap (λ (k : Screen). k.dirty) c.screen.ensures)) c.follow.ensures in
-    let marked = looks_stand s.setup past e c.len-place.result s.sends s.sends c.note_look.new.sends right here st.marks refl (quiet_sends s.setup past kept e calm idle room right st) c.note_look.ensures in
-    let now = quiet_step s.setup past kept e calm idle room right st s.threads.items c.take_post.new.threads.items c.note_wait.new.threads.items c.mark_look.new.threads.items s.progress c.note_look.new.sends c.follow.new.self first (c.take_post.ensures s.tree.live) c.note_wait.ensures c.mark_look.ensures went marked.0 marked.1 looked in
-    subst (λ (h : Past). Stands s.setup h (parts s.tree s.order s.display s.classes c.mark_look.new.threads.items s.timers s.groups s.inputs s.progress c.note_look.new.sends s.tally s.stories.items c.follow.new.self s.dialogs)) newest now
+    let looked : AreLooksAt s.setup (e ∷ past) c.note_seen.new.looks = looks_step s.setup past e s.tree s.order s.display.screen c.moment-after.result c.in_ok-seen.seen.items s.looks c.note_seen.new.looks (st.lawful, right) st.tree st.order st.display.screen st.looks after (λ is. c.in_ok-seen.ensures is ∙ ap (seen_of s.tree.live e.who.0) (c.dirty.ensures.value ∙ ap (λ (k : Screen). k.dirty) c.screen.ensures)) c.note_seen.ensures in
+    let marked = looks_stand s.setup past e c.len-place.result s.sends s.sends c.note_ready.new.sends right here st.marks refl (quiet_sends s.setup past kept e calm idle room right st) c.note_ready.ensures in
+    let now = quiet_step s.setup past kept e calm idle room right st s.threads.items c.take_post.new.threads.items c.note_wait.new.threads.items c.mark_read.new.threads.items s.progress c.note_ready.new.sends c.note_seen.new.looks first (c.take_post.ensures s.tree.live) c.note_wait.ensures c.mark_read.ensures went marked.0 marked.1 looked in
+    subst (λ (h : Past). Stands s.setup h (parts s.tree s.order s.display s.classes c.mark_read.new.threads.items s.timers s.groups s.inputs s.progress c.note_ready.new.sends s.tally s.stories.items c.note_seen.new.looks s.dialogs)) newest now
