@@ -810,7 +810,6 @@ impl CoreState {
     }
 
     /// Adds an entry of any call, and brings all parts up to date. After want of memory nothing has changed.
-    #[inline(never)]
     fn append_any(&mut self, entry: &Entry) -> Result<(), AllocError>
         requires room { is_full self.old.past ≡ false }
         requires answer { entry.now.answer ≡ reply self.old.setup self.old.past entry.now.who.0 entry.now.call }
