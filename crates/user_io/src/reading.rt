@@ -9,7 +9,7 @@ use crate::traits::{Source, Took};
 use std::alloc::{AllocError, Global};
 
 /// How many bytes a read asks for at most.
-const PIECE: usize = 4096;
+const PIECE: usize = 16384;
 
 /// Why there is no text.
 #[derive(Clone, Copy, Debug, PartialEq, Eq)]

@@ -7,7 +7,7 @@ invariant-loop-piece g l = record {
   bytes : Consumes (g.S.Source.left l.fn.source) (g.S.Source.left l.source) l.text.items;
   faults : g.S.Source.faults l.source ≡ g.S.Source.faults l.fn.source;
   short : length l.text.items ≤ l.limit + 1;
-  room : length l.piece ≡ 4096;
+  room : length l.piece ≡ 16384;
 }
 
 abbrev pub decreases-loop-piece : goal.decreases-loop-piece
