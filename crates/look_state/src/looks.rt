@@ -57,6 +57,7 @@ impl Looks {
     }
 
     /// Notes what was there for a thread that looks.
+    #[inline(always)]
     pub fn look(&mut self, who: Thread, at: Moment, seen: Vec<SeenWindow>)
         ensures { EachLook (λ t k. if who.0 == t then look_at at seen.items else k) self.old self.new }
     {

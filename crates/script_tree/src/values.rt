@@ -64,6 +64,7 @@ impl Comparison {
 
 impl Test {
     /// Whether it holds where the variables are these.
+    #[inline(always)]
     pub fn holds(&self, variables: &Variables) -> bool
         ensures { result ≡ holds_of self.now variables.now }
     {

@@ -211,6 +211,7 @@ impl SendState {
 
     /// The window of the send or the result that a thread runs next, `None` where nothing is ready or the
     /// thread has 64 frames.
+    #[inline(always)]
     pub fn next_window(&self, who: Thread) -> Option<Hwnd>
         requires { IsThread self.now.book who.0 }
         ensures { result ≡ next_window self.now who.0 }

@@ -16,6 +16,7 @@ use win_num::{Hwnd, Msg, Thread};
 use win_tree::Tree;
 
 /// Adds a message under its number to the queue of a thread. After want of memory nothing has changed.
+#[inline(always)]
 pub fn post(
     threads: &mut Vec<ThreadState>,
     to: u64,

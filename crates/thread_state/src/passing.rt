@@ -23,6 +23,7 @@ pub(crate) fn passes_number(filter: Filter, msg: &Msg) -> bool
 
 /// Whether a filter's window lets a window pass: 0 lets all pass, minus one what has no window, and a
 /// live window itself and what stands below it.
+#[inline(always)]
 pub fn passes_window(tree: &Tree, wanted: u64, w: Hwnd) -> bool
     ensures { result ≡ passes_window_in tree.now.live wanted w.0 }
 {
