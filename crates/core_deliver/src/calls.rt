@@ -212,6 +212,7 @@ pub fn retrieve_in<L: Ledger>(
     ensures err { OnErr result (s.new.past ≡ s.old.past) }
     ensures setup { s.new.setup ≡ s.old.setup }
     ensures reads { steps.new ≤ steps.old + reads_by s.old.past entry.old.who.0 entry.old.call }
+    ensures same { (entry.new.who ≡ entry.old.who) × (entry.new.call ≡ entry.old.call) }
 {
     write_retrieval(s, entry.who, &entry.call, &mut entry.answer, steps);
     keep(s, entry)
@@ -254,6 +255,7 @@ pub fn deliver_in(s: &mut CoreState, entry: &mut Entry) -> Result<(), AllocError
     ensures entry { OnOk result (s.new.past ≡ after s.old.setup s.old.past entry.old.who entry.old.call) }
     ensures err { OnErr result (s.new.past ≡ s.old.past) }
     ensures setup { s.new.setup ≡ s.old.setup }
+    ensures same { (entry.new.who ≡ entry.old.who) × (entry.new.call ≡ entry.old.call) }
 {
     write_delivery(s, entry.who, &entry.call, &mut entry.answer);
     keep(s, entry)
