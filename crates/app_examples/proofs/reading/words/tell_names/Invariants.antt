@@ -1,5 +1,5 @@
 use Rattle.script_lines.specs.NameLimits.{AreKnown}
-use Rattle.script_examples.proofs.words.tell_names.Given as goal
+use Rattle.app_examples.proofs.reading.words.tell_names.Given as goal
 
 abbrev pub invariant-loop-word : goal.invariant-loop-word
 invariant-loop-word g l = AreKnown l.names

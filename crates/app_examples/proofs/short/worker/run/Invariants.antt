@@ -1,6 +1,6 @@
 use Rattle.std.proofs.Common.{◌-◌}
 use Rattle.script_proc.specs.Workers.{uses}
-use Rattle.compound_examples.proofs.worker.run.Given as goal
+use Rattle.app_examples.proofs.short.worker.run.Given as goal
 
 -- what is left of the budget
 abbrev pub decreases-loop-worker : goal.decreases-loop-worker

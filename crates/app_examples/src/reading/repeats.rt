@@ -1,6 +1,4 @@
-//! The texts that the lines of standard input stand for.
-
-ghost use Rattle.std.specs.Prelude.{◌≡◌, ◌≢◌};
+//! The texts that lines stand for, in which a part may be repeated.
 
 use std::alloc::{AllocError, Global};
 
@@ -40,23 +38,6 @@ pub fn text_of(alloc: Global, line: &str) -> Result<String, AllocError> {
             push_lines(&mut text, part)?;
         }
         is_repeated = !is_repeated;
-    }
-    Ok(text)
-}
-
-/// The character of a byte: that of the same number, and `/` for an end of a line.
-fn shown_byte(byte: u8) -> char
-    ensures end { byte ≡ 10 → result ≡ 47 }
-    ensures other { byte ≢ 10 → result ≡ byte }
-{
-    if byte == b'\n' { '/' } else { char::from(byte) }
-}
-
-/// Bytes as characters of the same numbers.
-pub fn shown(alloc: Global, bytes: &[u8]) -> Result<String, AllocError> {
-    let mut text = String::new(alloc);
-    for byte in bytes {
-        text.push(shown_byte(*byte))?;
     }
     Ok(text)
 }

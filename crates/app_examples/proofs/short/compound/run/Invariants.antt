@@ -1,6 +1,6 @@
 use Rattle.win_calls.specs.declared.compound.Got.{Got}
 use Rattle.win_calls.specs.States.{Awaits, Accepts}
-use Rattle.compound_examples.proofs.compound.run.Given as goal
+use Rattle.app_examples.proofs.short.compound.run.Given as goal
 
 -- what was asked for can be handed in
 abbrev pub invariant-loop : goal.invariant-loop
