@@ -8,9 +8,9 @@ ghost use Rattle.turn_lock.specs.Seats.{new_seats};
 ghost use Rattle.user_desk.specs.Desks.{IsDeskSeat};
 ghost use Rattle.user_model.specs.Legal.{IsLawful};
 
-use crate::opening::{open_for_two, three};
-use crate::sequences;
-use crate::yields::yield_often;
+use crate::desk::opening::{open_for_two, three};
+use crate::desk::sequences;
+use crate::desk::yields::yield_often;
 use std::alloc::{AllocError, Global};
 use std::io::Print;
 use std::sync::Wait;

@@ -1,6 +1,5 @@
 //! Programs at a desk, one after another: the lock below it, two threads, and as many seats as there can be actors. What is printed
 //! doesn't depend on who moves when.
-#![tactic(auto)]
 
 mod crowd;
 mod locked;
@@ -34,9 +33,9 @@ fn tell_crowd<R: Threads + Wait + Sync + Print>(rt: &R, alloc: Global) -> anyhow
     crowd::run_desk(rt, alloc, machine)
 }
 
-fn main(rt: HostRuntime) -> anyhow::Result<()> {
-    let alloc = rt.alloc();
-    tell_lock(&rt, alloc)?;
-    tell_desk(&rt, alloc)?;
-    tell_crowd(&rt, alloc)
+/// Runs all three, each at a machine of its own.
+pub fn show<R: Threads + Wait + Sync + Print>(rt: &R, alloc: Global) -> anyhow::Result<()> {
+    tell_lock(rt, alloc)?;
+    tell_desk(rt, alloc)?;
+    tell_crowd(rt, alloc)
 }

@@ -6,8 +6,8 @@ ghost use Rattle.std.specs.Thread.{IsSend, IsSync};
 ghost use Rattle.user_desk.specs.Desks.{IsDeskSeat};
 ghost use Rattle.user_model.specs.Legal.{IsLawful};
 
-use crate::opening::open_for_fifteen;
-use crate::yields::yield_often;
+use crate::desk::opening::open_for_fifteen;
+use crate::desk::yields::yield_often;
 use std::alloc::{AllocError, Global};
 use std::io::Print;
 use std::sync::Wait;
