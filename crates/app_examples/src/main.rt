@@ -1,10 +1,12 @@
-//! Worked examples of the program's top call, from bytes to bytes. Standard input has lines `PIECE FAIL ROOM: WORDS: TEXT`: the program
+//! Worked examples of the program's top call, from bytes to bytes, and of scripts. First come the shortest programs with the parts above a machine
+//! (`short`), which read nothing. Standard input has lines `PIECE FAIL ROOM: WORDS: TEXT`: the program
 //! is called with these words, on a source that gives the text in pieces of so many bytes and fails at its call FAIL, counted from 0
 //! (`-`: at none), and on a sink that has room for so many bytes. A line `turns TEXT` makes turns of a script's first thread; `pool LEFT:
 //! TEXT` runs all of its threads at a machine that wants memory once after LEFT calls (`-`: never); `faults WORDS: TEXT` calls the program, also
 //! by threads, on each of some sources and sinks that fail. `json TEXT` runs the script, and its log goes to standard output as lines of JSON; `meeting
-//! TEXT` runs it by two groups of threads that wait for each other. In a text `/` ends a line. Each line
-//! is written again, and below it what came of it, with `/` in the place of an end of a line, but for lines `json`.
+//! TEXT` runs it by two groups of threads that wait for each other. `script TEXT` reads the text as a script and writes it again, `parts TEXT` tells
+//! what the script has, `lines TEXT` reads and writes lines of words alone. In a text `/` ends a line, and in those of the last three
+//! `~N PART~` is a part N times. Each line is written again, and below it what came of it, with `/` in the place of an end of a line, but for lines `json`.
 #![tactic(auto)]
 
 ghost use Rattle.std.specs.Prelude.{◌<◌};
@@ -13,6 +15,8 @@ mod faults;
 mod json;
 mod meetings;
 mod pools;
+mod reading;
+mod short;
 mod texts;
 mod turns;
 mod wanting;
@@ -59,33 +63,34 @@ fn tell_call(rt: &impl Print, alloc: Global, outside: Outside, line: &str) -> an
     Ok(())
 }
 
-/// Does what a line asks for.
-fn run_line<R: Print + Threads + Wait + Sync>(
-    rt: &R,
-    alloc: Global,
-    line: &str,
-) -> anyhow::Result<()> {
-    if let Some(rest) = line.strip_prefix("faults ") {
-        return faults::tell(rt, alloc, rest);
-    }
-    if let Some(text) = line.strip_prefix("turns ") {
-        return turns::tell(rt, alloc, text);
-    }
-    if let Some(rest) = line.strip_prefix("pool ") {
-        return pools::tell(rt, alloc, rest);
-    }
-    if let Some(text) = line.strip_prefix("json ") {
-        return json::tell(rt, alloc, text);
-    }
-    if let Some(text) = line.strip_prefix("meeting ") {
-        return meetings::tell(rt, alloc, text);
-    }
+/// Makes the call of a line `PIECE FAIL ROOM: WORDS: TEXT`. A line without a colon asks for nothing.
+fn tell_numbered(rt: &impl Print, alloc: Global, line: &str) -> anyhow::Result<()> {
     let Some((outside, rest)) = line.split_once(": ") else {
         return Ok(());
     };
     match outside_of(outside) {
         Some(outside) => tell_call(rt, alloc, outside, rest),
         None => anyhow::bail!("no numbers: {line}"),
+    }
+}
+
+/// Does what a line asks for.
+fn run_line<R: Print + Threads + Wait + Sync>(
+    rt: &R,
+    alloc: Global,
+    line: &str,
+) -> anyhow::Result<()> {
+    let Some((word, rest)) = line.split_once(' ') else {
+        return Ok(());
+    };
+    match word {
+        "faults" => faults::tell(rt, alloc, rest),
+        "turns" => turns::tell(rt, alloc, rest),
+        "pool" => pools::tell(rt, alloc, rest),
+        "json" => json::tell(rt, alloc, rest),
+        "meeting" => meetings::tell(rt, alloc, rest),
+        "script" | "parts" | "lines" => reading::tell(rt, alloc, word, rest),
+        _ => tell_numbered(rt, alloc, line),
     }
 }
 
@@ -101,5 +106,7 @@ fn run<R: Input + Print + Threads + Wait + Sync>(rt: &R, alloc: Global) -> anyho
 
 fn main(rt: HostRuntime) -> anyhow::Result<()> {
     let alloc = rt.alloc();
-    run(&rt, alloc)
+    short::show(&rt, alloc)?;
+    run(&rt, alloc)?;
+    reading::tell_words(&rt, alloc)
 }

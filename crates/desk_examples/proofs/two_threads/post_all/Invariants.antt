@@ -1,5 +1,0 @@
-use Rattle.user_desk.specs.Desks.{IsDeskSeat}
-use Rattle.desk_examples.proofs.two_threads.post_all.Given as goal
-
-abbrev pub invariant-loop-number : goal.invariant-loop-number
-invariant-loop-number g l = IsDeskSeat l.desk l.seat

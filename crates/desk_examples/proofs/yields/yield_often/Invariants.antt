@@ -1,5 +1,0 @@
-use Rattle.user_desk.specs.Desks.{IsDeskSeat}
-use Rattle.desk_examples.proofs.yields.yield_often.Given as goal
-
-abbrev pub invariant-loop : goal.invariant-loop
-invariant-loop g l = IsDeskSeat l.desk l.seat
