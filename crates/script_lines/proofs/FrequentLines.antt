@@ -24,11 +24,11 @@ use Rattle.script_lines.proofs.LinesAgain.{taken, read_again}
 -- ---- numbers
 
 -- the value of digits, without a greatest
-abbrev value_from : ℕ → List ℕ → ℕ
+abbrev pub value_from : ℕ → List ℕ → ℕ
 value_from v [] = v
 value_from v (c ∷ cs) = value_from (v * 10 + (c - 48)) cs
 
-own : IsNumeralModel (λ ds. all_ascii_digits ds ≡ true) (value_from 0)
+pub own : IsNumeralModel (λ ds. all_ascii_digits ds ≡ true) (value_from 0)
 own = numerals_by_fold _ (search rules) value_from (search rules)
 
 value_grows : (v : ℕ) (ds : List ℕ) → v ≤ value_from v ds
@@ -36,7 +36,7 @@ value_grows v [] = omega arith
 value_grows v (c ∷ cs) = omega (arith, value_grows (v * 10 + (c - 48)) cs)
 
 -- a value that isn't too large is found
-value_found : (v : ℕ) (ds : List ℕ) → all_ascii_digits ds ≡ true → value_from v ds < 2 ^ 64 → digits_at v ds ≡ value_from v ds
+pub value_found : (v : ℕ) (ds : List ℕ) → all_ascii_digits ds ≡ true → value_from v ds < 2 ^ 64 → digits_at v ds ≡ value_from v ds
 value_found v [] all small = refl
 value_found v (c ∷ cs) all small =
     let two = and_parts (is_ascii_digit c) (all_ascii_digits cs) all in

@@ -8,3 +8,5 @@ pub mod RowsAgain
 pub mod LinesAgain
 pub mod NamesStay
 pub mod FrequentLines
+pub mod Fronts
+pub mod Numbers

@@ -11,7 +11,7 @@ use crate::words::variable_at;
 use script_tree::{CallStatement, Operand};
 
 /// How many digits a number has at most that is told here: the greatest of them is below 2^64.
-const DIGIT_LIMIT: usize = 19;
+pub const DIGIT_LIMIT: usize = 19;
 
 /// The value of a word of digits.
 #[tactic(auto, unfolding(crate::specs::LineReading::number_at))]

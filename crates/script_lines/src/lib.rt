@@ -3,12 +3,14 @@
 
 mod forms;
 mod frequent;
+mod front;
 mod known_writer;
 mod line;
 mod line_form;
 mod line_reader;
 mod line_writer;
 mod names;
+mod numbered;
 mod operands;
 mod rows;
 mod words;
@@ -23,5 +25,6 @@ pub use line_form::{line_command, line_of_parts, line_parts};
 pub use line_reader::{FoundLine, line_at, split_at, texts_of, word_at, words_into};
 pub use line_writer::put_line;
 pub use names::Names;
+pub use numbered::numbered_call;
 pub use operands::{NameTables, number_at};
 pub use rows::{command_at, command_places, command_word};

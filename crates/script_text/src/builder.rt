@@ -6,10 +6,10 @@ ghost use Rattle.script_text.specs.Building.{opening_lines, open_lines, built_li
 ghost use Rattle.script_text.specs.Lines.{body_lines, code_lines, statement_lines};
 ghost use Rattle.script_text.specs.Reasons.{is_if_open};
 ghost use Rattle.script_text.specs.Nesting.{nested, nests, none_open, is_procedure, block_entered, block_opened, procedure_entered, procedure_opened, top_opened, else_opened, closed};
-ghost use Rattle.script_lines.specs.declared.line.Line.TheVariants.{If, Else, While, End};
+ghost use Rattle.script_lines.specs.declared.line.Line.TheVariants.{If, Else, While, End, Call};
 
 use script_lines::Line;
-use script_tree::{Body, Statement, Test};
+use script_tree::{Body, CallStatement, Statement, Test};
 use std::alloc::{AllocError, Global};
 use std::collections::VecDeque;
 
@@ -84,6 +84,7 @@ fn open_top(
 }
 
 /// Adds a statement to the innermost block; false where none is open.
+#[inline(always)]
 fn add_statement(blocks: &mut VecDeque<Block>, statement: Statement) -> Result<bool, AllocError>
     ensures lines { IfOk result (λ taken. taken ≡ true → open_lines blocks.new.items ≡ open_lines blocks.old.items ++ statement_lines statement) }
     ensures kinds { IfOk result (λ taken. (if taken then Some (kinds blocks.new.items) else None) ≡ block_entered (kinds blocks.old.items)) }
@@ -295,6 +296,14 @@ impl Builder {
         ensures { result ≡ list_any is_procedure (kinds self.now.blocks.items) }
     {
         in_procedure(&self.blocks)
+    }
+
+    /// Takes the line of a call's statement; false where it can't stand there.
+    pub fn take_call(&mut self, call: CallStatement) -> Result<bool, AllocError>
+        ensures lines { IfOk result (λ taken. taken ≡ true → built_lines self.new.procedures.items self.new.threads.items self.new.blocks.items ≡ built_lines self.old.procedures.items self.old.threads.items self.old.blocks.items ++ Call call ∷ []) }
+        ensures nest { IfOk result (λ taken. (if taken then Some (nest_of self.new.procedures.items self.new.threads.items self.new.blocks.items) else None) ≡ nested (nest_of self.old.procedures.items self.old.threads.items self.old.blocks.items) (Call call)) }
+    {
+        add_statement(&mut self.blocks, Statement::Call(call))
     }
 
     /// Takes one line more; false where it can't stand there.

@@ -14,7 +14,8 @@ use crate::builder::{Bodies, Builder};
 use crate::head::{HeadLine, is_head};
 use crate::limits::{THREAD_LIMIT, begun_in, seen_in};
 use script_lines::{
-    Line, NameTables, Names, frequent_line, is_text_of, line_at, line_parts, words_into,
+    Line, NameTables, Names, frequent_line, is_text_of, line_at, line_parts, numbered_call,
+    words_into,
 };
 use script_tree::Name;
 use statement_table::Part;
@@ -131,9 +132,9 @@ impl Reading {
         self.builder.take(alloc, line)
     }
 
-    /// Takes one line more of procedures and threads; false where the text is no line that can stand there. The
-    /// words take the room of those before them.
-    fn take<'a>(
+    /// Takes one line more of procedures and threads by its words, which take the room of those before them; false
+    /// where the text is no line that can stand there.
+    fn take_text<'a>(
         &mut self,
         alloc: Global,
         tables: &NameTables,
@@ -154,6 +155,30 @@ impl Reading {
             return self.builder.take(alloc, line);
         }
         self.take_words(alloc, tables, words, text)
+    }
+
+    /// Takes one line more of procedures and threads; false where the text is no line that can stand there. The
+    /// words of a line take the room of those before them.
+    fn take<'a>(
+        &mut self,
+        alloc: Global,
+        tables: &NameTables,
+        words: &mut Vec<&'a [u8]>,
+        text: &'a [u8],
+    ) -> Result<bool, AllocError>
+        requires known { AreKnown self.old.known }
+        requires sound { IsSound self.old.builder.procedures.items self.old.builder.threads.items self.old.builder.blocks.items }
+        requires few { self.old.threads ≤ 15 }
+        ensures taken { IfOk result (λ taken. taken ≡ true → IsStep self.old.known (nest_in self.old.builder) self.old.threads text.now self.new.known (nest_in self.new.builder) self.new.threads) }
+        ensures refused { IfOk result (λ taken. taken ≡ false → IsNoStep self.old.known (nest_in self.old.builder) self.old.threads text.now) }
+        ensures added { IfOk result (λ taken. taken ≡ true → Adds self.old.known (lines_in self.old.builder) text.now self.new.known (lines_in self.new.builder)) }
+        ensures kept { AreKnown self.new.known }
+        ensures sound { IfOk result (λ taken. taken ≡ true → IsSound self.new.builder.procedures.items self.new.builder.threads.items self.new.builder.blocks.items) }
+    {
+        if let Some(call) = numbered_call(text) {
+            return self.builder.take_call(call);
+        }
+        self.take_text(alloc, tables, words, text)
     }
 
     /// Takes one line more, behind so many others; false where no script begins so.
