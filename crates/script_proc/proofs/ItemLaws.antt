@@ -1,5 +1,6 @@
 -- What items do, one by one.
 use Rattle.std.proofs.Common.{◌≡◌, ℕ, zero, suc, ◌+◌, ◌-◌, ◌*◌, ◌<◌, ◌≤◌, min, ◌==◌, Bool, true, false, List, [], ◌∷◌, ◌++◌, length, drop, Some, None, refl, sym, ap, ◌∙◌, subst, arith, append_assoc, eq-eqb, fold, inl, inr}
+use Rattle.std.specs.Borrow.{Bor}
 use Rattle.std.specs.Prelude.{◌⊎◌, slice_get, if◌then◌else◌, unwrap_or, max}
 use Rattle.user_model.specs.declared.call.Call.{Call}
 use Rattle.user_model.specs.declared.call.Call.TheVariants.{Yield}
@@ -179,7 +180,7 @@ module _ (p : Program) (n : ℕ) where
   behind at passed most next rs h is g = subst (λ ls. Stands ls rs) (sym (ap (λ k. drop k p.lines.items) is ∙ drop_behind p.lines.items at passed most h)) g
 
   -- an `if` whose test holds
-  pub then_moves : (at : ℕ) (t : Test) (passed : ℕ) (v : Variables) → slice_get p.lines.items at ≡ Some (If t passed) → holds t v ≡ true → Moves p n (At at) (Going v) (At (at + 1) ∷ []) (Going v)
+  pub then_moves : (at : ℕ) (t : Bor Test) (passed : ℕ) (v : Variables) → slice_get p.lines.items at ≡ Some (If t passed) → holds t.now v ≡ true → Moves p n (At at) (Going v) (At (at + 1) ∷ []) (Going v)
   then_moves at t passed v h y = record {
     keeps = λ s of qs left c.
         let r = then_goes s n left v y (here at (If t passed) qs h c) in
@@ -188,7 +189,7 @@ module _ (p : Program) (n : ℕ) where
   }
 
   -- and one whose test fails
-  pub otherwise_moves : (at : ℕ) (t : Test) (passed most next : ℕ) (v : Variables) → slice_get p.lines.items at ≡ Some (If t passed) → holds t v ≡ false → length p.lines.items ≤ most → next ≡ min (at + 1 + passed) most → Moves p n (At at) (Going v) (At next ∷ []) (Going v)
+  pub otherwise_moves : (at : ℕ) (t : Bor Test) (passed most next : ℕ) (v : Variables) → slice_get p.lines.items at ≡ Some (If t passed) → holds t.now v ≡ false → length p.lines.items ≤ most → next ≡ min (at + 1 + passed) most → Moves p n (At at) (Going v) (At next ∷ []) (Going v)
   otherwise_moves at t passed most next v h y short is = record {
     keeps = λ s of qs left c.
         let r = otherwise_goes s n left v y (here at (If t passed) qs h c) in
@@ -214,16 +215,16 @@ module _ (p : Program) (n : ℕ) where
   abbrev pub while_few : ℕ → Bool → ℕ → List Item
   while_few at b next = if b then PassEndItem at n ∷ At (at + 1) ∷ [] else At next ∷ []
 
-  looped : {line : Statement} {rs : List Piece} (s : Tree) (at : ℕ) (t : Test) (passed : ℕ) (left : List Piece) (v : Variables) (b : Bool) (most next : ℕ) → holds t v ≡ b → slice_get p.lines.items at ≡ Some (While t passed) → length p.lines.items ≤ most → next ≡ min (at + 1 + passed) most → IsWhile t passed (lines_at p (at + 1)) line rs → (qs : List Piece) × AllCover p (while_few at b next) qs × Keeps s (One line ∷ rs ++ left) (Going v) (qs ++ left) (Going v) n
+  looped : {line : Statement} {rs : List Piece} (s : Tree) (at : ℕ) (t : Bor Test) (passed : ℕ) (left : List Piece) (v : Variables) (b : Bool) (most next : ℕ) → holds t.now v ≡ b → slice_get p.lines.items at ≡ Some (While t passed) → length p.lines.items ≤ most → next ≡ min (at + 1 + passed) most → IsWhile t passed (lines_at p (at + 1)) line rs → (qs : List Piece) × AllCover p (while_few at b next) qs × Keeps s (One line ∷ rs ++ left) (Going v) (qs ++ left) (Going v) n
   looped s at t passed left v true most next y h short is (is_while {k = k} {a = a} {left = rs} f g) = (
-    Lines (items-the_row-Statement _ a) ∷ PassEnd (tree.While' t k a) n ∷ rs,
-    (Lines (items-the_row-Statement _ a) ∷ [], PassEnd (tree.While' t k a) n ∷ rs, refl, (tree.While' t k a, rs, refl, loops h f g), at_covers (at + 1) _ f),
-    by_step s n (One (tree.While' t k a)) (rs ++ left) (Going v) (Lines (items-the_row-Statement _ a) ∷ PassEnd (tree.While' t k a) n ∷ []) (Going v) (ap (λ z. if z then Becomes (Lines (items-the_row-Statement _ a) ∷ PassEnd (tree.While' t k a) n ∷ []) (Going v) else passes (Going v)) y),
+    Lines (items-the_row-Statement _ a) ∷ PassEnd (tree.While' t.now k a) n ∷ rs,
+    (Lines (items-the_row-Statement _ a) ∷ [], PassEnd (tree.While' t.now k a) n ∷ rs, refl, (tree.While' t.now k a, rs, refl, loops h f g), at_covers (at + 1) _ f),
+    by_step s n (One (tree.While' t.now k a)) (rs ++ left) (Going v) (Lines (items-the_row-Statement _ a) ∷ PassEnd (tree.While' t.now k a) n ∷ []) (Going v) (ap (λ z. if z then Becomes (Lines (items-the_row-Statement _ a) ∷ PassEnd (tree.While' t.now k a) n ∷ []) (Going v) else passes (Going v)) y),
   )
   looped s at t passed left v false most next y h short is (is_while {k = k} {a = a} {left = rs} f g) = (
     rs,
     at_covers next rs (behind at passed most next rs short is g),
-    by_step s n (One (tree.While' t k a)) (rs ++ left) (Going v) [] (Going v) (ap (λ z. if z then Becomes (Lines (items-the_row-Statement _ a) ∷ PassEnd (tree.While' t k a) n ∷ []) (Going v) else passes (Going v)) y),
+    by_step s n (One (tree.While' t.now k a)) (rs ++ left) (Going v) [] (Going v) (ap (λ z. if z then Becomes (Lines (items-the_row-Statement _ a) ∷ PassEnd (tree.While' t.now k a) n ∷ []) (Going v) else passes (Going v)) y),
   )
 
   while_fewer : (at : ℕ) (b : Bool) (most next passed : ℕ) (left : List Piece) (v : Variables) → at < length p.lines.items → length p.lines.items ≤ most → next ≡ min (at + 1 + passed) most → steps_left no_tree n (all_long (length p.lines.items) n (while_few at b next) ++ left) (Going v) < steps_left no_tree n (Lines (statements (length p.lines.items - at)) ∷ left) (Going v)
@@ -231,37 +232,37 @@ module _ (p : Program) (n : ℕ) where
   while_fewer at false most next passed left v l short is = on_falls (length p.lines.items) n at next left v v l (omega (arith, l, short, is))
 
   -- a `while`
-  pub while_moves : (at : ℕ) (t : Test) (passed most next : ℕ) (v : Variables) → slice_get p.lines.items at ≡ Some (While t passed) → length p.lines.items ≤ most → next ≡ min (at + 1 + passed) most → Moves p n (At at) (Going v) (while_few at (holds t v) next) (Going v)
+  pub while_moves : (at : ℕ) (t : Bor Test) (passed most next : ℕ) (v : Variables) → slice_get p.lines.items at ≡ Some (While t passed) → length p.lines.items ≤ most → next ≡ min (at + 1 + passed) most → Moves p n (At at) (Going v) (while_few at (holds t.now v) next) (Going v)
   while_moves at t passed most next v h short is = record {
     keeps = λ s of qs left c.
         let r = while_comes s n left v (here at (While t passed) qs h c) in
-        let l = looped s at t passed left v (holds t v) most next refl h short is r.2 in
+        let l = looped s at t passed left v (holds t.now v) most next refl h short is r.2 in
         (l.0, l.1, keeps_on s n _ _ _ _ _ _ r.3 l.2);
-    fewer = λ left. while_fewer at (holds t v) most next passed left v (within p.lines.items at (While t passed) h) short is;
+    fewer = λ left. while_fewer at (holds t.now v) most next passed left v (within p.lines.items at (While t passed) h) short is;
   }
 
-  one_while : (at : ℕ) (t u : Test) (passed skipped : ℕ) → slice_get p.lines.items at ≡ Some (While t passed) → slice_get p.lines.items at ≡ Some (While u skipped) → (t ≡ u) × (passed ≡ skipped)
+  one_while : (at : ℕ) (t u : Bor Test) (passed skipped : ℕ) → slice_get p.lines.items at ≡ Some (While t passed) → slice_get p.lines.items at ≡ Some (While u skipped) → (t ≡ u) × (passed ≡ skipped)
   one_while at t u passed skipped h g = let e : Some (While t passed) ≡ Some (While u skipped) = sym h ∙ g in (cc, cc)
 
-  loop_is : {line : Statement} {rs : List Piece} (at : ℕ) (t : Test) (passed : ℕ) → slice_get p.lines.items at ≡ Some (While t passed) → IsLoop p at line rs → IsWhile t passed (lines_at p (at + 1)) line rs
+  loop_is : {line : Statement} {rs : List Piece} (at : ℕ) (t : Bor Test) (passed : ℕ) → slice_get p.lines.items at ≡ Some (While t passed) → IsLoop p at line rs → IsWhile t passed (lines_at p (at + 1)) line rs
   loop_is at t passed h (loops {t = u} {passed = skipped} {k = k} {a = a} {left = rs} g f e) =
       let same = one_while at t u passed skipped h g in
-      subst (λ x. IsWhile x passed (lines_at p (at + 1)) (tree.While' u k a) rs) (sym same.0) (is_while f (subst (λ x. Stands (drop x (lines_at p (at + 1))) rs) (sym same.1) e))
+      subst (λ x. IsWhile x passed (lines_at p (at + 1)) (tree.While' u.now k a) rs) (sym same.0) (is_while f (subst (λ x. Stands (drop x (lines_at p (at + 1))) rs) (sym same.1) e))
 
   -- the same `while` once more
-  pub once_moves : (at : ℕ) (t : Test) (passed most next : ℕ) (v : Variables) → slice_get p.lines.items at ≡ Some (While t passed) → length p.lines.items ≤ most → next ≡ min (at + 1 + passed) most → Moves p n (Once at) (Going v) (while_few at (holds t v) next) (Going v)
+  pub once_moves : (at : ℕ) (t : Bor Test) (passed most next : ℕ) (v : Variables) → slice_get p.lines.items at ≡ Some (While t passed) → length p.lines.items ≤ most → next ≡ min (at + 1 + passed) most → Moves p n (Once at) (Going v) (while_few at (holds t.now v) next) (Going v)
   once_moves at t passed most next v h short is = record {
     keeps = λ s of qs left c.
-        let l = looped s at t passed left v (holds t v) most next refl h short is (loop_is at t passed h c.3) in
+        let l = looped s at t passed left v (holds t.now v) most next refl h short is (loop_is at t passed h c.3) in
         (l.0, l.1, subst (λ ps. Keeps s (ps ++ left) (Going v) (l.0 ++ left) (Going v) n) (sym c.2) l.2);
-    fewer = λ left. while_fewer at (holds t v) most next passed left v (within p.lines.items at (While t passed) h) short is;
+    fewer = λ left. while_fewer at (holds t.now v) most next passed left v (within p.lines.items at (While t passed) h) short is;
   }
 
-  loopless : {line : Statement} {rs : List Piece} (at : ℕ) → IsLoop p at line rs → ((t : Test) (passed : ℕ) → slice_get p.lines.items at ≡ Some (While t passed) → ⊥) → ⊥
+  loopless : {line : Statement} {rs : List Piece} (at : ℕ) → IsLoop p at line rs → ((t : Bor Test) (passed : ℕ) → slice_get p.lines.items at ≡ Some (While t passed) → ⊥) → ⊥
   loopless at (loops {t = t} {passed = passed} g f e) h = h t passed g
 
   -- no `while` stands there
-  pub no_loop_moves : (at : ℕ) (v : Variables) → ((t : Test) (passed : ℕ) → slice_get p.lines.items at ≡ Some (While t passed) → ⊥) → Moves p n (Once at) (Going v) [] (Going v)
+  pub no_loop_moves : (at : ℕ) (v : Variables) → ((t : Bor Test) (passed : ℕ) → slice_get p.lines.items at ≡ Some (While t passed) → ⊥) → Moves p n (Once at) (Going v) [] (Going v)
   no_loop_moves at v h = record {
     keeps = λ s of qs left c. absurd (loopless at c.3 h);
     fewer = λ left. out_falls (length p.lines.items) n (length p.lines.items - at) left v;

@@ -1,5 +1,6 @@
 -- Statements put behind lines.
 use Rattle.std.proofs.Common.{◌≡◌, ℕ, zero, suc, ◌+◌, ◌-◌, ◌<◌, List, [], ◌∷◌, ◌++◌, length, drop, refl, sym, ap, ◌∙◌, subst, arith, append_assoc, append-nil, length-append, drop_at, take, get_or}
+use Rattle.std.specs.Borrow.{Bor}
 use Rattle.std.proofs.lemmas.List.{take_more}
 use Rattle.std.specs.Prelude.{slice_get, slice_set, slice_index_or, unwrap_or}
 use Rattle.script_tree.specs.declared.operand.Test.{Test}
@@ -42,14 +43,14 @@ inner code body more left rest h k = subst (λ xs. Stands (code ++ rest) (Lines 
 past : {A : Type 0} (code rest : List A) → drop (length code) (code ++ rest) ≡ rest
 past code rest = drop_at code rest (length code) refl
 
-pub codes_branch : (t : Test) (k : _) (a : _) (code : List Line) (passed : ℕ) → passed ≡ length code → Codes code (items-the_row-Statement _ a) → Codes (If t passed ∷ code) (tree.If' t k a ∷ [])
+pub codes_branch : (t : Bor Test) (k : _) (a : _) (code : List Line) (passed : ℕ) → passed ≡ length code → Codes code (items-the_row-Statement _ a) → Codes (If t passed ∷ code) (tree.If' t.now k a ∷ [])
 codes_branch t k a code passed e h = record {
   by = λ rest more left g.
       branch (inner code (items-the_row-Statement _ a) more left rest h g)
       (subst (λ ls. Stands ls (Lines more ∷ left)) (sym (ap (λ i. drop i (code ++ rest)) e ∙ past code rest)) g);
 }
 
-pub codes_branches : (t : Test) (k : _) (a : _) (j : _) (b : _) (one two : List Line) (first second : ℕ) → first ≡ length one + 1 → second ≡ length two → Codes one (items-the_row-Statement _ a) → Codes two (items-the_row-Statement _ b) → Codes (If t first ∷ (one ++ Else second ∷ two)) (tree.IfElse' t k a j b ∷ [])
+pub codes_branches : (t : Bor Test) (k : _) (a : _) (j : _) (b : _) (one two : List Line) (first second : ℕ) → first ≡ length one + 1 → second ≡ length two → Codes one (items-the_row-Statement _ a) → Codes two (items-the_row-Statement _ b) → Codes (If t first ∷ (one ++ Else second ∷ two)) (tree.IfElse' t.now k a j b ∷ [])
 codes_branches t k a j b one two first second e f h g = record {
   by = λ rest more left x.
       let other : Stands (two ++ rest) (Lines (items-the_row-Statement _ b) ∷ Lines more ∷ left) = inner two (items-the_row-Statement _ b) more left rest g x in
@@ -67,7 +68,7 @@ codes_branches t k a j b one two first second e f h g = record {
 whole : (code : List Line) (body : List Statement) (rest : List Line) → Codes code body → Stands (code ++ End ∷ rest) (Lines body ∷ [])
 whole code body rest h = subst (λ xs. Stands (code ++ End ∷ rest) (Lines xs ∷ [])) (append-nil body) (h.by (End ∷ rest) [] [] end)
 
-pub codes_loop : (t : Test) (k : _) (a : _) (code : List Line) (passed : ℕ) → passed ≡ length code + 1 → Codes code (items-the_row-Statement _ a) → Codes (While t passed ∷ (code ++ End ∷ [])) (tree.While' t k a ∷ [])
+pub codes_loop : (t : Bor Test) (k : _) (a : _) (code : List Line) (passed : ℕ) → passed ≡ length code + 1 → Codes code (items-the_row-Statement _ a) → Codes (While t passed ∷ (code ++ End ∷ [])) (tree.While' t.now k a ∷ [])
 codes_loop t k a code passed e h = record {
   by = λ rest more left x.
       let all : (code ++ End ∷ []) ++ rest ≡ code ++ End ∷ rest = append_assoc code (End ∷ []) rest in
@@ -158,7 +159,7 @@ block_length : (old a b code : List Line) (first : Line) → a ≡ old ++ first 
 block_length old a b code first f g =
     omega (arith, ap length f, length-append old (first ∷ []), ap length g, length-append a code)
 
-pub put_branch : (old a b c : List Line) (statement : Statement) (body : List Statement) (t : Test) (k : _) (row : _) (from passed : ℕ) → statement ≡ tree.If' t k row → items-the_row-Statement _ row ≡ body → from ≡ length old → a ≡ old ++ If t 0 ∷ [] → IsPut body a b → passed ≡ length b - from - 1 → c ≡ slice_set b from (If t passed) → IsPut (statement ∷ []) old c
+pub put_branch : (old a b c : List Line) (statement : Statement) (body : List Statement) (t : Bor Test) (k : _) (row : _) (from passed : ℕ) → statement ≡ tree.If' t.now k row → items-the_row-Statement _ row ≡ body → from ≡ length old → a ≡ old ++ If t 0 ∷ [] → IsPut body a b → passed ≡ length b - from - 1 → c ≡ slice_set b from (If t passed) → IsPut (statement ∷ []) old c
 put_branch old a b c statement body t k row from passed is same e f h count g =
     let code = h.0 in
     let long : passed ≡ length code = omega (arith, count, block_length old a b code (If t 0) f h.1, e) in (
@@ -167,7 +168,7 @@ put_branch old a b c statement body t k row from passed is same e f h count g =
       subst (λ x. Codes (If t passed ∷ code) (x ∷ [])) (sym is) (codes_branch t k row code passed long (subst (λ xs. Codes code xs) (sym same) h.2)),
     )
 
-pub put_loop : (old a b c d : List Line) (statement : Statement) (body : List Statement) (t : Test) (k : _) (row : _) (from passed : ℕ) → statement ≡ tree.While' t k row → items-the_row-Statement _ row ≡ body → from ≡ length old → a ≡ old ++ While t 0 ∷ [] → IsPut body a b → c ≡ b ++ End ∷ [] → passed ≡ length c - from - 1 → d ≡ slice_set c from (While t passed) → IsPut (statement ∷ []) old d
+pub put_loop : (old a b c d : List Line) (statement : Statement) (body : List Statement) (t : Bor Test) (k : _) (row : _) (from passed : ℕ) → statement ≡ tree.While' t.now k row → items-the_row-Statement _ row ≡ body → from ≡ length old → a ≡ old ++ While t 0 ∷ [] → IsPut body a b → c ≡ b ++ End ∷ [] → passed ≡ length c - from - 1 → d ≡ slice_set c from (While t passed) → IsPut (statement ∷ []) old d
 put_loop old a b c d statement body t k row from passed is same e f h last count g =
     let code = h.0 ++ End ∷ [] in
     let all : c ≡ a ++ code = last ∙ ap (λ ls. ls ++ End ∷ []) h.1 ∙ append_assoc a h.0 (End ∷ []) in
@@ -177,7 +178,7 @@ put_loop old a b c d statement body t k row from passed is same e f h last count
       subst (λ x. Codes (While t passed ∷ code) (x ∷ [])) (sym is) (codes_loop t k row h.0 passed long (subst (λ xs. Codes h.0 xs) (sym same) h.2)),
     )
 
-pub put_branches : (old a b c d e f : List Line) (statement : Statement) (first second : List Statement) (t : Test) (k : _) (row : _) (j : _) (other : _) (from middle passed skipped : ℕ) → statement ≡ tree.IfElse' t k row j other → items-the_row-Statement _ row ≡ first → items-the_row-Statement _ other ≡ second → from ≡ length old → a ≡ old ++ If t 0 ∷ [] → IsPut first a b → middle ≡ length b → c ≡ b ++ Else 0 ∷ [] → IsPut second c d → passed ≡ length d - middle - 1 → e ≡ slice_set d middle (Else passed) → skipped ≡ middle - from → f ≡ slice_set e from (If t skipped) → IsPut (statement ∷ []) old f
+pub put_branches : (old a b c d e f : List Line) (statement : Statement) (first second : List Statement) (t : Bor Test) (k : _) (row : _) (j : _) (other : _) (from middle passed skipped : ℕ) → statement ≡ tree.IfElse' t.now k row j other → items-the_row-Statement _ row ≡ first → items-the_row-Statement _ other ≡ second → from ≡ length old → a ≡ old ++ If t 0 ∷ [] → IsPut first a b → middle ≡ length b → c ≡ b ++ Else 0 ∷ [] → IsPut second c d → passed ≡ length d - middle - 1 → e ≡ slice_set d middle (Else passed) → skipped ≡ middle - from → f ≡ slice_set e from (If t skipped) → IsPut (statement ∷ []) old f
 put_branches old a b c d e f statement first second t k row j other from middle passed skipped is same one at begin h mid over g count set skip done =
     let code = h.0 ++ Else passed ∷ g.0 in
     let inner_set : e ≡ b ++ Else passed ∷ g.0 = block_set b c d e g.0 (Else 0) (Else passed) middle mid over g.1 set in
@@ -218,14 +219,14 @@ abbrev pub IsLoopOf : Statement → Test → List Statement → Type 0
 IsLoopOf (tree.While' u k a) t body = (u ≡ t) × (items-the_row-Statement _ a ≡ body)
 IsLoopOf statement t body = ⊥
 
-pub put_if : (old a b c : List Line) (statement : Statement) (body : List Statement) (t : Test) (from passed : ℕ) → IsIf statement t body → from ≡ length old → a ≡ old ++ If t 0 ∷ [] → IsPut body a b → passed ≡ length b - from - 1 → c ≡ slice_set b from (If t passed) → IsPut (statement ∷ []) old c
+pub put_if : (old a b c : List Line) (statement : Statement) (body : List Statement) (t : Bor Test) (from passed : ℕ) → IsIf statement t.now body → from ≡ length old → a ≡ old ++ If t 0 ∷ [] → IsPut body a b → passed ≡ length b - from - 1 → c ≡ slice_set b from (If t passed) → IsPut (statement ∷ []) old c
 put_if old a b c (tree.If' u k row) body t from passed i = put_branch old a b c (tree.If' u k row) body t k row from passed (ap (λ x. tree.If' x k row) i.0) i.1
 put_if old a b c statement body t from passed i = absurd i
 
-pub put_while : (old a b c d : List Line) (statement : Statement) (body : List Statement) (t : Test) (from passed : ℕ) → IsLoopOf statement t body → from ≡ length old → a ≡ old ++ While t 0 ∷ [] → IsPut body a b → c ≡ b ++ End ∷ [] → passed ≡ length c - from - 1 → d ≡ slice_set c from (While t passed) → IsPut (statement ∷ []) old d
+pub put_while : (old a b c d : List Line) (statement : Statement) (body : List Statement) (t : Bor Test) (from passed : ℕ) → IsLoopOf statement t.now body → from ≡ length old → a ≡ old ++ While t 0 ∷ [] → IsPut body a b → c ≡ b ++ End ∷ [] → passed ≡ length c - from - 1 → d ≡ slice_set c from (While t passed) → IsPut (statement ∷ []) old d
 put_while old a b c d (tree.While' u k row) body t from passed i = put_loop old a b c d (tree.While' u k row) body t k row from passed (ap (λ x. tree.While' x k row) i.0) i.1
 put_while old a b c d statement body t from passed i = absurd i
 
-pub put_if_else : (old a b c d e f : List Line) (statement : Statement) (first second : List Statement) (t : Test) (from middle passed skipped : ℕ) → IsIfElse statement t first second → from ≡ length old → a ≡ old ++ If t 0 ∷ [] → IsPut first a b → middle ≡ length b → c ≡ b ++ Else 0 ∷ [] → IsPut second c d → passed ≡ length d - middle - 1 → e ≡ slice_set d middle (Else passed) → skipped ≡ middle - from → f ≡ slice_set e from (If t skipped) → IsPut (statement ∷ []) old f
+pub put_if_else : (old a b c d e f : List Line) (statement : Statement) (first second : List Statement) (t : Bor Test) (from middle passed skipped : ℕ) → IsIfElse statement t.now first second → from ≡ length old → a ≡ old ++ If t 0 ∷ [] → IsPut first a b → middle ≡ length b → c ≡ b ++ Else 0 ∷ [] → IsPut second c d → passed ≡ length d - middle - 1 → e ≡ slice_set d middle (Else passed) → skipped ≡ middle - from → f ≡ slice_set e from (If t skipped) → IsPut (statement ∷ []) old f
 put_if_else old a b c d e f (tree.IfElse' u k row j other) first second t from middle passed skipped i = put_branches old a b c d e f (tree.IfElse' u k row j other) first second t k row j other from middle passed skipped (ap (λ x. tree.IfElse' x k row j other) i.0) i.1 i.2
 put_if_else old a b c d e f statement first second t from middle passed skipped i = absurd i

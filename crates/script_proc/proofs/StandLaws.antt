@@ -1,6 +1,7 @@
 -- What the lines that come next say of the pieces that they stand for.
 use Rattle.std.proofs.Common.{◌≡◌, ℕ, zero, suc, ◌+◌, ◌<◌, ◌≤◌, min, Bool, true, false, List, [], ◌∷◌, ◌++◌, length, drop, Some, None, refl, sym, ap, ◌∙◌, arith, add-one, drop-drop}
 use Rattle.std.specs.Prelude.{slice_get, if◌then◌else◌}
+use Rattle.std.specs.Borrow.{Bor}
 use Rattle.std.proofs.lemmas.List.{drop_all}
 use Rattle.script_tree.specs.declared.operand.Letter.{Letter}
 use Rattle.script_tree.specs.declared.operand.Operand.{Operand}
@@ -60,9 +61,9 @@ IsSimple End = ⊥
 IsSimple line = Unit {0}
 
 -- a line that isn't one of the others puts items above the others
-pub is_slow : (line : Line) → ((t : Test) (k : ℕ) → line ≡ If t k → ⊥) → ((k : ℕ) → line ≡ Else k → ⊥) → (line ≡ End → ⊥) → ((c : CallStatement) → line ≡ Call c → ⊥) → ((x : Letter) (e : Operand) → line ≡ Let x e → ⊥) → ((x : Letter) (e : Operand) (op : Operator) (f : Operand) → line ≡ Compute x e op f → ⊥) → IsSlow line
+pub is_slow : (line : Line) → ((t : Bor Test) (k : ℕ) → line ≡ If t k → ⊥) → ((k : ℕ) → line ≡ Else k → ⊥) → (line ≡ End → ⊥) → ((c : Bor CallStatement) → line ≡ Call c → ⊥) → ((x : Letter) (e : Bor Operand) → line ≡ Let x e → ⊥) → ((x : Letter) (op : Operator) (e f : Bor Operand) → line ≡ Compute x op e f → ⊥) → IsSlow line
 is_slow (Let x e) a b c d f g = f x e refl
-is_slow (Compute x e op y) a b c d f g = g x e op y refl
+is_slow (Compute x op e y) a b c d f g = g x op e y refl
 is_slow (If t k) a b c d f g = a t k refl
 is_slow (Else k) a b c d f g = b k refl
 is_slow End a b c d f g = c refl
@@ -70,7 +71,7 @@ is_slow (Call k) a b c d f g = d k refl
 is_slow line a b c d f g = tt
 
 -- of these lines all but two begin a compound or a `sleep`
-pub slow_compound : (line : Line) → IsSlow line → ((t : Test) (k : ℕ) → line ≡ While t k → ⊥) → ((e : Operand) → line ≡ Return e → ⊥) → IsSimple line × IsCompound line
+pub slow_compound : (line : Line) → IsSlow line → ((t : Bor Test) (k : ℕ) → line ≡ While t k → ⊥) → ((e : Bor Operand) → line ≡ Return e → ⊥) → IsSimple line × IsCompound line
 slow_compound (While t k) h a b = absurd (a t k refl)
 slow_compound (Return e) h a b = absurd (b e refl)
 slow_compound (Sleep e) h a b = (tt, tt)
@@ -82,20 +83,20 @@ slow_compound line h a b = absurd h
 
 -- it says a statement
 pub says : (line : Line) → IsSimple line → (line' : Statement) × Says line line'
-says (Let x e) h = (tree.Let x e, refl)
-says (Compute x e op f) h = (tree.Compute x e op f, refl)
-says (Return e) h = (tree.Return e, refl)
-says (Call c) h = (tree.Call c, refl)
-says (Sleep e) h = (tree.Sleep e, refl)
-says (Create c) h = (tree.Create c, refl)
-says (Destroy e) h = (tree.Destroy e, refl)
-says (Compound c) h = (tree.Compound c, refl)
+says (Let x e) h = (tree.Let x e.now, refl)
+says (Compute x op e f) h = (tree.Compute x e.now op f.now, refl)
+says (Return e) h = (tree.Return e.now, refl)
+says (Call c) h = (tree.Call c.now, refl)
+says (Sleep e) h = (tree.Sleep e.now, refl)
+says (Create c) h = (tree.Create c.now, refl)
+says (Destroy e) h = (tree.Destroy e.now, refl)
+says (Compound c) h = (tree.Compound c.now, refl)
 says Default h = (tree.Default, refl)
 says line h = absurd h
 
 pub said_weight : (line : Line) (line' : Statement) → Says line line' → weight line' ≡ 3
 said_weight (Let x e) line' h = ap weight h
-said_weight (Compute x e op f) line' h = ap weight h
+said_weight (Compute x op e f) line' h = ap weight h
 said_weight (Return e) line' h = ap weight h
 said_weight (Call c) line' h = ap weight h
 said_weight (Sleep e) line' h = ap weight h
@@ -174,29 +175,29 @@ module _ (s : Tree) (n : ℕ) where
   one_goes line more under left v ps h =
       keeps_on _ _ _ _ _ _ (by_step (Lines (line ∷ more)) (under ++ left) (Going v) (One line ∷ Lines more ∷ []) (Going v) refl) (by_step (One line) (Lines more ∷ under ++ left) (Going v) ps (Going v) h)
 
-  pub then_goes : {t : Test} {passed : ℕ} {rest : List Line} {qs : List Piece} (left : List Piece) (v : Variables) → holds t v ≡ true → Stands (If t passed ∷ rest) qs → (rs : List Piece) × Stands rest rs × Keeps s (qs ++ left) (Going v) (rs ++ left) (Going v) n
+  pub then_goes : {t : Bor Test} {passed : ℕ} {rest : List Line} {qs : List Piece} (left : List Piece) (v : Variables) → holds t.now v ≡ true → Stands (If t passed ∷ rest) qs → (rs : List Piece) × Stands rest rs × Keeps s (qs ++ left) (Going v) (rs ++ left) (Going v) n
   then_goes left v y (alone d h) = absurd d
   then_goes left v y (branch {t = t} {k = k} {a = a} {more = more} {left = under} h g) =
-      (Lines (items-the_row-Statement _ a) ∷ Lines more ∷ under, h, one_goes (tree.If' t k a) more under left v (Lines (items-the_row-Statement _ a) ∷ []) (choose (Becomes (Lines (items-the_row-Statement _ a) ∷ []) (Going v)) (passes (Going v)) (holds t v) true y))
+      (Lines (items-the_row-Statement _ a) ∷ Lines more ∷ under, h, one_goes (tree.If' t.now k a) more under left v (Lines (items-the_row-Statement _ a) ∷ []) (choose (Becomes (Lines (items-the_row-Statement _ a) ∷ []) (Going v)) (passes (Going v)) (holds t.now v) true y))
   then_goes left v y (branches {t = t} {k = k} {a = a} {j = j} {b = b} {more = more} {left = under} h g) =
-      (Lines (items-the_row-Statement _ a) ∷ Lines more ∷ under, h, one_goes (tree.IfElse' t k a j b) more under left v (Lines (items-the_row-Statement _ a) ∷ []) (ap (λ z. Becomes (Lines (if z then items-the_row-Statement _ a else items-the_row-Statement _ b) ∷ []) (Going v)) y))
+      (Lines (items-the_row-Statement _ a) ∷ Lines more ∷ under, h, one_goes (tree.IfElse' t.now k a j b) more under left v (Lines (items-the_row-Statement _ a) ∷ []) (ap (λ z. Becomes (Lines (if z then items-the_row-Statement _ a else items-the_row-Statement _ b) ∷ []) (Going v)) y))
   then_goes left v y (out {left = under} h) = let r = then_goes left v y h in (r.0, r.1, ends (under ++ left) _ v (Going v) r.2)
 
-  pub otherwise_goes : {t : Test} {passed : ℕ} {rest : List Line} {qs : List Piece} (left : List Piece) (v : Variables) → holds t v ≡ false → Stands (If t passed ∷ rest) qs → (rs : List Piece) × Stands (drop passed rest) rs × Keeps s (qs ++ left) (Going v) (rs ++ left) (Going v) n
+  pub otherwise_goes : {t : Bor Test} {passed : ℕ} {rest : List Line} {qs : List Piece} (left : List Piece) (v : Variables) → holds t.now v ≡ false → Stands (If t passed ∷ rest) qs → (rs : List Piece) × Stands (drop passed rest) rs × Keeps s (qs ++ left) (Going v) (rs ++ left) (Going v) n
   otherwise_goes left v y (alone d h) = absurd d
   otherwise_goes left v y (branch {t = t} {k = k} {a = a} {more = more} {left = under} h g) =
-      (Lines more ∷ under, g, one_goes (tree.If' t k a) more under left v [] (choose (Becomes (Lines (items-the_row-Statement _ a) ∷ []) (Going v)) (passes (Going v)) (holds t v) false y))
+      (Lines more ∷ under, g, one_goes (tree.If' t.now k a) more under left v [] (choose (Becomes (Lines (items-the_row-Statement _ a) ∷ []) (Going v)) (passes (Going v)) (holds t.now v) false y))
   otherwise_goes left v y (branches {t = t} {k = k} {a = a} {j = j} {b = b} {more = more} {left = under} h g) =
-      (Lines (items-the_row-Statement _ b) ∷ Lines more ∷ under, g, one_goes (tree.IfElse' t k a j b) more under left v (Lines (items-the_row-Statement _ b) ∷ []) (ap (λ z. Becomes (Lines (if z then items-the_row-Statement _ a else items-the_row-Statement _ b) ∷ []) (Going v)) y))
+      (Lines (items-the_row-Statement _ b) ∷ Lines more ∷ under, g, one_goes (tree.IfElse' t.now k a j b) more under left v (Lines (items-the_row-Statement _ b) ∷ []) (ap (λ z. Becomes (Lines (if z then items-the_row-Statement _ a else items-the_row-Statement _ b) ∷ []) (Going v)) y))
   otherwise_goes left v y (out {left = under} h) = let r = otherwise_goes left v y h in (r.0, r.1, ends (under ++ left) _ v (Going v) r.2)
 
 -- the lines behind a `while` are its pass, and stand for what is behind it
-pub data IsWhile (t : Test) (passed : ℕ) (rest : List Line) : Statement → List Piece → Type 0 where
-  is_while : {k : _} {a : _} {left : List Piece} → Stands rest (Lines (items-the_row-Statement _ a) ∷ []) → Stands (drop passed rest) left → IsWhile t passed rest (tree.While' t k a) left
+pub data IsWhile (t : Bor Test) (passed : ℕ) (rest : List Line) : Statement → List Piece → Type 0 where
+  is_while : {k : _} {a : _} {left : List Piece} → Stands rest (Lines (items-the_row-Statement _ a) ∷ []) → Stands (drop passed rest) left → IsWhile t passed rest (tree.While' t.now k a) left
 
 module _ (s : Tree) (n : ℕ) where
-  pub while_comes : {t : Test} {passed : ℕ} {rest : List Line} {qs : List Piece} (left : List Piece) (v : Variables) → Stands (While t passed ∷ rest) qs → (line : Statement) × (rs : List Piece) × IsWhile t passed rest line rs × Keeps s (qs ++ left) (Going v) (One line ∷ rs ++ left) (Going v) n
+  pub while_comes : {t : Bor Test} {passed : ℕ} {rest : List Line} {qs : List Piece} (left : List Piece) (v : Variables) → Stands (While t passed ∷ rest) qs → (line : Statement) × (rs : List Piece) × IsWhile t passed rest line rs × Keeps s (qs ++ left) (Going v) (One line ∷ rs ++ left) (Going v) n
   while_comes left v (alone d h) = absurd d
   while_comes left v (loop {t = t} {k = k} {a = a} {more = more} {left = under} h g) =
-      (tree.While' t k a, Lines more ∷ under, is_while h g, by_step s n (Lines (tree.While' t k a ∷ more)) (under ++ left) (Going v) (One (tree.While' t k a) ∷ Lines more ∷ []) (Going v) refl)
+      (tree.While' t.now k a, Lines more ∷ under, is_while h g, by_step s n (Lines (tree.While' t.now k a ∷ more)) (under ++ left) (Going v) (One (tree.While' t.now k a) ∷ Lines more ∷ []) (Going v) refl)
   while_comes left v (out {left = under} h) = let r = while_comes left v h in (r.0, r.1, r.2, ends s n (under ++ left) _ v (Going v) r.3)

@@ -1,6 +1,7 @@
 -- The pieces that a worker's items stand for.
 use Rattle.std.specs.Prelude.{◌≡◌, ℕ, suc, ◌+◌, List, [], ◌∷◌, ◌++◌, Option, Some, None, Bool, true, false, not, if◌then◌else◌, drop, slice_get}
 use Rattle.std.specs.List.{fold}
+use Rattle.std.specs.Borrow.{Bor}
 use Rattle.user_model.specs.declared.call.Call.{Call}
 use Rattle.user_model.specs.declared.call.Call.TheVariants.{Leave}
 use Rattle.user_model.specs.declared.entry.Answer.{Answer}
@@ -48,7 +49,7 @@ piece (FeedItem q) = Feed q
 
 -- the lines from a place on are that `while`, its pass, and what is behind it
 pub data IsLoop (p : Program) (at : ℕ) : Statement → List Piece → Type 0 where
-  loops : {t : Test} {passed : ℕ} {k : _} {a : _} {left : List Piece} → slice_get p.lines.items at ≡ Some (While t passed) → Stands (lines_at p (at + 1)) (Lines (items-the_row-Statement _ a) ∷ []) → Stands (drop passed (lines_at p (at + 1))) left → IsLoop p at (tree.While' t k a) left
+  loops : {t : Bor Test} {passed : ℕ} {k : _} {a : _} {left : List Piece} → slice_get p.lines.items at ≡ Some (While t passed) → Stands (lines_at p (at + 1)) (Lines (items-the_row-Statement _ a) ∷ []) → Stands (drop passed (lines_at p (at + 1))) left → IsLoop p at (tree.While' t.now k a) left
 
 -- the pieces that an item stands for: one that has a place in the program stands for all pieces up to the end of its pass or body
 abbrev pub Covers : Program → Item → List Piece → Type 0

@@ -1,4 +1,5 @@
 -- What the lines of a program stand for.
+use Rattle.std.specs.Borrow.{Bor}
 use Rattle.std.specs.Prelude.{◌≡◌, ℕ, ◌-◌, List, [], ◌∷◌, ◌++◌, Some, drop, slice_get, unwrap_or}
 use Rattle.script_tree.specs.declared.statement.Statement.{Statement, items-the_row-Statement}
 use Rattle.script_tree.specs.declared.statement.Statement.TheVariants as tree
@@ -18,14 +19,14 @@ IsAlone line = Unit {0}
 
 -- the line says that statement, which has no body
 abbrev pub Says : Line → Statement → Type 0
-Says (Let x e) line = line ≡ tree.Let x e
-Says (Compute x e op f) line = line ≡ tree.Compute x e op f
-Says (Return e) line = line ≡ tree.Return e
-Says (Call c) line = line ≡ tree.Call c
-Says (Sleep e) line = line ≡ tree.Sleep e
-Says (Create c) line = line ≡ tree.Create c
-Says (Destroy e) line = line ≡ tree.Destroy e
-Says (Compound c) line = line ≡ tree.Compound c
+Says (Let x e) line = line ≡ tree.Let x e.now
+Says (Compute x op e f) line = line ≡ tree.Compute x e.now op f.now
+Says (Return e) line = line ≡ tree.Return e.now
+Says (Call c) line = line ≡ tree.Call c.now
+Says (Sleep e) line = line ≡ tree.Sleep e.now
+Says (Create c) line = line ≡ tree.Create c.now
+Says (Destroy e) line = line ≡ tree.Destroy e.now
+Says (Compound c) line = line ≡ tree.Compound c.now
 Says Default line = line ≡ tree.Default
 Says border line = ⊥
 
@@ -49,11 +50,11 @@ pub data Stands : List Line → List Piece → Type 0 where
   -- a statement without a body
   alone : {line : Line} {rest : List Line} {statement : Statement} {more : List Statement} {left : List Piece} → Says line statement → Stands rest (Lines more ∷ left) → Stands (line ∷ rest) (Lines (statement ∷ more) ∷ left)
   -- an `if`: its body comes next, and what is behind it stands behind as many lines as are passed over
-  branch : {t : Test} {passed : ℕ} {k : _} {a : _} {rest : List Line} {more : List Statement} {left : List Piece} → Stands rest (Lines (items-the_row-Statement _ a) ∷ Lines more ∷ left) → Stands (drop passed rest) (Lines more ∷ left) → Stands (If t passed ∷ rest) (Lines (tree.If' t k a ∷ more) ∷ left)
+  branch : {t : Bor Test} {passed : ℕ} {k : _} {a : _} {rest : List Line} {more : List Statement} {left : List Piece} → Stands rest (Lines (items-the_row-Statement _ a) ∷ Lines more ∷ left) → Stands (drop passed rest) (Lines more ∷ left) → Stands (If t passed ∷ rest) (Lines (tree.If' t.now k a ∷ more) ∷ left)
   -- an `if` with an `else`: its other body stands behind as many lines as are passed over
-  branches : {t : Test} {passed : ℕ} {k : _} {a : _} {j : _} {b : _} {rest : List Line} {more : List Statement} {left : List Piece} → Stands rest (Lines (items-the_row-Statement _ a) ∷ Lines more ∷ left) → Stands (drop passed rest) (Lines (items-the_row-Statement _ b) ∷ Lines more ∷ left) → Stands (If t passed ∷ rest) (Lines (tree.IfElse' t k a j b ∷ more) ∷ left)
+  branches : {t : Bor Test} {passed : ℕ} {k : _} {a : _} {j : _} {b : _} {rest : List Line} {more : List Statement} {left : List Piece} → Stands rest (Lines (items-the_row-Statement _ a) ∷ Lines more ∷ left) → Stands (drop passed rest) (Lines (items-the_row-Statement _ b) ∷ Lines more ∷ left) → Stands (If t passed ∷ rest) (Lines (tree.IfElse' t.now k a j b ∷ more) ∷ left)
   -- a `while`: a pass comes next, and what is behind it stands behind as many lines as are passed over
-  loop : {t : Test} {passed : ℕ} {k : _} {a : _} {rest : List Line} {more : List Statement} {left : List Piece} → Stands rest (Lines (items-the_row-Statement _ a) ∷ []) → Stands (drop passed rest) (Lines more ∷ left) → Stands (While t passed ∷ rest) (Lines (tree.While' t k a ∷ more) ∷ left)
+  loop : {t : Bor Test} {passed : ℕ} {k : _} {a : _} {rest : List Line} {more : List Statement} {left : List Piece} → Stands rest (Lines (items-the_row-Statement _ a) ∷ []) → Stands (drop passed rest) (Lines more ∷ left) → Stands (While t passed ∷ rest) (Lines (tree.While' t.now k a ∷ more) ∷ left)
   -- at the end of a branch what is behind its `if` comes next
   out : {lines : List Line} {left : List Piece} → Stands lines left → Stands lines (Lines [] ∷ left)
   -- at the `else` what is behind the `if` stands behind as many lines as are passed over

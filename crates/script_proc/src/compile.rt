@@ -8,21 +8,21 @@ use script_tree::{Body, Procedure, Statement};
 use std::alloc::{AllocError, Global};
 
 /// The line of a statement without a body.
-fn alone(statement: &Statement) -> Line
+fn alone<'s>(statement: &'s Statement) -> Line<'s>
     requires { IsAlone statement.now }
     ensures { Says result statement.now }
 {
     match statement {
-        Statement::Let(letter, value) => Line::Let(*letter, *value),
+        Statement::Let(letter, value) => Line::Let(*letter, value),
         Statement::Compute(letter, left, operator, right) => {
-            Line::Compute(*letter, *left, *operator, *right)
+            Line::Compute(*letter, *operator, left, right)
         }
-        Statement::Return(value) => Line::Return(*value),
-        Statement::Call(call) => Line::Call(*call),
-        Statement::Sleep(time) => Line::Sleep(*time),
-        Statement::Create(creation) => Line::Create(*creation),
-        Statement::Destroy(window) => Line::Destroy(*window),
-        Statement::Compound(compound) => Line::Compound(*compound),
+        Statement::Return(value) => Line::Return(value),
+        Statement::Call(call) => Line::Call(call),
+        Statement::Sleep(time) => Line::Sleep(time),
+        Statement::Create(creation) => Line::Create(creation),
+        Statement::Destroy(window) => Line::Destroy(window),
+        Statement::Compound(compound) => Line::Compound(compound),
         Statement::Default => Line::Default,
         _ => unreachable!(),
     }
@@ -30,34 +30,34 @@ fn alone(statement: &Statement) -> Line
 
 /// Adds the lines of a statement.
 #[cycle(compile)]
-fn put_statement(statement: &Statement, lines: &mut Vec<Line>) -> Result<(), AllocError>
+fn put_statement<'s>(statement: &'s Statement, lines: &mut Vec<Line<'s>>) -> Result<(), AllocError>
     ensures put { OnOk result (IsPut (statement.now ∷ []) lines.old.items lines.new.items) }
     ensures grows { vec_len lines.old ≤ vec_len lines.new }
 {
     let from = lines.len();
     match statement {
         Statement::If(test, body) => {
-            lines.push(Line::If(*test, 0))?;
+            lines.push(Line::If(test, 0))?;
             put_body(body, lines)?;
             let passed = lines.len() - from - 1;
-            lines[from] = Line::If(*test, passed);
+            lines[from] = Line::If(test, passed);
         }
         Statement::IfElse(test, first, second) => {
-            lines.push(Line::If(*test, 0))?;
+            lines.push(Line::If(test, 0))?;
             put_body(first, lines)?;
             let middle = lines.len();
             lines.push(Line::Else(0))?;
             put_body(second, lines)?;
             let passed = lines.len() - middle - 1;
             lines[middle] = Line::Else(passed);
-            lines[from] = Line::If(*test, middle - from);
+            lines[from] = Line::If(test, middle - from);
         }
         Statement::While(test, body) => {
-            lines.push(Line::While(*test, 0))?;
+            lines.push(Line::While(test, 0))?;
             put_body(body, lines)?;
             lines.push(Line::End)?;
             let passed = lines.len() - from - 1;
-            lines[from] = Line::While(*test, passed);
+            lines[from] = Line::While(test, passed);
         }
         _ => lines.push(alone(statement))?,
     }
@@ -66,7 +66,7 @@ fn put_statement(statement: &Statement, lines: &mut Vec<Line>) -> Result<(), All
 
 /// Adds the lines of statements.
 #[cycle(compile)]
-fn put_body(statements: &[Statement], lines: &mut Vec<Line>) -> Result<(), AllocError>
+fn put_body<'s>(statements: &'s [Statement], lines: &mut Vec<Line<'s>>) -> Result<(), AllocError>
     ensures put { OnOk result (IsPut statements.now lines.old.items lines.new.items) }
     ensures grows { vec_len lines.old ≤ vec_len lines.new }
 {
@@ -76,22 +76,26 @@ fn put_body(statements: &[Statement], lines: &mut Vec<Line>) -> Result<(), Alloc
     Ok(())
 }
 
-/// Adds the lines of a whole body, and answers where it begins.
-fn put_whole(statements: &[Statement], lines: &mut Vec<Line>) -> Result<usize, AllocError>
+/// Adds the lines of a whole body, and answers where it begins. Room for as many lines as it has at least is taken at once.
+fn put_whole<'s>(
+    statements: &'s [Statement],
+    lines: &mut Vec<Line<'s>>,
+) -> Result<usize, AllocError>
     ensures begins { IfOk result (λ place. StartsAt lines.new.items place statements.now) }
     ensures grows { OnOk result (Grows lines.old.items lines.new.items) }
 {
     let place = lines.len();
+    lines.reserve(statements.len() + 1)?;
     put_body(statements, lines)?;
     lines.push(Line::End)?;
     Ok(place)
 }
 
 /// Adds the bodies of procedures, and answers where each begins.
-pub fn put_procedures(
+pub fn put_procedures<'s>(
     alloc: Global,
-    procedures: &[Procedure],
-    lines: &mut Vec<Line>,
+    procedures: &'s [Procedure],
+    lines: &mut Vec<Line<'s>>,
 ) -> Result<Vec<usize>, AllocError>
     ensures begin { IfOk result (λ places. EachStarts procedure_body lines.new.items places.items procedures.now) }
     ensures grows { OnOk result (Grows lines.old.items lines.new.items) }
@@ -105,10 +109,10 @@ pub fn put_procedures(
 }
 
 /// Adds the bodies of threads, and answers where each begins.
-pub fn put_threads(
+pub fn put_threads<'s>(
     alloc: Global,
-    threads: &[Body],
-    lines: &mut Vec<Line>,
+    threads: &'s [Body],
+    lines: &mut Vec<Line<'s>>,
 ) -> Result<Vec<usize>, AllocError>
     ensures begin { IfOk result (λ places. EachStarts itself lines.new.items places.items threads.now) }
     ensures grows { OnOk result (Grows lines.old.items lines.new.items) }

@@ -96,7 +96,7 @@ pub fn computes(
 /// The call of a statement, which settles what it is answered.
 #[inline(always)]
 pub fn called(statement: &CallStatement, variables: &Variables, call: &mut Call)
-    ensures { (line' : Statement) (n : ℕ) → Says (Line.Call statement.now) line' → Becomes (above (Item.Settle call.new ∷ Item.Making call.new ∷ [])) (Going variables.now) ≡ statement_of line' variables.now n }
+    ensures { (line' : Statement) (n : ℕ) → line' ≡ Statement.Call statement.now → Becomes (above (Item.Settle call.new ∷ Item.Making call.new ∷ [])) (Going variables.now) ≡ statement_of line' variables.now n }
 {
     put_call(statement, variables, call);
 }
@@ -147,7 +147,7 @@ pub fn statement(line: &Line, variables: &Variables) -> Few
     ensures plain { ArePlain (few_items result) }
     ensures step { (line' : Statement) (n : ℕ) → IsCompound line.now → Says line.now line' → Becomes (above (few_items result)) (Going variables.now) ≡ statement_of line' variables.now n }
 {
-    match line {
+    match *line {
         Line::Sleep(ms) => {
             let sleeping = Item::Sleeping(ms.value(variables));
             Few::Two(sleeping, Item::Making(Call::Clock))

@@ -104,15 +104,15 @@ pub fn quick_line(
         hand_nothing(mode);
         return Some(Next::Top);
     };
-    match line {
+    match *line {
         Line::If(test, passed) => {
             if test.holds(variables) {
                 Some(Next::Line(at + 1))
             } else {
-                Some(Next::Line(behind(at, *passed)))
+                Some(Next::Line(behind(at, passed)))
             }
         }
-        Line::Else(passed) => Some(Next::Line(behind(at, *passed))),
+        Line::Else(passed) => Some(Next::Line(behind(at, passed))),
         Line::End => {
             hand_nothing(mode);
             Some(Next::Top)
@@ -122,11 +122,11 @@ pub fn quick_line(
             Some(Next::Stating(at + 1))
         }
         Line::Let(letter, operand) => {
-            lets(*letter, operand, variables);
+            lets(letter, operand, variables);
             Some(Next::Line(at + 1))
         }
-        Line::Compute(letter, left, operator, right) => {
-            computes(*letter, left, *operator, right, variables);
+        Line::Compute(letter, operator, left, right) => {
+            computes(letter, left, operator, right, variables);
             Some(Next::Line(at + 1))
         }
         _ => None,
@@ -151,9 +151,9 @@ pub fn slow_line(
     let Some(line) = program.lines().get(at) else {
         return Next::Top;
     };
-    match line {
+    match *line {
         Line::While(test, passed) => {
-            Next::Line(while_at(items, at, test, *passed, variables, used))
+            Next::Line(while_at(items, at, test, passed, variables, used))
         }
         Line::Return(operand) => {
             returns(items, at, operand, variables, mode);
@@ -200,9 +200,9 @@ fn once(
     let Some(line) = program.lines().get(at) else {
         return Next::Top;
     };
-    match line {
+    match *line {
         Line::While(test, passed) => {
-            Next::Line(while_at(items, at, test, *passed, variables, used))
+            Next::Line(while_at(items, at, test, passed, variables, used))
         }
         _ => Next::Top,
     }
@@ -268,9 +268,9 @@ fn passes_again(
         drop_last(items);
         return Next::Top;
     };
-    match line {
+    match *line {
         Line::While(test, passed) => {
-            Next::Line(again_at(items, at, test, *passed, variables, used))
+            Next::Line(again_at(items, at, test, passed, variables, used))
         }
         _ => {
             drop_last(items);

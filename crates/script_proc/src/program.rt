@@ -9,41 +9,41 @@ use script_tree::{
 };
 use std::alloc::{AllocError, Global};
 
-/// A line of a program: a statement that stands alone, or the border of a block. A number says how many
-/// of the lines behind it are passed over.
+/// A line of a program: a statement that stands alone, or the border of a block. What it says it borrows from the
+/// script. A number says how many of the lines behind it are passed over.
 #[derive(Clone, Copy)]
-pub enum Line {
-    Let(Letter, Operand),
-    Compute(Letter, Operand, Operator, Operand),
+pub enum Line<'s> {
+    Let(Letter, &'s Operand),
+    Compute(Letter, Operator, &'s Operand, &'s Operand),
     /// An `if`: where the test fails, its first body is passed over.
-    If(Test, usize),
+    If(&'s Test, usize),
     /// Behind the first body of an `if`: the other body is passed over.
     Else(usize),
     /// A `while`: where the test fails, its body is passed over.
-    While(Test, usize),
+    While(&'s Test, usize),
     /// The end of a pass of a `while`, or of the body of a procedure or a thread.
     End,
-    Return(Operand),
-    Call(CallStatement),
-    Sleep(Operand),
-    Create(Creation),
-    Destroy(Operand),
-    Compound(CompoundStatement),
+    Return(&'s Operand),
+    Call(&'s CallStatement),
+    Sleep(&'s Operand),
+    Create(&'s Creation),
+    Destroy(&'s Operand),
+    Compound(&'s CompoundStatement),
     Default,
 }
 
-/// A script as one list of lines: the bodies of its procedures and threads, one behind the other.
+/// A script as one list of lines: the bodies of its procedures and threads, one behind the other. It borrows the script.
 #[derive(Drop)]
-pub struct Program {
+pub struct Program<'s> {
     budget: u32,
-    lines: Vec<Line>,
+    lines: Vec<Line<'s>>,
     procedures: Vec<usize>,
     threads: Vec<usize>,
 }
 
-impl Program {
+impl<'s> Program<'s> {
     /// The program of a script. `AllocError` comes only for want of memory.
-    pub fn new(alloc: Global, script: &Script) -> Result<Program, AllocError>
+    pub fn new(alloc: Global, script: &'s Script) -> Result<Program<'s>, AllocError>
         ensures { IfOk result (IsProgramOf script.now) }
     {
         let mut lines = Vec::new(alloc);
@@ -66,7 +66,7 @@ impl Program {
     }
 
     /// Its lines.
-    pub fn lines(&self) -> &[Line]
+    pub fn lines(&self) -> &[Line<'s>]
         ensures { result.now ≡ self.now.lines.items }
     {
         &self.lines

@@ -208,13 +208,13 @@ fn body_of(alloc: Global, thread: u8) -> Result<Body, AllocError> {
     }
 }
 
-fn program(alloc: Global) -> Result<Program, AllocError> {
+fn script(alloc: Global) -> Result<Script, AllocError> {
     let procedures = vec![in alloc; hands_on(alloc)?, named(alloc, Vec::new(alloc))?]?;
     let mut threads = Vec::new(alloc);
     for thread in 1..9 {
         threads.push(body_of(alloc, thread)?)?;
     }
-    let script = Script::new(
+    Ok(Script::new(
         8,
         4,
         100,
@@ -222,8 +222,7 @@ fn program(alloc: Global) -> Result<Program, AllocError> {
         Vec::new(alloc),
         procedures,
         threads,
-    );
-    Program::new(alloc, &script)
+    ))
 }
 
 fn got(number: u32, wparam: u64) -> Answer {
@@ -268,7 +267,8 @@ fn makes(
     thread: u8,
     wanted: &[(Call, Answer)],
 ) -> Result<(), AllocError> {
-    let program = program(alloc)?;
+    let script = script(alloc)?;
+    let program = Program::new(alloc, &script)?;
     let mut worker = Worker::new(alloc, &program, thread)?;
     for (call, answer) in wanted {
         assert!(rt; worker.used() < 100);

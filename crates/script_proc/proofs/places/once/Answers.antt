@@ -35,7 +35,7 @@ returns-in-While c mode call going =
     let found = ap (λ xs. slice_get xs c.args.at) (sym c.lines.ensures) ∙ slice_get_read c.lines.result.now _ c.args.at c.in-Some.line.now refl a.3.0 a.1 ∙ ap Some c.in-While.is in
     let short : length c.args.program.now.lines.items ≤ 2 ^ 64 - 1 = omega (arith, c.args.program.now.lines.ok) in
     let next = min (at + 1 + c.in-While.passed) (2 ^ 64 - 1) in
-    let few = if holds c.in-While.test v then PassEnd at n ∷ At (at + 1) ∷ [] else At next ∷ [] in
+    let few = if holds c.in-While.test.now v then PassEnd at n ∷ At (at + 1) ∷ [] else At next ∷ [] in
     record {
       below = below;
       item = Once at;

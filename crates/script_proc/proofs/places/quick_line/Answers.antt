@@ -136,5 +136,5 @@ returns-in-Compute-clause-quick c below n =
       few = At (at + 1) ∷ [];
       last = refl;
       put = refl;
-      moves = simple_moves p n at (Compute c.in-Compute.letter c.in-Compute.left c.in-Compute.operator c.in-Compute.right) [] (At (at + 1) ∷ []) v (Going c.computes.new.variables) found tt tt refl (λ line' k says. c.computes.ensures k ∙ ap (λ l. statement l v k) (sym says));
+      moves = simple_moves p n at (Compute c.in-Compute.letter c.in-Compute.operator c.in-Compute.left c.in-Compute.right) [] (At (at + 1) ∷ []) v (Going c.computes.new.variables) found tt tt refl (λ line' k says. c.computes.ensures k ∙ ap (λ l. statement l v k) (sym says));
     }
