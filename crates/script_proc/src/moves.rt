@@ -80,6 +80,7 @@ pub fn lets(letter: Letter, operand: &Operand, variables: &mut Variables)
 }
 
 /// A `let` of two operands and an operator.
+#[inline(always)]
 pub fn computes(
     letter: Letter,
     left: &Operand,
