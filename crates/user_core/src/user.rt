@@ -75,6 +75,7 @@ impl Machine for User {
 
     ghost past = { λ u. u.past };
 
+    #[inline(always)]
     fn step(&mut self, who: Thread, call: Call) -> Result<Answer, AllocError> {
         let mut entry = Entry {
             who,
