@@ -103,7 +103,7 @@ pub fn called(statement: &CallStatement, variables: &Variables, call: &mut Call)
 }
 
 /// Puts the call of a statement in its place. The most frequent calls are made there at once.
-#[inline(never)]
+#[inline(always)]
 fn put_call(statement: &CallStatement, variables: &Variables, call: &mut Call)
     ensures { call.new ≡ call_of statement.now variables.now }
 {
