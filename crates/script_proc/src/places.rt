@@ -279,6 +279,39 @@ fn passes_again(
     }
 }
 
+/// The end of a pass with an entry in it, where another pass comes: the place of its first line. None comes where
+/// something else is next, and then nothing has changed.
+#[inline(always)]
+pub fn quick_pass(
+    program: &Program,
+    items: &mut Vec<Item>,
+    variables: &Variables,
+    mode: &Mode,
+    used: u32,
+) -> Option<usize>
+    ensures quick { IfSome result (λ at. (call : Call) → Steps program.now used items.old.items (state_of variables.now mode.now) (with_next items.new.items call (Next.Line at)) (Going variables.now)) }
+    ensures slow { IfNone result (items.new.items ≡ items.old.items) }
+{
+    let Mode::Going = mode else {
+        return None;
+    };
+    let Some(Item::PassEnd(at, began)) = items.last() else {
+        return None;
+    };
+    let at = *at;
+    if used == *began {
+        return None;
+    }
+    let Some(Line::While(test, _)) = program.lines().get(at) else {
+        return None;
+    };
+    if !test.holds(variables) {
+        return None;
+    }
+    begin_pass(items, used);
+    Some(at + 1)
+}
+
 /// A procedure begins to run. The place of its first line.
 #[inline(never)]
 fn running(program: &Program, items: &mut Vec<Item>, run: Run, variables: &mut Variables) -> usize

@@ -9,7 +9,7 @@ ghost use Rattle.script_proc.specs.Programs.{IsProgramOf};
 ghost use Rattle.script_proc.specs.Items.{state_at, mode_at, with_next, call_if, IsNoLine, IsReady, KeepsAll};
 
 use crate::item::{Item, Mode, Next};
-use crate::places::{quick_line, slow_line, step};
+use crate::places::{quick_line, quick_pass, slow_line, step};
 use crate::program::Program;
 use crate::replies::{
     end_statement, follow, hands_on, is_asking, is_frequent, put_asked, separate,
@@ -204,18 +204,21 @@ fn settle(
                 take_room(items)?;
                 return Ok(true);
             }
-            Next::Top => {
-                *next = ahead;
-                take_room(items)?;
-                let Some(item) = items.last() else {
-                    return Ok(false);
-                };
-                if is_asking(item, mode) {
-                    put_asked(item, mode, call);
-                    return Ok(true);
+            Next::Top => match quick_pass(program, items, variables, mode, used) {
+                Some(at) => ahead = Next::Line(at),
+                None => {
+                    *next = ahead;
+                    take_room(items)?;
+                    let Some(item) = items.last() else {
+                        return Ok(false);
+                    };
+                    if is_asking(item, mode) {
+                        put_asked(item, mode, call);
+                        return Ok(true);
+                    }
+                    ahead = step(program, items, variables, mode, call, used);
                 }
-                ahead = step(program, items, variables, mode, call, used);
-            }
+            },
         }
     }
 }

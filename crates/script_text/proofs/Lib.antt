@@ -14,4 +14,5 @@ pub mod WholeTexts
 pub mod ReadAgain
 pub mod LinesTaken
 pub mod FirstBad
+pub mod FirstLines
 pub mod ReadWhole

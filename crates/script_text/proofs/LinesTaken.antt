@@ -1,8 +1,8 @@
 -- What lines say that were taken.
-use Rattle.std.proofs.Common.{◌≡◌, ℕ, ◌≤◌, ◌<◌, true, List, [], ◌∷◌, ◌++◌, length, take, drop, Option, Some, None, refl, ap, sym, ◌∙◌, arith, subst, length-drop}
+use Rattle.std.proofs.Common.{◌≡◌, ℕ, ◌≤◌, ◌<◌, true, List, [], ◌∷◌, ◌++◌, length, drop, Option, Some, None, refl, ap, sym, ◌∙◌, arith, length-drop}
 use Rattle.std.specs.Prelude.{map}
 use Rattle.std.specs.List.{zip}
-use Rattle.std.proofs.lemmas.List.{length-map, map-append, take-append-drop}
+use Rattle.std.proofs.lemmas.List.{length-map}
 use Rattle.std.proofs.lemmas.Option.{same_Some}
 use Rattle.script_tree.specs.declared.statement.Statement.{Statement}
 use Rattle.script_tree.specs.Tree.{ProcedureTree}
@@ -13,7 +13,7 @@ use Rattle.script_lines.specs.LineTexts.{joined}
 use Rattle.script_lines.specs.NameLimits.{are_procedures_in_order}
 use Rattle.script_lines.specs.Words.{line_words}
 use Rattle.script_text.specs.declared.reading.Program.{Program}
-use Rattle.script_text.specs.Grammar.{Stood, IsText, Begins, Front, rest_of, thread_count}
+use Rattle.script_text.specs.Grammar.{Stood, IsText, Front, rest_of, thread_count}
 use Rattle.script_text.specs.Limits.{IsScript}
 use Rattle.script_text.specs.Lines.{procedure_of}
 use Rattle.script_text.specs.Nesting.{Nest, nested_all, start}
@@ -118,13 +118,3 @@ module _ (bytes : List ℕ) (texts : List (List ℕ)) (known : Known) (lines : L
 
   pub script_is : rest_of bytes ≡ [] → texts_of bytes ≡ texts → length bytes ≤ 1048576 → IsScript (tree_at texts p)
   script_is none e short = fitting_script (tree_at texts p) bytes is_fitting (text_is none e) short
-
--- ---- through the code's slices
-
-module _ {R : Type 0} (read : R → List ℕ) (texts : List R) (i : ℕ) where
-  -- what begins with no script's lines is no script's
-  pub no_text : (Begins (map read (take i texts)) → ⊥) → IsText (map read texts) → ⊥
-  no_text bad t =
-      let all : map read texts ≡ map read (take i texts) ++ map read (drop i texts) = sym (ap (map read) (take-append-drop i texts)) ∙ map-append read (take i texts) (drop i texts) in
-      let P : List (List ℕ) → Type 0 = IsText in
-      bad (map read (drop i texts), subst P all t)

@@ -1,20 +1,20 @@
 -- From the slices of the code to the script that a text spells.
-use Rattle.std.proofs.Common.{◌≡◌, ℕ, ◌≤◌, ◌<◌, Bool, true, false, List, [], length, ap, sym, ◌∙◌, arith, subst}
-use Rattle.std.specs.Prelude.{map, ◌==◌, ◌&&◌, nat_lt}
+use Rattle.std.proofs.Common.{◌≡◌, ℕ, ◌≤◌, ◌<◌, Bool, true, false, List, length, refl, ap, sym, ◌∙◌, arith, subst}
+use Rattle.std.specs.Prelude.{map, drop, ◌&&◌, nat_lt}
 use Rattle.std.proofs.lemmas.Bool.{false≢true, and_parts, and_from}
 use Rattle.std.proofs.lemmas.Bool.Decides.{nat_tests}
 use Rattle.script_tree.specs.Tree.{Tree}
 use Rattle.script_text.specs.declared.reading.Program.{Program}
 use Rattle.script_text.specs.declared.reading.Reading.{Reading}
 use Rattle.script_text.specs.Building.{kinds}
-use Rattle.script_text.specs.Grammar.{IsText, IsWhole, rest_of}
-use Rattle.script_text.specs.Judging.{nest_in, lines_in, IsReading}
+use Rattle.script_text.specs.Grammar.{IsText, IsWhole}
+use Rattle.script_text.specs.Judging.{nest_in, lines_in, IsReadingOf}
 use Rattle.script_text.specs.Limits.{IsScript}
 use Rattle.script_text.specs.Nesting.{none_open}
 use Rattle.script_text.specs.Programs.{IsLeft, tree_at}
+use Rattle.script_lines.specs.LineReading.{split_at, texts_of, word_at}
+use Rattle.script_text.specs.Reading.{small_number_at, width_at, height_at, budget_at, order_at}
 use Rattle.script_text.specs.Spelling.{spelling}
-use Rattle.script_text.proofs.FirstBad.{Parted, texts_are, none_there, some_there}
-use Rattle.script_text.proofs.Judging.{rest_told}
 use Rattle.script_text.proofs.WholeTexts.{no_kinds}
 use Rattle.script_text.proofs.LinesTaken.{all_lines, none_left, script_is, text_is}
 
@@ -28,40 +28,40 @@ lt_true n h = grind (arith, nat_tests)
 abbrev pub is_over : Reading → Bool
 is_over r = none_open (kinds r.builder.blocks.items) && nat_lt 0 r.threads
 
-module _ {R : Type 0} (read : R → List ℕ) (bytes : List ℕ) (lines lent : List R) (rest : R) (p : Parted read bytes lines lent rest) where
-  rest_is : rest_of bytes ≡ read rest
-  rest_is = rest_told bytes (map read lines) (read rest) p.split
+module _ (bytes : List ℕ) (r : Reading) (of : IsReadingOf bytes r) where
+  pub not_over : is_over r ≡ false → IsWhole bytes → ⊥
+  not_over miss w =
+      let left = none_left (texts_of bytes) r.known (nest_in r.builder) r.threads of.1.front w.text in
+      false≢true (sym miss ∙ and_from (none_open (kinds r.builder.blocks.items)) (nat_lt 0 r.threads) (ap none_open left.0) (lt_true r.threads left.1))
 
-  -- the lines of a whole text
-  pub text_lines : IsWhole bytes → IsText (map read lent)
-  text_lines w = let P : List (List ℕ) → Type 0 = IsText in subst P (texts_are read bytes lines lent rest p) w.text
+  module _ (over : is_over r ≡ true) (o : Program) (left : IsLeft o r.known (lines_in r.builder)) (s : Tree) (made : s ≡ tree_at (texts_of bytes) o) where
+    text : IsText (texts_of bytes)
+    text =
+        let two = and_parts (none_open (kinds r.builder.blocks.items)) (nat_lt 0 r.threads) over in
+        all_lines (texts_of bytes) r.known (nest_in r.builder) r.threads of.1.front (no_kinds (kinds r.builder.blocks.items) two.0) (lt_told r.threads two.1)
 
-  -- a whole text ends with a line feed
-  pub no_rest : (length (read rest) == 0) ≡ false → IsWhole bytes → ⊥
-  no_rest some w = some_there (read rest) some (sym rest_is ∙ w.ended)
+    pub script_made : length bytes ≤ 1048576 → IsScript s
+    script_made short =
+        let P : Tree → Type 0 = IsScript in
+        subst P (sym made) (script_is bytes (texts_of bytes) r.known (lines_in r.builder) o text of.1.built left of.0 refl short)
 
-  module _ (r : Reading) (good : IsReading (map read lent) r) where
-    pub not_over : is_over r ≡ false → IsWhole bytes → ⊥
-    not_over miss w =
-        let left = none_left (map read lent) r.known (nest_in r.builder) r.threads good.front (text_lines w) in
-        false≢true (sym miss ∙ and_from (none_open (kinds r.builder.blocks.items)) (nat_lt 0 r.threads) (ap none_open left.0) (lt_true r.threads left.1))
+    pub text_made : bytes ≡ spelling s
+    text_made = text_is bytes (texts_of bytes) r.known (lines_in r.builder) o text of.1.built left of.0 refl ∙ ap spelling (sym made)
 
-    module _ (over : is_over r ≡ true) (empty : (length (read rest) == 0) ≡ true) (o : Program) (left : IsLeft o r.known (lines_in r.builder)) (other : List R) (again : other ≡ lines) (s : Tree) (made : s ≡ tree_at (map read other) o) where
-      text : IsText (map read lent)
-      text =
-          let two = and_parts (none_open (kinds r.builder.blocks.items)) (nat_lt 0 r.threads) over in
-          all_lines (map read lent) r.known (nest_in r.builder) r.threads good.front (no_kinds (kinds r.builder.blocks.items) two.0) (lt_told r.threads two.1)
+-- ---- the head
 
-      none : rest_of bytes ≡ []
-      none = rest_is ∙ none_there (read rest) empty
+pub width_told : (texts : List (List ℕ)) (line : List ℕ) → word_at texts 1 ≡ line → small_number_at 65535 (word_at (split_at 32 line) 1) ≡ width_at texts
+unfolding width_at
+width_told texts line e = ap (λ (l : List ℕ). small_number_at 65535 (word_at (split_at 32 l) 1)) (sym e)
 
-      same : s ≡ tree_at (map read lent) o
-      same = made ∙ ap (λ (l : List R). tree_at (map read l) o) (again ∙ sym p.same)
+pub height_told : (texts : List (List ℕ)) (line : List ℕ) → word_at texts 1 ≡ line → small_number_at 65535 (word_at (split_at 32 line) 2) ≡ height_at texts
+unfolding height_at
+height_told texts line e = ap (λ (l : List ℕ). small_number_at 65535 (word_at (split_at 32 l) 2)) (sym e)
 
-      pub script_made : length bytes ≤ 1048576 → IsScript s
-      script_made short =
-          let P : Tree → Type 0 = IsScript in
-          subst P (sym same) (script_is bytes (map read lent) r.known (lines_in r.builder) o text good.built left none (texts_are read bytes lines lent rest p) short)
+pub budget_told : (texts : List (List ℕ)) (line : List ℕ) → word_at texts 2 ≡ line → small_number_at 4294967295 (word_at (split_at 32 line) 1) ≡ budget_at texts
+unfolding budget_at
+budget_told texts line e = ap (λ (l : List ℕ). small_number_at 4294967295 (word_at (split_at 32 l) 1)) (sym e)
 
-      pub text_made : bytes ≡ spelling s
-      text_made = text_is bytes (map read lent) r.known (lines_in r.builder) o text good.built left none (texts_are read bytes lines lent rest p) ∙ ap spelling (sym same)
+pub order_told : (texts : List (List ℕ)) (line : List ℕ) → word_at texts 3 ≡ line → map (small_number_at 255) (drop 1 (split_at 32 line)) ≡ order_at texts
+unfolding order_at
+order_told texts line e = ap (λ (l : List ℕ). map (small_number_at 255) (drop 1 (split_at 32 l))) (sym e)

@@ -3,6 +3,8 @@ use Rattle.std.specs.Prelude.{◌≡◌, ℕ, true, List, length, map}
 use Rattle.std.specs.List.{AllByRecursion, zip}
 use Rattle.script_tree.specs.Tree.{Tree}
 use Rattle.script_lines.specs.declared.line.Line.{Line}
+use Rattle.script_lines.specs.LineReading.{word_at}
+use Rattle.script_text.specs.declared.parser.Head.{Head}
 use Rattle.script_text.specs.declared.reading.Program.{Program}
 use Rattle.script_lines.specs.LineLimits.{IsLine}
 use Rattle.script_lines.specs.Known.{Known, known_of}
@@ -30,6 +32,10 @@ pub record IsLeft (p : Program) (known : Known) (lines : List Line) : Type 0 whe
 pub record IsFitting (s : Tree) : Type 0 where
   pub within : is_within s ≡ true
   pub program : IsProgram (known_of s) (script_lines s)
+
+-- the lines of the head that tell numbers stand at their places among the lines
+abbrev pub IsHeadOf : List (List ℕ) → Head → Type 0
+IsHeadOf texts head = (word_at texts 1 ≡ head.screen.now) × (word_at texts 2 ≡ head.budget.now) × (word_at texts 3 ≡ head.order.now)
 
 -- the tree with this program whose text has these lines
 abbrev pub tree_at : List (List ℕ) → Program → Tree

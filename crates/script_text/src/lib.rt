@@ -48,6 +48,7 @@
 
 mod builder;
 mod fault;
+mod first_line;
 mod flatten;
 mod head;
 mod judge;

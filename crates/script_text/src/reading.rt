@@ -4,13 +4,14 @@ ghost use Rattle.std.specs.Prelude.{◌≡◌, ◌≤◌, ◌+◌, ◌++◌, ◌
 ghost use Rattle.script_lines.specs.LineReading.{split_at};
 ghost use Rattle.script_lines.specs.NameLimits.{AreKnown, seen_after, begun_after};
 ghost use Rattle.script_text.specs.Building.{IsSound, kinds};
-ghost use Rattle.script_text.specs.Grammar.{thread_of, all_heads, IsText, Begins};
-ghost use Rattle.script_text.specs.Judging.{nest_in, lines_in, IsReading, Adds};
+ghost use Rattle.script_text.specs.Grammar.{thread_of, all_heads, IsWhole, Begins};
+ghost use Rattle.script_text.specs.Judging.{nest_in, lines_in, IsReading, IsReadingOf, Adds};
 ghost use Rattle.script_text.specs.Nesting.{none_open};
 ghost use Rattle.script_text.specs.Programs.{IsLeft};
 ghost use Rattle.script_text.specs.Steps.{IsStep, IsNoStep};
 
 use crate::builder::{Bodies, Builder};
+use crate::first_line::first_line;
 use crate::head::{HeadLine, is_head};
 use crate::limits::{THREAD_LIMIT, begun_in, seen_in};
 use script_lines::{
@@ -202,22 +203,30 @@ impl Reading {
         }
     }
 
-    /// Takes these lines, one after the other; false where no script begins with them.
+    /// Takes the lines of a text, one after the other, each with its line feed; false where no script has the text.
     pub fn take_all(
         &mut self,
         alloc: Global,
         tables: &NameTables,
-        texts: &[&[u8]],
+        bytes: &[u8],
     ) -> Result<bool, AllocError>
-        requires { IsReading [] self.old }
-        ensures bad { IfOk result (λ taken. taken ≡ false → IsText (map (λ w. w.now) texts.now) → ⊥) }
-        ensures good { IfOk result (λ taken. taken ≡ true → IsReading (map (λ w. w.now) texts.now) self.new) }
+        requires nothing { IsReading [] self.old }
+        requires short { length bytes.now ≤ 1048576 }
+        ensures bad { IfOk result (λ taken. taken ≡ false → IsWhole bytes.now → ⊥) }
+        ensures good { IfOk result (λ taken. taken ≡ true → IsReadingOf bytes.now self.new) }
     {
         let mut words = Vec::new(alloc);
-        for (before, text) in texts.iter().enumerate() {
-            if !self.take_next(alloc, tables, &mut words, before, text)? {
+        let mut rest = bytes;
+        let mut before = 0;
+        while !rest.is_empty() {
+            let Some((line, behind)) = first_line(rest) else {
+                return Ok(false);
+            };
+            if !self.take_next(alloc, tables, &mut words, before, line)? {
                 return Ok(false);
             }
+            rest = behind;
+            before += 1;
         }
         Ok(true)
     }

@@ -1,17 +1,19 @@
-use Rattle.std.proofs.Common.{refl, ap, sym, subst}
+use Rattle.std.proofs.Common.{refl, ap, sym, subst, ◌∙◌}
+use Rattle.script_tree.specs.Pieces.{Going}
+use Rattle.script_proc.specs.declared.item.Next.TheVariants.{Line}
 use Rattle.script_proc.specs.Items.{mode_at, state_at, with_next, Asking}
 use Rattle.script_proc.proofs.WorkerLaws.{keeps_same, slow_keeps, top_keeps, keeps_all_on, step_keeps, step_fewer, line_steps, slow_steps, top_steps, stating_ready}
 use Rattle.script_proc.proofs.worker.settle.Goals as goal
 
-pub returns-in_err-take_room-in-Top-clause-kept : goal.returns-in_err-take_room-in-Top-clause-kept
-returns-in_err-take_room-in-Top-clause-kept c s of =
-    let same = ap (λ xs. with_next xs c.steps.call c.steps.ahead) c.take_room-in-Top.ensures.items in
-    keeps_same c.args.program.now c.args.used s (with_next c.args.items.now.items c.args.call.now c.args.next.now) (with_next c.steps.items.items c.steps.call c.steps.ahead) (with_next c.take_room-in-Top.new.items.items c.steps.call c.steps.ahead) (state_at c.args.variables.now c.args.mode.now c.args.next.now) (state_at c.steps.variables c.steps.mode c.steps.ahead) same (c.steps.invariant s of)
+pub returns-in_err-take_room-in-None-quick_pass-clause-kept : goal.returns-in_err-take_room-in-None-quick_pass-clause-kept
+returns-in_err-take_room-in-None-quick_pass-clause-kept c s of =
+    let same = ap (λ xs. with_next xs c.steps.call c.steps.ahead) (c.take_room-in-None-quick_pass.ensures.items ∙ c.in-None-quick_pass.ensures.slow) in
+    keeps_same c.args.program.now c.args.used s (with_next c.args.items.now.items c.args.call.now c.args.next.now) (with_next c.steps.items.items c.steps.call c.steps.ahead) (with_next c.take_room-in-None-quick_pass.new.items.items c.steps.call c.steps.ahead) (state_at c.args.variables.now c.args.mode.now c.args.next.now) (state_at c.steps.variables c.steps.mode c.steps.ahead) same (c.steps.invariant s of)
 
 pub returns-in_default-clause-kept : goal.returns-in_default-clause-kept
 returns-in_default-clause-kept c s of =
-    let same = ap (λ xs. with_next xs c.steps.call c.steps.ahead) c.take_room-in-Top.ensures.items in
-    keeps_same c.args.program.now c.args.used s (with_next c.args.items.now.items c.args.call.now c.args.next.now) (with_next c.steps.items.items c.steps.call c.steps.ahead) (with_next c.take_room-in-Top.new.items.items c.steps.call c.steps.ahead) (state_at c.args.variables.now c.args.mode.now c.args.next.now) (state_at c.steps.variables c.steps.mode c.steps.ahead) same (c.steps.invariant s of)
+    let same = ap (λ xs. with_next xs c.steps.call c.steps.ahead) (c.take_room-in-None-quick_pass.ensures.items ∙ c.in-None-quick_pass.ensures.slow) in
+    keeps_same c.args.program.now c.args.used s (with_next c.args.items.now.items c.args.call.now c.args.next.now) (with_next c.steps.items.items c.steps.call c.steps.ahead) (with_next c.take_room-in-None-quick_pass.new.items.items c.steps.call c.steps.ahead) (state_at c.args.variables.now c.args.mode.now c.args.next.now) (state_at c.steps.variables c.steps.mode c.steps.ahead) same (c.steps.invariant s of)
 
 pub returns-then-is_asking-clause-kept : goal.returns-then-is_asking-clause-kept
 returns-then-is_asking-clause-kept c s of =
@@ -19,7 +21,7 @@ returns-then-is_asking-clause-kept c s of =
     let n = c.args.used in
     let first = with_next c.args.items.now.items c.args.call.now c.args.next.now in
     let st = state_at c.args.variables.now c.args.mode.now c.args.next.now in
-    top_keeps p n s first c.steps.items.items c.take_room-in-Top.new.items.items c.steps.call c.put_asked.new.call c.steps.ahead c.steps.variables c.steps.mode st c.in-Top.is c.take_room-in-Top.ensures.items (c.steps.invariant s of)
+    top_keeps p n s first c.steps.items.items c.take_room-in-None-quick_pass.new.items.items c.steps.call c.put_asked.new.call c.steps.ahead c.steps.variables c.steps.mode st c.in-Top.is (c.take_room-in-None-quick_pass.ensures.items ∙ c.in-None-quick_pass.ensures.slow) (c.steps.invariant s of)
 
 pub returns-in_err-take_room-in-Stating-clause-kept : goal.returns-in_err-take_room-in-Stating-clause-kept
 returns-in_err-take_room-in-Stating-clause-kept c s of =
@@ -81,6 +83,28 @@ steps-preserved-in-None c s of =
     let steps = slow_steps p n c.steps.items.items c.take_room.new.items.items new c.steps.call c.steps.ahead c.in-Line.at c.steps.variables c.quick_line.new.variables c.steps.mode st' c.in-Line.is c.take_room.ensures.items c.in-None.ensures.slow.1 (c.slow_line-ahead.ensures c.quick_line.new.call) in
     keeps_all_on p n s first old new (state_at c.args.variables.now c.args.mode.now c.args.next.now) st st' (c.steps.invariant s of) (step_keeps p n s old new st st' steps of)
 
+pub steps-smaller-in-Some-quick_pass : goal.steps-smaller-in-Some-quick_pass
+steps-smaller-in-Some-quick_pass c =
+    let p = c.args.program.now in
+    let n = c.args.used in
+    let old = with_next c.steps.items.items c.steps.call c.steps.ahead in
+    let new = with_next c.quick_pass.new.items.items c.steps.call (Line c.in-Some-quick_pass.at) in
+    let st = state_at c.steps.variables c.steps.mode c.steps.ahead in
+    let st' = Going c.steps.variables in
+    step_fewer p n old new st st' (top_steps p n c.steps.items.items c.steps.items.items new c.steps.call c.steps.ahead c.steps.variables c.steps.mode st' c.in-Top.is refl (c.in-Some-quick_pass.ensures.quick c.steps.call))
+
+pub steps-preserved-in-Some-quick_pass : goal.steps-preserved-in-Some-quick_pass
+steps-preserved-in-Some-quick_pass c s of =
+    let p = c.args.program.now in
+    let n = c.args.used in
+    let first = with_next c.args.items.now.items c.args.call.now c.args.next.now in
+    let old = with_next c.steps.items.items c.steps.call c.steps.ahead in
+    let new = with_next c.quick_pass.new.items.items c.steps.call (Line c.in-Some-quick_pass.at) in
+    let st = state_at c.steps.variables c.steps.mode c.steps.ahead in
+    let st' = Going c.steps.variables in
+    let steps = top_steps p n c.steps.items.items c.steps.items.items new c.steps.call c.steps.ahead c.steps.variables c.steps.mode st' c.in-Top.is refl (c.in-Some-quick_pass.ensures.quick c.steps.call) in
+    keeps_all_on p n s first old new (state_at c.args.variables.now c.args.mode.now c.args.next.now) st st' (c.steps.invariant s of) (step_keeps p n s old new st st' steps of)
+
 pub steps-smaller : goal.steps-smaller
 steps-smaller c =
     let p = c.args.program.now in
@@ -89,7 +113,7 @@ steps-smaller c =
     let new = with_next c.step-ahead.new.items.items c.step-ahead.new.call c.step-ahead.result in
     let st = state_at c.steps.variables c.steps.mode c.steps.ahead in
     let st' = state_at c.step-ahead.new.variables c.step-ahead.new.mode c.step-ahead.result in
-    step_fewer p n old new st st' (top_steps p n c.steps.items.items c.take_room-in-Top.new.items.items new c.steps.call c.steps.ahead c.steps.variables c.steps.mode st' c.in-Top.is c.take_room-in-Top.ensures.items c.step-ahead.ensures)
+    step_fewer p n old new st st' (top_steps p n c.steps.items.items c.take_room-in-None-quick_pass.new.items.items new c.steps.call c.steps.ahead c.steps.variables c.steps.mode st' c.in-Top.is (c.take_room-in-None-quick_pass.ensures.items ∙ c.in-None-quick_pass.ensures.slow) c.step-ahead.ensures)
 
 pub steps-preserved : goal.steps-preserved
 steps-preserved c s of =
@@ -100,7 +124,7 @@ steps-preserved c s of =
     let new = with_next c.step-ahead.new.items.items c.step-ahead.new.call c.step-ahead.result in
     let st = state_at c.steps.variables c.steps.mode c.steps.ahead in
     let st' = state_at c.step-ahead.new.variables c.step-ahead.new.mode c.step-ahead.result in
-    let steps = top_steps p n c.steps.items.items c.take_room-in-Top.new.items.items new c.steps.call c.steps.ahead c.steps.variables c.steps.mode st' c.in-Top.is c.take_room-in-Top.ensures.items c.step-ahead.ensures in
+    let steps = top_steps p n c.steps.items.items c.take_room-in-None-quick_pass.new.items.items new c.steps.call c.steps.ahead c.steps.variables c.steps.mode st' c.in-Top.is (c.take_room-in-None-quick_pass.ensures.items ∙ c.in-None-quick_pass.ensures.slow) c.step-ahead.ensures in
     keeps_all_on p n s first old new (state_at c.args.variables.now c.args.mode.now c.args.next.now) st st' (c.steps.invariant s of) (step_keeps p n s old new st st' steps of)
 
 pub returns-in-Stating-clause-ready : goal.returns-in-Stating-clause-ready

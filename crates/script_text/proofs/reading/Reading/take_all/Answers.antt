@@ -1,22 +1,37 @@
-use Rattle.std.proofs.lemmas.Grind.{common_steps}
-use Rattle.std.proofs.Common.{ℕ, ◌+◌, List, Bor, take, subst, arith}
-use Rattle.std.specs.Prelude.{map}
-use Rattle.script_text.specs.Grammar.{Begins}
-use Rattle.script_text.proofs.Judging.{one_taken, taken_length}
-use Rattle.script_text.proofs.LinesTaken.{no_text}
+use Rattle.std.proofs.Common.{sym, ◌∙◌, arith}
+use Rattle.script_text.proofs.FirstLines.{nothing_taken, all_taken, no_feed, more_taken, bad_taken}
 use Rattle.script_text.proofs.reading.Reading.take_all.Goals as goal
+
+pub loop-rest-init : goal.loop-rest-init
+loop-rest-init c = nothing_taken c.args.bytes.now c.args.self.now c.requires.nothing
+
+pub returns-in_default-clause-bad : goal.returns-in_default-clause-bad
+returns-in_default-clause-bad c = λ e. no_feed c.args.bytes.now c.loop-rest.self c.loop-rest.before c.loop-rest.rest.now c.loop-rest.invariant (sym c.is_empty.ensures ∙ c.loop-rest-test.true) c.in_default.ensures.none
+
+pub take_next-requires-clause-known : goal.take_next-requires-clause-known
+take_next-requires-clause-known c = c.loop-rest.invariant.reading.front.stood.named
+
+pub take_next-requires-clause-sound : goal.take_next-requires-clause-sound
+take_next-requires-clause-sound c = c.loop-rest.invariant.reading.sound
+
+pub take_next-requires-clause-few : goal.take_next-requires-clause-few
+take_next-requires-clause-few c = c.loop-rest.invariant.reading.front.stood.few
 
 pub returns-then-not-branch-clause-bad : goal.returns-then-not-branch-clause-bad
 returns-then-not-branch-clause-bad c = λ e.
-    let read : Bor (List ℕ) → List ℕ = λ w. w.now in
-    let texts = c.args.texts.now in
-    let i = c.loop-before.before in
-    let bad = c.in_ok-take_next.ensures.bad (map read (take i texts)) (taken_length read texts i c.loop-before-test.true) c.loop-before.invariant c.if-not-branch.true in
-    let B : List (List ℕ) → Type 0 = λ l. Begins l → ⊥ in
-    no_text read texts (i + 1) (subst B (one_taken read texts i _ c.loop-before-test.true) bad)
+    let t = c.loop-rest.invariant in
+    bad_taken c.args.bytes.now c.loop-rest.self c.loop-rest.before c.loop-rest.rest.now t c.in-Some.line.now c.in-Some.behind.now c.in-Some.ensures.line (c.in_ok-take_next.ensures.bad t.texts t.many t.reading c.if-not-branch.true)
 
-pub loop-before-preserved : goal.loop-before-preserved
-loop-before-preserved c = grind (arith, common_steps)
+pub overflow_add-before : goal.overflow_add-before
+overflow_add-before c = omega (arith, c.loop-rest.invariant.short, c.in-Some.ensures.shorter, c.requires.short)
+
+pub loop-rest-smaller : goal.loop-rest-smaller
+loop-rest-smaller c = c.in-Some.ensures.shorter
+
+pub loop-rest-preserved : goal.loop-rest-preserved
+loop-rest-preserved c =
+    let t = c.loop-rest.invariant in
+    more_taken c.args.bytes.now c.loop-rest.self c.loop-rest.before c.loop-rest.rest.now t c.in-Some.line.now c.in-Some.behind.now c.in-Some.ensures.line c.take_next.new.self c.in-Some.ensures.shorter (c.in_ok-take_next.ensures.good t.texts t.many t.reading c.if-not-branch.false)
 
 pub returns-clause-good : goal.returns-clause-good
-returns-clause-good c = grind (arith, common_steps)
+returns-clause-good c = λ e. all_taken c.args.bytes.now c.loop-rest.self c.loop-rest.before c.loop-rest.rest.now c.loop-rest.invariant (sym c.loop-rest-test.ensures)

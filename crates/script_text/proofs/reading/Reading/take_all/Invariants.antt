@@ -1,7 +1,9 @@
-use Rattle.std.proofs.Common.{take}
-use Rattle.std.specs.Prelude.{map}
-use Rattle.script_text.specs.Judging.{IsReading}
+use Rattle.std.proofs.Common.{length}
+use Rattle.script_text.proofs.FirstLines.{TakenTo}
 use Rattle.script_text.proofs.reading.Reading.take_all.Given as goal
 
-abbrev pub invariant-loop-before : goal.invariant-loop-before
-invariant-loop-before l = IsReading (map (λ w. w.now) (take l.before l.texts)) l.self
+abbrev pub invariant-loop-rest : goal.invariant-loop-rest
+invariant-loop-rest l = TakenTo l.bytes l.self l.before l.rest
+
+abbrev pub decreases-loop-rest : goal.decreases-loop-rest
+decreases-loop-rest l = length l.rest
