@@ -41,7 +41,7 @@ def side_by_side():
 
 def measured():
     """The seconds of each crate, as listed."""
-    rows = (line.split() for line in SECONDS.read_text().splitlines() if line and not line.startswith("#"))
+    rows = (line.split()[:2] for line in SECONDS.read_text().splitlines() if line and not line.startswith("#"))
     return {name: float(seconds) for name, seconds in rows}
 
 

@@ -47,7 +47,7 @@ class Repository:
         self.calls, self.pids = pathlib.Path(folder) / "calls", pathlib.Path(folder) / "pids"
         for place in (self.left, self.bin, self.top / "tools"):
             place.mkdir(parents=True)
-        shutil.copy2(TOP / "tools/stand_in_rt", self.bin / "rt")
+        shutil.copy2(TOP / "tools/stand-in-rt", self.bin / "rt")
         shutil.copy2(TOP / "user", self.top / "user")
         for name in TOOLS:
             shutil.copy2(TOP / "tools" / name, self.top / "tools" / name)

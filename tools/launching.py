@@ -43,12 +43,18 @@ class Interrupts:
 
 
 def began(pid):
-    """When a process began, in ticks since the machine did, and its parent; None where there is none."""
+    """When a process began, in ticks since the machine did, and its parent; None where there is none, or it has ended."""
     try:
         fields = pathlib.Path(f"/proc/{pid}/stat").read_text().rsplit(")", 1)[1].split()
     except OSError:
         return None
-    return int(fields[19]), int(fields[1])
+    return None if fields[0] in "ZX" else (int(fields[19]), int(fields[1]))
+
+
+def is_there(pid, when):
+    """Whether the process that began then is still there."""
+    told = began(pid)
+    return told is not None and told[0] == when
 
 
 def family(pid):
@@ -79,11 +85,21 @@ def stop(process):
             process.wait(PATIENCE)
         except subprocess.TimeoutExpired:
             pass
-        for pid, when in left.items():
-            if (began(pid) or (None,))[0] == when:
-                kill(pid)
+        end_all(left)
     signal_group(process, signal.SIGKILL)
     process.wait()
+
+
+def end_all(left):
+    """Ends these processes, and waits until they are gone."""
+    limit = time.monotonic() + PATIENCE
+    while time.monotonic() < limit:
+        there = [pid for pid, when in left.items() if is_there(pid, when)]
+        if not there:
+            return
+        for pid in there:
+            kill(pid)
+        time.sleep(PAUSE)
 
 
 def kill(pid):
