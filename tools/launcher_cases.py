@@ -65,7 +65,7 @@ class Repository:
     def begin(self, words, **how):
         how = {"stdin": subprocess.PIPE, "stdout": subprocess.PIPE, "stderr": subprocess.PIPE, **how}
         environment = self.environment(**how.pop("more", {}))
-        return subprocess.Popen([self.top / "user", *words.split()], cwd=self.top, env=environment, **how)
+        return subprocess.Popen([self.top / "user", *words.split()], cwd=self.top, env=environment, preexec_fn=take_signals, **how)
 
     def run(self, words, text=TEXT, **how):
         """A run to its end: its status, its output and the lines that it said on standard error."""
@@ -102,6 +102,12 @@ class Repository:
         """All sources are older than the program."""
         for path in [self.top / "crates.txt", *self.top.glob("crates/*/src/**/*"), *self.top.glob("crates/*/src")]:
             os.utime(path, (1, 1))
+
+
+def take_signals():
+    """In a process that was just made: what the trial itself was told to ignore isn't ignored there."""
+    for number in (signal.SIGINT, signal.SIGTERM, signal.SIGHUP):
+        signal.signal(number, signal.SIG_DFL)
 
 
 def is_alive(pid):
@@ -249,6 +255,8 @@ def sources_newer(trial, repository):
         trial.tell(f"{name} is newer: run", run_fault(repository.run("run"), 0, log("run", 10), NEWER, count=2))
         trial.tell(f"{name} is newer: version", version_fault(repository, "sources changed after the build"))
         repository.age()
+    repository.touch("crates/other/src/lib.rt")
+    trial.tell("a crate that the program isn't made of is newer", run_fault(repository.run("run"), 0, log("run", 10), count=0))
     repository.remains()
     process = repository.begin("build", more={"RT_SECONDS_OF": "1"})
     repository.wait_for_rt()
