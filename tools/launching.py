@@ -1,4 +1,5 @@
 """What the tools behind the launcher `user` share: where things are, what is said to people, and commands that an interrupt ends."""
+import ctypes
 import os
 import pathlib
 import signal
@@ -13,6 +14,8 @@ INTERRUPTS = (signal.SIGINT, signal.SIGTERM, signal.SIGHUP, signal.SIGQUIT)
 # How long a command has to end once it was asked to, in seconds.
 PATIENCE = 10
 PAUSE = 0.05
+# What makes a process the parent of all below it whose own parent ends (Linux, prctl).
+SET_CHILD_SUBREAPER = 36
 
 
 def tell(text):
@@ -25,10 +28,11 @@ def tell(text):
 
 
 class Interrupts:
-    """The first signal that asked this process to end. It is noted alone, so that no command is begun or forgotten half-way."""
+    """The first signal that asked this process to end. It is noted alone, so that no command is begun or forgotten half-way. What commands leave behind becomes this process's own, so that it can be ended."""
 
     def __init__(self):
         self.number = None
+        ctypes.CDLL(None).prctl(SET_CHILD_SUBREAPER, 1, 0, 0, 0)
         for number in INTERRUPTS:
             if signal.getsignal(number) is not signal.SIG_IGN:
                 signal.signal(number, self.note)
@@ -37,34 +41,28 @@ class Interrupts:
         self.number = self.number or number
 
     def end(self):
-        """Ends this process by that signal, as it would have ended without the note."""
+        """Ends what is left below this process, and then itself by that signal, as it would have ended without the note."""
+        end_below()
         signal.signal(self.number, signal.SIG_DFL)
         os.kill(os.getpid(), self.number)
 
 
-def began(pid):
-    """When a process began, in ticks since the machine did, and its parent; None where there is none, or it has ended."""
+def parent_of(pid):
+    """The parent of a process; None where there is none, or it has ended."""
     try:
         fields = pathlib.Path(f"/proc/{pid}/stat").read_text().rsplit(")", 1)[1].split()
     except OSError:
         return None
-    return None if fields[0] in "ZX" else (int(fields[19]), int(fields[1]))
-
-
-def is_there(pid, when):
-    """Whether the process that began then is still there."""
-    told = began(pid)
-    return told is not None and told[0] == when
+    return None if fields[0] in "ZX" else int(fields[1])
 
 
 def family(pid):
-    """The processes that one has begun, directly or by others, each with when it began."""
-    known = {int(it.name): began(it.name) for it in pathlib.Path("/proc").iterdir() if it.name.isdigit()}
-    found, parents = {}, {pid}
-    while parents:
-        children = {it: told[0] for it, told in known.items() if told and told[1] in parents and it not in found}
-        found.update(children)
-        parents = set(children)
+    """The processes that one has begun, directly or by others, and that haven't ended."""
+    parents = {int(it.name): parent_of(it.name) for it in pathlib.Path("/proc").iterdir() if it.name.isdigit()}
+    found, above = set(), {pid}
+    while above:
+        above = {it for it, parent in parents.items() if parent in above and it not in found}
+        found |= above
     return found
 
 
@@ -77,27 +75,25 @@ def signal_group(process, number):
 
 
 def stop(process):
-    """Asks a command to end, waits for it, and ends what it leaves behind."""
+    """Asks a command to end, and waits for it and for its session."""
     if process.poll() is None:
-        left = family(process.pid)
         process.terminate()
         try:
             process.wait(PATIENCE)
         except subprocess.TimeoutExpired:
             pass
-        end_all(left)
     signal_group(process, signal.SIGKILL)
     process.wait()
 
 
-def end_all(left):
-    """Ends these processes, and waits until they are gone."""
+def end_below():
+    """Ends all processes below this one, and waits until they are gone."""
     limit = time.monotonic() + PATIENCE
     while time.monotonic() < limit:
-        there = [pid for pid, when in left.items() if is_there(pid, when)]
-        if not there:
+        left = family(os.getpid())
+        if not left:
             return
-        for pid in there:
+        for pid in left:
             kill(pid)
         time.sleep(PAUSE)
 
@@ -110,7 +106,9 @@ def kill(pid):
 
 
 def run(words, interrupts, watch=None, **how):
-    """Runs a command in a session of its own, to its end or until an interrupt, and gives its status. `watch` is called while it runs. All that it began has ended by then."""
+    """Runs a command in a session of its own, to its end or until an interrupt, and gives its status. `watch` is called while it runs. Its session has ended by then."""
+    if interrupts.number is not None:
+        return None
     process = subprocess.Popen(words, start_new_session=True, **how)
     try:
         while process.poll() is None and interrupts.number is None:
