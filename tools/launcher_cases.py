@@ -170,7 +170,17 @@ def not_built(trial, repository):
         process = repository.begin("run", stdout=device)
         process.communicate(TEXT, timeout=SECONDS)
         trial.tell("not built: a full device", None if process.returncode == 8 else f"status {process.returncode}")
+    for redirection, text, status in (("<&-", b"", 7), (">&-", TEXT, 8), ("2>&-", TEXT, 0)):
+        trial.tell(f"not built: with {redirection}", closed_fault(repository, redirection, text, status))
     trial.tell("not built: version", run_fault(repository.run("version"), 0, repository.run("version")[1]) or version_fault(repository, "not proved on this machine yet"))
+
+
+def closed_fault(repository, redirection, text, status):
+    """What is wrong with a run that has a closed stream, or None."""
+    words = ["bash", "-c", f'exec "$0" run {redirection}', repository.top / "user"]
+    ran = subprocess.run(words, input=text, capture_output=True, env=repository.environment(), timeout=SECONDS, check=False)
+    output = b"" if status else log("run", len(text))
+    return None if (ran.returncode, ran.stdout) == (status, output) else f"status {ran.returncode}, {ran.stdout[:80]!r} written"
 
 
 def version_fault(repository, how):
