@@ -1,8 +1,8 @@
 //! Worked examples of the program's top call, from bytes to bytes, and of scripts. First come the shortest programs with the parts above a machine
 //! (`short`), which read nothing. Standard input has lines `PIECE FAIL ROOM: WORDS: TEXT`: the program
 //! is called with these words, on a source that gives the text in pieces of so many bytes and fails at its call FAIL, counted from 0
-//! (`-`: at none), and on a sink that has room for so many bytes. A line `turns TEXT` makes turns of a script's first thread; `pool LEFT:
-//! TEXT` runs all of its threads at a machine that wants memory once after LEFT calls (`-`: never); `faults WORDS: TEXT` calls the program, also
+//! (`-`: at none), and on a sink that has room for so many bytes. A line `turns TEXT` makes turns of a script's first thread, `again TEXT`
+//! all of them, once with each call in turn finding no memory at first; `pool LEFT: TEXT` runs all of its threads at a machine that wants memory once after LEFT calls (`-`: never); `faults WORDS: TEXT` calls the program, also
 //! by threads, on each of some sources and sinks that fail. `json TEXT` runs the script, and its log goes to standard output as lines of JSON; `meeting
 //! TEXT` runs it by two groups of threads that wait for each other. `script TEXT` reads the text as a script and writes it again, `parts TEXT` tells
 //! what the script has, `lines TEXT` reads and writes lines of words alone. In a text `/` ends a line, and in those of the last three
@@ -11,6 +11,7 @@
 
 ghost use Rattle.std.specs.Prelude.{◌<◌};
 
+mod again;
 mod faults;
 mod json;
 mod meetings;
@@ -86,6 +87,7 @@ fn run_line<R: Print + Threads + Wait + Sync>(
     match word {
         "faults" => faults::tell(rt, alloc, rest),
         "turns" => turns::tell(rt, alloc, rest),
+        "again" => again::tell(rt, alloc, rest),
         "pool" => pools::tell(rt, alloc, rest),
         "json" => json::tell(rt, alloc, rest),
         "meeting" => meetings::tell(rt, alloc, rest),

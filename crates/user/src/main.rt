@@ -24,10 +24,23 @@ fn main(rt: HostRuntime) -> ExitCode {
         }
         Err(status) => status,
     };
-    if matches!(status, Status::Words) {
-        tell(&rt, USAGE);
+    if let Some(text) = failure(&status) {
+        tell(&rt, text);
     }
     ExitCode::from(status.number())
+}
+
+/// What is said to people where the words ask for nothing, or the input or the output failed or memory was wanting.
+fn failure(status: &Status) -> Option<&'static [u8]> {
+    match status {
+        Status::Words => Some(USAGE),
+        Status::ReadFault => Some(b"user: standard input can't be read; nothing was written\n"),
+        Status::WriteFault => Some(
+            b"user: standard output can't be written; its text was cut off\n",
+        ),
+        Status::Memory => Some(b"user: there is not enough memory; the text was cut off\n"),
+        _ => None,
+    }
 }
 
 /// Says to people what is wrong with the input, where it was kept.

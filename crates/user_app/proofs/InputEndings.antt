@@ -50,9 +50,6 @@ module _ (Runs : Tree → Past → Type 0) (form : LogForm) (left left' holds ho
     ran_ends WrongCall ends = absurd ends
 
   -- what a status alone tells
-  pub read_failed : (status : Status) → status ≡ ReadFault → InputEnds Runs form left left' holds holds' missed missed' faults faults' status → Rose missed missed'
-  read_failed status is told = (subst (InputEnds Runs form left left' holds holds' missed missed' faults faults') is told).0
-
   pub write_failed : (status : Status) → status ≡ WriteFault → InputEnds Runs form left left' holds holds' missed missed' faults faults' status → Rose faults faults'
   write_failed status is told = (subst (InputEnds Runs form left left' holds holds' missed missed' faults faults') is told).0
 

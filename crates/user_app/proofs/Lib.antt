@@ -4,6 +4,7 @@ pub mod InputParts
 pub mod InputRefusals
 pub mod MadeScripts
 pub mod OneRefusal
+pub mod Replays
 pub mod Requests
 pub mod RunEnds
 pub mod SameBodies

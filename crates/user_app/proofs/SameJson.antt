@@ -19,14 +19,14 @@ use Rattle.log_text.specs.Endings.{last_call}
 use Rattle.log_text.specs.Frames.{shown}
 use Rattle.log_json.specs.Logs.{entry_json, entries_json, json}
 use Rattle.log_json.specs.Objects.{line, one_member, entry_object, frame_object, frame_line, end_object, waits_line, spent_object, counts_object, extra, ending}
-use Rattle.user_app.proofs.SameRuns.{SameRules}
+use Rattle.user_app.proofs.SameRuns.{SameMoves}
 use Rattle.user_app.proofs.SameLogs.{same_call_text, same_answer_text, same_end}
 
 -- the line of an entry by its texts
 abbrev entry_by : List ℕ → List ℕ → ℕ → List ℕ
 entry_by answer call who = line (object (member (codes "answer") (string answer) (member (codes "call") (string call) (member (codes "who") (number (unsigned who)) no_members))))
 
-module _ (s t : Tree) (h : SameRules s t) where
+module _ (s t : Tree) (h : SameMoves s t) where
   same_line : (e : Entry) → line (entry_object s e) ≡ line (entry_object t e)
   same_line e =
       ap (λ (x : List ℕ). entry_by x (call_text s e.call) e.who.0) (same_answer_text s t h e.answer)

@@ -24,7 +24,7 @@ use Rattle.log_text.specs.Entries.{procedure_name, procedure_text, value_text, c
 use Rattle.log_text.specs.Frames.{frame_text, shown, frame_lines}
 use Rattle.log_text.specs.Endings.{end_line, last_call, waits_line, spent_line, extra, sends_line, ending}
 use Rattle.log_text.specs.Logs.{log}
-use Rattle.user_app.proofs.SameRuns.{SameRules}
+use Rattle.user_app.proofs.SameRuns.{SameMoves}
 
 -- procedures with these names and nothing else
 abbrev bare : List (List ℕ) → List ProcedureTree
@@ -61,7 +61,7 @@ ends_so setup budget count past =
     if have_all_ended setup past then Done else if ends_stuck past then Stuck else
     if not (is_quiet setup past) && is_none (lowest (λ t. not (is_idle setup past t) && not (used past t == budget)) count) then Spent else Cut
 
-module _ (s t : Tree) (h : SameRules s t) where
+module _ (s t : Tree) (h : SameMoves s t) where
   same_names : named s.names (names_of s.procedures) ≡ named t.names (names_of t.procedures)
   same_names = ap (λ (x : List (List ℕ)). named x (names_of s.procedures)) h.names ∙ ap (named t.names) h.procedure_names
 

@@ -15,7 +15,7 @@ use Rattle.user_app.specs.declared.request.LogForm.TheVariants.{Plain, Json}
 use Rattle.user_app.specs.Histories.{history_text}
 use Rattle.user_app.specs.Outcomes.{Logged, RunEnds, Ran}
 use Rattle.user_app.specs.Statuses.{status_of}
-use Rattle.user_app.proofs.SameRuns.{SameRules, same_rules, same_run}
+use Rattle.user_app.proofs.SameRuns.{SameMoves, SameRules, same_rules, same_run}
 use Rattle.user_app.proofs.SameLogs.{same_log, same_end}
 use Rattle.user_app.proofs.SameJson.{same_json}
 
@@ -48,15 +48,15 @@ logged form s held new f g Spent r = r
 logged form s held new f g Cut r = r
 
 -- the text of a past, in either form
-pub same_text : (form : LogForm) (s t : Tree) → SameRules s t → (past : Past) → history_text form s past ≡ history_text form t past
+pub same_text : (form : LogForm) (s t : Tree) → SameMoves s t → (past : Past) → history_text form s past ≡ history_text form t past
 same_text Plain s t h past = same_log s t h past
 same_text Json s t h past = same_json s t h past
 
 same_logged : (form : LogForm) (s t : Tree) (held a b : List ℕ) (x y : End) → SameRules s t → Logged IsListed form s (Some held) (Some a) x → Logged IsListed form t (Some held) (Some b) y → (a ≡ b) × (x ≡ y)
 same_logged form s t held a b x y h p q =
     let runs : p.history ≡ q.history = same_run s t h p.history q.history p.run q.run in (
-      p.written ∙ ap (λ (l : List ℕ). held ++ l) (same_text form s t h p.history ∙ ap (λ (c : Past). history_text form t c) runs) ∙ sym q.written,
-      sym p.ended ∙ same_end s t h p.history ∙ ap (λ (c : Past). end_of t c) runs ∙ q.ended,
+      p.written ∙ ap (λ (l : List ℕ). held ++ l) (same_text form s t h.moves p.history ∙ ap (λ (c : Past). history_text form t c) runs) ∙ sym q.written,
+      sym p.ended ∙ same_end s t h.moves p.history ∙ ap (λ (c : Past). end_of t c) runs ∙ q.ended,
     )
 
 pub same_output : (form : LogForm) (text held a b : List ℕ) (l m : Option (List ℕ)) (f f' g g' : ℕ) (x y : End)

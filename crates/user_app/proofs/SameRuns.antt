@@ -19,16 +19,20 @@ use Rattle.user_pool.proofs.OneRun.{one_listed}
 use Rattle.user_app.proofs.SameBodies.{SameBodies, procedures_apart, bodies_apart, same_count}
 use Rattle.user_app.proofs.SameTraces.{same_trace}
 
--- all that runs and logs take of a tree is the same
-pub record SameRules (s t : Tree) : Type 0 where
+-- all that moves and logs take of a tree is the same
+pub record SameMoves (s t : Tree) : Type 0 where
   pub setup : setup_of s ≡ setup_of t
   pub budget : s.budget ≡ t.budget
-  pub order : s.order ≡ t.order
   pub names : s.names ≡ t.names
   pub procedure_names : names_of s.procedures ≡ names_of t.procedures
   pub procedures : SameBodies (bodies_of s.procedures) (bodies_of t.procedures)
   pub count : length s.threads ≡ length t.threads
   pub bodies : SameBodies s.threads t.threads
+
+-- and so is the order list
+pub record SameRules (s t : Tree) : Type 0 where
+  pub moves : SameMoves s t
+  pub order : s.order ≡ t.order
 
 same_bodies : (s t : Tree) → script_lines s ≡ script_lines t → SameBodies (bodies_of s.procedures) (bodies_of t.procedures) × SameBodies s.threads t.threads
 unfolding script_lines
@@ -42,14 +46,16 @@ same_rules s t h =
     let bodies : SameBodies s.threads t.threads = both.1 in
     let count : length s.threads ≡ length t.threads = same_count s.threads t.threads bodies in
     record {
-      setup = ap (λ (n : ℕ). setup_from n s.width s.height) count ∙ ap (λ (n : ℕ). setup_from (length t.threads) n s.height) h.width ∙ ap (λ (n : ℕ). setup_from (length t.threads) t.width n) h.height;
-      budget = h.budget;
+      moves = record {
+        setup = ap (λ (n : ℕ). setup_from n s.width s.height) count ∙ ap (λ (n : ℕ). setup_from (length t.threads) n s.height) h.width ∙ ap (λ (n : ℕ). setup_from (length t.threads) t.width n) h.height;
+        budget = h.budget;
+        names = h.names;
+        procedure_names = h.procedures;
+        procedures = both.0;
+        count = count;
+        bodies = bodies;
+      };
       order = h.order;
-      names = h.names;
-      procedure_names = h.procedures;
-      procedures = both.0;
-      count = count;
-      bodies = bodies;
     }
 
 -- a choice by what it takes of a tree
@@ -64,24 +70,9 @@ chosen setup budget count past numbers =
     or_else (find (can_run setup budget past) numbers)
     (or_else (or_else (above setup budget count past (last_thread past)) (above setup budget count past 0)) (if is_barred setup past 0 then None else Some 0))
 
-module _ (s t : Tree) (h : SameRules s t) where
+module _ (s t : Tree) (h : SameMoves s t) where
   same_test : (past : Past) → is_runnable s past ≡ is_runnable t past
   same_test past = ap (λ (x : Setup). can_run x s.budget past) h.setup ∙ ap (λ (n : ℕ). can_run (setup_of t) n past) h.budget
-
-  -- what is left of the order list
-  same_left : (past : Past) → left s past ≡ left t past
-  same_left [] = h.order
-  same_left (e ∷ past) =
-      ap (λ (xs : List ℕ). if e.who.0 == 0 then xs else behind_first (is_runnable s past) xs) (same_left past)
-      ∙ ap (λ (f : ℕ → Bool). if e.who.0 == 0 then left t past else behind_first f (left t past)) (same_test past)
-
-  -- who moves next
-  same_choice : (past : Past) → choice s past ≡ choice t past
-  same_choice past =
-      ap (λ (x : Setup). chosen x s.budget (length s.threads) past (left s past)) h.setup
-      ∙ ap (λ (n : ℕ). chosen (setup_of t) n (length s.threads) past (left s past)) h.budget
-      ∙ ap (λ (n : ℕ). chosen (setup_of t) t.budget n past (left s past)) h.count
-      ∙ ap (chosen (setup_of t) t.budget (length t.threads) past) (same_left past)
 
   next_too : (past : Past) (who : ℕ) (call : Call) → ComesNext s past who call → ComesNext t past who call
   next_too past zero call k = k
@@ -100,16 +91,33 @@ module _ (s t : Tree) (h : SameRules s t) where
     room = m.room;
   }
 
-  run_too : (past : Past) → IsRun s past → IsRun t past
+  -- a run of the one is one of the other
+  pub run_too : (past : Past) → IsRun s past → IsRun t past
   run_too [] r = tt
   run_too (e ∷ past) r = (move_too past e r.0, run_too past r.1)
+
+module _ (s t : Tree) (h : SameRules s t) where
+  -- what is left of the order list
+  same_left : (past : Past) → left s past ≡ left t past
+  same_left [] = h.order
+  same_left (e ∷ past) =
+      ap (λ (xs : List ℕ). if e.who.0 == 0 then xs else behind_first (is_runnable s past) xs) (same_left past)
+      ∙ ap (λ (f : ℕ → Bool). if e.who.0 == 0 then left t past else behind_first f (left t past)) (same_test s t h.moves past)
+
+  -- who moves next
+  same_choice : (past : Past) → choice s past ≡ choice t past
+  same_choice past =
+      ap (λ (x : Setup). chosen x s.budget (length s.threads) past (left s past)) h.moves.setup
+      ∙ ap (λ (n : ℕ). chosen (setup_of t) n (length s.threads) past (left s past)) h.moves.budget
+      ∙ ap (λ (n : ℕ). chosen (setup_of t) t.budget n past (left s past)) h.moves.count
+      ∙ ap (chosen (setup_of t) t.budget (length t.threads) past) (same_left past)
 
   chosen_too : (past : Past) → IsByChoice s past → IsByChoice t past
   chosen_too [] r = tt
   chosen_too (e ∷ past) r = (sym (same_choice past) ∙ r.0, chosen_too past r.1)
 
   listed_too : (past : Past) → IsListed s past → IsListed t past
-  listed_too past l = record { run = run_too past l.run; chosen = chosen_too past l.chosen; over = sym (same_choice past) ∙ l.over }
+  listed_too past l = record { run = run_too s t h.moves past l.run; chosen = chosen_too past l.chosen; over = sym (same_choice past) ∙ l.over }
 
   -- the listed run of the one is that of the other
   pub same_run : (a b : Past) → IsListed s a → IsListed t b → a ≡ b

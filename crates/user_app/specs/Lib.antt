@@ -6,5 +6,6 @@ pub mod Mistakes
 pub mod Outcomes
 pub mod Parts
 pub mod Refusals
+pub mod Replays
 pub mod Requests
 pub mod Statuses

@@ -16,7 +16,10 @@ mod threads;
 
 pub use app::user_plain;
 pub use help::mistake;
-pub use laws::{one_log, one_output, one_refusal};
+pub use laws::{
+    constants_are_those_of_windows, one_log, one_output, one_refusal,
+    runs_are_listed_by_their_movers,
+};
 pub use status::Status;
 pub use threads::{user_main, user_threads};
 

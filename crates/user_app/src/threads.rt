@@ -50,6 +50,13 @@ pub fn user_threads<R: Threads + Wait + Sync, S: Source, K: Sink, G: Gate + Sync
 
     // The input was read to its end, and what was written is the log of a run of the script, whoever moved when; or it is no script, and where and why was written.
     ensures threads { (n : ℕ) → IsThreads (map string_bytes words.now) n → InputEnds IsRun LogForm.Plain (S.left source.old) (S.left source.new) (K.holds sink.old) (K.holds sink.new) (S.faults source.old) (S.faults source.new) (K.faults sink.old) (K.faults sink.new) result }
+
+    // No script, and faults, come only where a script is read; nothing was written where it can't be read.
+    ensures read { result ≡ Status.Script → AskForThreads (map string_bytes words.now) }
+    ensures read_fault { result ≡ Status.ReadFault → AskForThreads (map string_bytes words.now) × Rose (S.faults source.old) (S.faults source.new) × (sink.new ≡ sink.old) }
+    ensures write_fault { result ≡ Status.WriteFault → Rose (K.faults sink.old) (K.faults sink.new) }
+
+    // All is written only where neither the source nor the sink has failed in this call.
     ensures whole { IsWhole result → (S.faults source.new ≡ S.faults source.old) × (K.faults sink.new ≡ K.faults sink.old) }
 {
     match read_words(words) {
@@ -82,8 +89,8 @@ pub fn user_main<R: Threads + Wait + Sync, S: Source, K: Sink, G: Gate + Sync>(
     // No script.
     ensures read { result ≡ Status.Script → AskToRead (map string_bytes words.now) ⊎ AskForThreads (map string_bytes words.now) }
 
-    // Faults come only from the source and the sink.
-    ensures read_fault { result ≡ Status.ReadFault → (AskToRead (map string_bytes words.now) ⊎ AskForThreads (map string_bytes words.now)) × Rose (S.faults source.old) (S.faults source.new) }
+    // Faults come only from the source and the sink; nothing was written where the input can't be read.
+    ensures read_fault { result ≡ Status.ReadFault → (AskToRead (map string_bytes words.now) ⊎ AskForThreads (map string_bytes words.now)) × Rose (S.faults source.old) (S.faults source.new) × (sink.new ≡ sink.old) }
     ensures write_fault { result ≡ Status.WriteFault → Rose (K.faults sink.old) (K.faults sink.new) }
 
     // All is written only where neither the source nor the sink has failed in this call.
@@ -116,6 +123,7 @@ fn run_input<R: Threads + Wait + Sync, S: Source, K: Sink, G: Gate + Sync>(
 ) -> Status
     requires groups { (0 < groups) × (groups ≤ 15) }
     ensures ends { InputEnds IsRun LogForm.Plain (S.left source.old) (S.left source.new) (K.holds sink.old) (K.holds sink.new) (S.faults source.old) (S.faults source.new) (K.faults sink.old) (K.faults sink.new) result }
+    ensures read_fault { result ≡ Status.ReadFault → Rose (S.faults source.old) (S.faults source.new) × (sink.new ≡ sink.old) }
     ensures whole { IsWhole result → (S.faults source.new ≡ S.faults source.old) × (K.faults sink.new ≡ K.faults sink.old) }
 {
     match read_script(alloc, source) {

@@ -1,8 +1,9 @@
-use Rattle.std.proofs.Common.{map, ap, ◌∙◌, inl, inr}
+use Rattle.std.proofs.Common.{map, ap, subst, ◌∙◌, inl, inr}
 use Rattle.std.specs.String.{string_bytes}
+use Rattle.user_io.specs.Outside.{Rose}
 use Rattle.user_pool.specs.Runs.{IsRun}
 use Rattle.user_app.specs.declared.request.LogForm.TheVariants.{Plain}
-use Rattle.user_app.proofs.InputEndings.{read_failed, write_failed, never_illegal, moved}
+use Rattle.user_app.proofs.InputEndings.{never_illegal, moved}
 use Rattle.user_app.proofs.Requests.{plain_or_threads, run_or_threads, make_or_threads, check_no_threads}
 use Rattle.user_app.proofs.threads.user_main.Goals as goal
 
@@ -25,14 +26,12 @@ returns-in-WrongCall-clause-read g c = λ is. inr (c.user_plain.ensures.wrong_on
 pub returns-in-WrongCall-clause-read_fault : goal.returns-in-WrongCall-clause-read_fault
 returns-in-WrongCall-clause-read_fault g c = λ is.
     let wrong = c.user_plain.ensures.wrong_only c.in-WrongCall.is in
-    let told = moved IsRun Plain g.S.Source.left g.S.Source.faults g.K.Sink.holds g.K.Sink.faults c.args.source.now c.user_plain.new.source c.user_threads.new.source c.args.sink.now c.user_plain.new.sink c.user_threads.new.sink c.user_threads.result wrong.1 wrong.2 (c.user_threads.ensures.threads wrong.0.0 wrong.0.1) in
-    (inr wrong.0, read_failed IsRun Plain (g.S.Source.left c.args.source.now) (g.S.Source.left c.user_threads.new.source) (g.K.Sink.holds c.args.sink.now) (g.K.Sink.holds c.user_threads.new.sink) (g.S.Source.faults c.args.source.now) (g.S.Source.faults c.user_threads.new.source) (g.K.Sink.faults c.args.sink.now) (g.K.Sink.faults c.user_threads.new.sink) c.user_threads.result is told)
+    let told = c.user_threads.ensures.read_fault is in
+    (inr wrong.0, subst (λ s. Rose (g.S.Source.faults s) (g.S.Source.faults c.user_threads.new.source)) wrong.1 told.1, told.2 ∙ wrong.2)
 
 pub returns-in-WrongCall-clause-write_fault : goal.returns-in-WrongCall-clause-write_fault
 returns-in-WrongCall-clause-write_fault g c = λ is.
-    let wrong = c.user_plain.ensures.wrong_only c.in-WrongCall.is in
-    let told = moved IsRun Plain g.S.Source.left g.S.Source.faults g.K.Sink.holds g.K.Sink.faults c.args.source.now c.user_plain.new.source c.user_threads.new.source c.args.sink.now c.user_plain.new.sink c.user_threads.new.sink c.user_threads.result wrong.1 wrong.2 (c.user_threads.ensures.threads wrong.0.0 wrong.0.1) in
-    write_failed IsRun Plain (g.S.Source.left c.args.source.now) (g.S.Source.left c.user_threads.new.source) (g.K.Sink.holds c.args.sink.now) (g.K.Sink.holds c.user_threads.new.sink) (g.S.Source.faults c.args.source.now) (g.S.Source.faults c.user_threads.new.source) (g.K.Sink.faults c.args.sink.now) (g.K.Sink.faults c.user_threads.new.sink) c.user_threads.result is told
+    subst (λ s. Rose (g.K.Sink.faults s) (g.K.Sink.faults c.user_threads.new.sink)) (c.user_plain.ensures.wrong_only c.in-WrongCall.is).2 (c.user_threads.ensures.write_fault is)
 
 pub returns-in-WrongCall-clause-whole : goal.returns-in-WrongCall-clause-whole
 returns-in-WrongCall-clause-whole g c = λ whole.
@@ -66,7 +65,7 @@ returns-in_default-clause-read g c = λ is. inl (c.user_plain.ensures.read is)
 pub returns-in_default-clause-read_fault : goal.returns-in_default-clause-read_fault
 returns-in_default-clause-read_fault g c = λ is.
     let told = c.user_plain.ensures.read_fault is in
-    (inl told.0, told.1)
+    (inl told.0, told.1, told.2)
 
 pub returns-in_default-clause-threads : goal.returns-in_default-clause-threads
 returns-in_default-clause-threads g c = λ n asks. absurd (c.in_default.not-WrongCall (c.user_plain.ensures.wrong (n, asks)))

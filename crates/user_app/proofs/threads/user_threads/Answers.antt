@@ -2,7 +2,7 @@ use Rattle.std.proofs.Common.{map, refl, inl, inr}
 use Rattle.std.specs.String.{string_bytes}
 use Rattle.user_pool.specs.Runs.{IsRun}
 use Rattle.user_app.specs.declared.request.LogForm.TheVariants.{Plain}
-use Rattle.user_app.proofs.InputEndings.{never_words, never_wrong}
+use Rattle.user_app.proofs.InputEndings.{never_words, never_wrong, write_failed}
 use Rattle.user_app.proofs.Requests.{plain_or_threads, asks_plain, asks_to_run, run_or_threads, make_or_threads, check_no_threads}
 use Rattle.user_app.proofs.threads.user_threads.Goals as goal
 
@@ -21,6 +21,19 @@ pub returns-in-Threads-clause-wrong_only : goal.returns-in-Threads-clause-wrong_
 returns-in-Threads-clause-wrong_only g c = λ is.
     absurd (never_wrong IsRun Plain (g.S.Source.left c.args.source.now) (g.S.Source.left c.run_input.new.source) (g.K.Sink.holds c.args.sink.now) (g.K.Sink.holds c.run_input.new.sink) (g.S.Source.faults c.args.source.now) (g.S.Source.faults c.run_input.new.source) (g.K.Sink.faults c.args.sink.now) (g.K.Sink.faults c.run_input.new.sink)
     c.run_input.result is c.run_input.ensures.ends)
+
+pub returns-in-Threads-clause-read : goal.returns-in-Threads-clause-read
+returns-in-Threads-clause-read g c = λ is. (c.in-Threads.groups, c.in-Threads.ensures)
+
+pub returns-in-Threads-clause-read_fault : goal.returns-in-Threads-clause-read_fault
+returns-in-Threads-clause-read_fault g c = λ is.
+    let told = c.run_input.ensures.read_fault is in
+    ((c.in-Threads.groups, c.in-Threads.ensures), told.0, told.1)
+
+pub returns-in-Threads-clause-write_fault : goal.returns-in-Threads-clause-write_fault
+returns-in-Threads-clause-write_fault g c = λ is.
+    write_failed IsRun Plain (g.S.Source.left c.args.source.now) (g.S.Source.left c.run_input.new.source) (g.K.Sink.holds c.args.sink.now) (g.K.Sink.holds c.run_input.new.sink) (g.S.Source.faults c.args.source.now) (g.S.Source.faults c.run_input.new.source) (g.K.Sink.faults c.args.sink.now) (g.K.Sink.faults c.run_input.new.sink)
+    c.run_input.result is c.run_input.ensures.ends
 
 pub returns-in-Nothing-clause-wrong : goal.returns-in-Nothing-clause-wrong
 returns-in-Nothing-clause-wrong g c = λ plain. absurd (asks_plain (map string_bytes c.args.words.now) plain c.in-Nothing.ensures)
