@@ -13,7 +13,7 @@ MANUAL = TOP / "docs/SCRIPTS.md"
 SECONDS = 60
 RANDOM_SCRIPTS = 100
 HEAD = "user 1\nscreen 8 4\nbudget 100\norder\n"
-KINDER = re.compile(r"^```us\n(.*?)^```\n((?:(?!```).*\n)*)^```script\n(.*?)^```\n", re.MULTILINE | re.DOTALL)
+KINDER = re.compile(r"^```us\n(.*?)^```\n((?:(?!```)[^\n]*\n)*)^```script\n(.*?)^```\n", re.MULTILINE | re.DOTALL)
 STATEMENT_ROW = re.compile(r"`([a-z_]+(?: [A-Z]+)*)`")
 VALUE = re.compile(r"\b([A-Z]+_[A-Z_]+)\s(-?[0-9]+)\b")
 
