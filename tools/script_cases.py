@@ -1,4 +1,6 @@
-"""The kinder form of scripts, `tools/script`: what it is translated to, what is told of mistakes, the way back, and its table of statements against the manual's."""
+"""The kinder form of scripts, `tools/script`: what it is translated to, what is told of mistakes, the way back, and its table of statements against the manual's.
+
+`python3 tools/script_cases.py` tries these cases alone, without the built program."""
 import importlib.machinery
 import importlib.util
 import pathlib
@@ -6,6 +8,8 @@ import re
 import subprocess
 import sys
 import tempfile
+
+from trial import Tally
 
 TOP = pathlib.Path(__file__).resolve().parent.parent
 TOOL = TOP / "tools/script"
@@ -207,3 +211,9 @@ def kinder_form(trial):
     """All of these cases; none needs the built program."""
     for part in (translations, mistakes, back_and_forth, tables, manual_examples, command):
         part(trial)
+
+
+if __name__ == "__main__":
+    tally = Tally()
+    kinder_form(tally)
+    sys.exit(tally.ended())
