@@ -85,6 +85,7 @@ MISTAKES = (
     ("sleep 18446744073709551616", "6:7: '18446744073709551616' isn't 0 to 18446744073709551615 or -1 to -9223372036854775808"),
     ("sleep (1 + 2", "6:7: this bracket isn't closed"),
     ("sleep 1 +", "6:10: an operand is missing"),
+    ("sleep " + "(" * 33 + "1" + ")" * 33, "6:39: brackets nest at most 32 deep"),
     ("sleep 2 * 3", "6:9: '*' can't stand here"),
     ("sleep \u00e9", "6:7: the character U+00E9 can't stand here"),
     ("yield ; waits", "6:7: a comment begins with '#'"),
