@@ -1,0 +1,3 @@
+pub mod Packing
+pub mod Replies
+pub mod Sides

@@ -1,0 +1,18 @@
+//! Conversations between a client, who asks, and a server, who answers, over posted messages. The sides make no call: whoever
+//! runs them posts what they have to say and hands them what came.
+#![tactic(auto)]
+
+mod client;
+mod items;
+mod laws;
+mod message;
+pub mod names;
+mod packing;
+mod server;
+mod talker;
+
+pub use client::Client;
+pub use laws::packed_and_unpacked;
+pub use message::{Ask, Event, Message, Post, Reply};
+pub use packing::{packed, unpacked};
+pub use server::Server;
