@@ -1,3 +1,5 @@
+pub mod Agrees
 pub mod Packing
 pub mod Replies
 pub mod Sides
+pub mod Worlds

@@ -3,16 +3,21 @@
 #![tactic(auto)]
 
 mod client;
+mod event;
 mod items;
 mod laws;
 mod message;
 pub mod names;
 mod packing;
+mod parts;
 mod server;
 mod talker;
+mod world;
 
 pub use client::Client;
+pub use event::{Act, Happened, Side};
 pub use laws::packed_and_unpacked;
 pub use message::{Ask, Event, Message, Post, Reply};
 pub use packing::{packed, unpacked};
 pub use server::Server;
+pub use world::World;
