@@ -5,7 +5,10 @@ use Rattle.user_model.specs.declared.call.Call.TheVariants.{Leave}
 use Rattle.script_tree.specs.declared.statement.Statement.TheVariants.{Compound as CompoundOf}
 use Rattle.script_tree.specs.declared.statement.CompoundStatement.{CompoundStatement}
 use Rattle.script_tree.specs.declared.statement.CompoundStatement.TheVariants.{PostAll, NotifyAll, Pump, Dialog}
+use Rattle.script_tree.specs.declared.statement.CallStatement.{CallStatement}
+use Rattle.script_tree.specs.declared.statement.CallStatement.TheVariants.{Yield}
 use Rattle.script_tree.specs.declared.variables.Variables.{Variables}
+use Rattle.script_tree.specs.Values.{call_of}
 use Rattle.script_tree.specs.Tree.{Tree}
 use Rattle.script_tree.specs.Pieces.{Piece, Making, Leaves, State, Going, Becomes, Asks}
 use Rattle.script_tree.specs.Steps.{step, statement}
@@ -15,7 +18,7 @@ use Rattle.win_calls.specs.declared.compound.Next.{Next}
 use Rattle.win_calls.specs.declared.compound.Next.TheVariants.{Make}
 use Rattle.win_calls.specs.declared.stage.Stage.{Stage}
 use Rattle.win_calls.specs.Table.{begun, compound_of, Comes, silent, calls, runs, over, Handed, started, was_answered, was_returned}
-use Rattle.win_calls.specs.States.{StandsFor, is_fresh, is_ready, is_asked, is_running, is_leaving, is_over, Accepts, IsLeave}
+use Rattle.win_calls.specs.States.{StandsAlone, StandsFor, is_fresh, is_ready, is_asked, is_running, is_leaving, is_over, Accepts, IsLeave}
 
 -- a compound statement becomes the pieces of the compound with the values of its operands
 pub begins_so : (c : CompoundStatement) (v : Variables) (n : ℕ) → IfSome (compound_of c v) (λ d. statement (CompoundOf c) v n ≡ Becomes (begun d) (Going v))
@@ -24,6 +27,11 @@ begins_so (NotifyAll m p q) v n = refl
 begins_so Pump v n = tt
 begins_so (Dialog w) v n = tt
 begins_so c v n = refl
+
+-- the call of a statement is neither a `leave` nor the end of a thread
+pub stands_alone : (ask : CallStatement) (v : Variables) → StandsAlone (call_of ask v)
+stands_alone Yield v = record { stays = refl; goes_on = refl }
+stands_alone ask v = record { stays = refl; goes_on = refl }
 
 module _ (s : Tree) (n : ℕ) where
   -- the same from other pieces and another state that are equal

@@ -50,7 +50,7 @@ use Rattle.win_calls.specs.declared.stage.Stage.{Stage}
 use Rattle.win_calls.specs.declared.stage.Stage.TheVariants.{Asked, Running as RunningStage, Leaving as LeavingStage, Over}
 use Rattle.win_calls.specs.declared.stage.Step.{Step}
 use Rattle.win_calls.specs.Table.{silent, calls, runs, over, IsNoRun, runs_first, asked_of, begin_of, begun_with, begun}
-use Rattle.win_calls.specs.States.{Suits, IsTurn, IsInside, within, outer_in, depth, first_turn, MayFollow, Awaits, Accepts, IsRun, around_pieces, behind, then_piece, then_of, Hands, first, more, Below, is_first, is_later, is_asked, is_running, is_leaving, is_over, Leads}
+use Rattle.win_calls.specs.States.{Suits, IsTurn, IsInside, IsPlaced, placed, within, outer_in, depth, first_turn, MayFollow, Awaits, Accepts, IsRun, around_pieces, behind, then_piece, then_of, Hands, first, more, Below, is_first, is_later, is_asked, is_running, is_leaving, is_over, Leads}
 
 -- one compound more may be around
 abbrev pub HasRoom : Around → Type 0
@@ -60,15 +60,15 @@ HasRoom (Two a b) = ⊥
 
 -- what a turn needs of the next call and its place
 abbrev pub LeadSuits : Around → Lead → Type 0
-LeadSuits around (Calls call q) = Suits call q around
-LeadSuits around (Runs b q) = Suits b.call b.place (within q around) × HasRoom around
+LeadSuits around (Calls call q) = Suits call (Some q) around
+LeadSuits around (Runs b q) = Suits b.call (Some b.place) (within q around) × HasRoom around
 LeadSuits around (Ends a) = Unit {0}
 
 either : (b : Bool) (around : Around) (x y : Lead) → LeadSuits around x → LeadSuits around y → LeadSuits around (if b then x else y)
 either true around x y f g = f
 either false around x y f g = g
 
-pub plain : {call : Call} {q : Place} {around : Around} → leaves call ≡ false → is_last call ≡ false → IsInside q around → Suits call q around
+pub plain : {call : Call} {q : Place} {around : Around} → leaves call ≡ false → is_last call ≡ false → IsInside q around → Suits call (Some q) around
 plain c d e = record { stays = c; goes_on = d; inside = e }
 
 -- a compound of its own calls alone begins inside of one that lets others begin
@@ -99,7 +99,7 @@ calling_suits call (Refused code) around i = tt
 calling_suits call a around i = notifies_suits (next_notice (notices_after call (number_in a))) (others (notices_after call (number_in a))) (result_after call (number_in a)) around i
 
 -- and a message that goes to a top-level window
-reach_suits : (way : Spread) (b : Broadcast) (w : ℕ) (around : Around) → IsInside (Reaching b w) around → Suits (reach_by way b w) (Reaching b w) around
+reach_suits : (way : Spread) (b : Broadcast) (w : ℕ) (around : Around) → IsInside (Reaching b w) around → Suits (reach_by way b w) (Some (Reaching b w)) around
 reach_suits Posts b w around i = plain refl refl i
 reach_suits Notifies b w around i = plain refl refl i
 
@@ -265,21 +265,31 @@ inside_pieces q (One a) ps h = refl
 inside_pieces q (Two a b) ps h = absurd h
 
 -- the compound around goes on
-hands_to_one : (turn : Turn) (q : Place) → IsTurn turn → turn.around ≡ One q → IsTurn (record turn { place = q; around = Nobody })
-hands_to_one turn q h e =
-    let i : IsInside turn.place (One q) = subst (λ x. IsInside turn.place x) e h.inside in
+hands_to_one : (turn : Turn) (p q : Place) → IsTurn turn → turn.place ≡ Some p → turn.around ≡ One q → IsTurn (record turn { place = Some q; around = Nobody })
+hands_to_one turn p q h d e =
+    let i : IsInside p (One q) = subst (λ x. IsPlaced x (One q)) d (subst (λ x. IsPlaced turn.place x) e h.inside) in
     plain h.stays h.goes_on i.1
 
-hands_to_two : (turn : Turn) (q a : Place) → IsTurn turn → turn.around ≡ Two q a → IsTurn (record turn { place = q; around = One a })
-hands_to_two turn q a h e =
-    let i : IsInside turn.place (Two q a) = subst (λ x. IsInside turn.place x) e h.inside in
+hands_to_two : (turn : Turn) (p q a : Place) → IsTurn turn → turn.place ≡ Some p → turn.around ≡ Two q a → IsTurn (record turn { place = Some q; around = One a })
+hands_to_two turn p q a h d e =
+    let i : IsInside p (Two q a) = subst (λ x. IsPlaced x (Two q a)) d (subst (λ x. IsPlaced turn.place x) e h.inside) in
     plain h.stays h.goes_on (i.1, i.2)
 
+-- a statement that is one call alone is inside of none
+none_around : (x : Around) → IsPlaced None x → x ≡ Nobody
+none_around Nobody h = refl
+none_around (One q) h = absurd h
+none_around (Two q a) h = absurd h
+
+-- what is around a call that leads to a place
+around_place : (turn : Turn) (p : Place) → IsTurn turn → turn.place ≡ Some p → IsInside p turn.around
+around_place turn p h d = subst (λ x. IsPlaced x turn.around) d h.inside
+
 -- and so it does by the turn outside
-pub hands_out : (turn o : Turn) (x : Around) → turn.around ≡ x → outer_in turn x ≡ Some o → IsTurn turn → IsTurn o
-hands_out turn o Nobody e f h = absurd (cc f)
-hands_out turn o (One q) e f h = let same : record turn { place = q; around = Nobody } ≡ o = cc f in subst IsTurn same (hands_to_one turn q h e)
-hands_out turn o (Two q a) e f h = let same : record turn { place = q; around = One a } ≡ o = cc f in subst IsTurn same (hands_to_two turn q a h e)
+pub hands_out : (turn o : Turn) (p : Place) (x : Around) → turn.place ≡ Some p → turn.around ≡ x → outer_in turn x ≡ Some o → IsTurn turn → IsTurn o
+hands_out turn o p Nobody d e f h = absurd (cc f)
+hands_out turn o p (One q) d e f h = let same : record turn { place = Some q; around = Nobody } ≡ o = cc f in subst IsTurn same (hands_to_one turn p q h d e)
+hands_out turn o p (Two q a) d e f h = let same : record turn { place = Some q; around = One a } ≡ o = cc f in subst IsTurn same (hands_to_two turn p q a h d e)
 
 -- a compound that the default procedure begins with
 default_suits : (p : Parameters) (b : Begin) (x : ℕ) (call : Call) → Some b ≡ default_begin p → IsTurn (first_turn b (One (Defaulting x)) call)
@@ -315,41 +325,54 @@ module _ (s : Tree) (n : ℕ) where
   asks_leads turn v h = record { left = Making turn.call ∷ behind turn; state = Going v; comes = calls turn.call refl; stands = is_asked turn v h }
 
   -- the end of a statement that sets r and err
-  pub settles_leads : (call : Call) (a : Answer) (v w : Variables) → Leads s n (Settle call ∷ []) (Given v a 0) Over (Done (settled w call a 0).last_result (settled w call a 0).last_error)
-  settles_leads call a v w =
-      let l : Leads s n (Settle call ∷ []) (Given v a 0) Over (Done (settled v call a 0).last_result (settled v call a 0).last_error) = record { left = []; state = Going (settled v call a 0); comes = silent [] (Going (settled v call a 0)) tt refl over; stands = is_over (settled v call a 0) } in
-      subst (λ x. Leads s n (Settle call ∷ []) (Given v a 0) Over x) (settled_same v w call a 0) l
+  pub settles_leads : (call : Call) (a : Answer) (x : ℕ) (v w : Variables) → Leads s n (Settle call ∷ []) (Given v a x) Over (Done (settled w call a x).last_result (settled w call a x).last_error)
+  settles_leads call a x v w =
+      let l : Leads s n (Settle call ∷ []) (Given v a x) Over (Done (settled v call a x).last_result (settled v call a x).last_error) = record { left = []; state = Going (settled v call a x); comes = silent [] (Going (settled v call a x)) tt refl over; stands = is_over (settled v call a x) } in
+      subst (λ y. Leads s n (Settle call ∷ []) (Given v a x) Over y) (settled_same v w call a x) l
+
+  -- the answer of a statement that is one call alone goes to its end
+  pub single_leads : (turn : Turn) (a : Answer) (x : ℕ) (v : Variables) (stage : Stage) (next : Next) → IsTurn turn → turn.place ≡ None → Leads s n (Settle turn.statement ∷ []) (Given v a x) stage next → Leads s n (behind turn) (Given v a x) stage next
+  single_leads turn a x v stage next h e l =
+      let alone : turn.around ≡ Nobody = none_around turn.around (subst (λ o. IsPlaced o turn.around) e h.inside) in
+      subst (λ o. Leads s n (placed o (around_pieces turn.around (Settle turn.statement ∷ []))) (Given v a x) stage next) (sym e)
+      (subst (λ y. Leads s n (around_pieces y (Settle turn.statement ∷ [])) (Given v a x) stage next) (sym alone) l)
+
+  -- the pieces behind a call that leads to a place
+  at_place : (turn : Turn) (p : Place) (st : State) (stage : Stage) (next : Next) → turn.place ≡ Some p → Leads s n (Feed p ∷ around_pieces turn.around (Settle turn.statement ∷ [])) st stage next → Leads s n (behind turn) st stage next
+  at_place turn p st stage next e l = subst (λ o. Leads s n (placed o (around_pieces turn.around (Settle turn.statement ∷ []))) st stage next) (sym e) l
 
   -- the answer of a call leads on to the next
-  pub feed_calls : (turn : Turn) (a : Answer) (x : ℕ) (v : Variables) (call : Call) (q : Place) → IsTurn turn → Calls call q ≡ compound_after turn.place a x → Leads s n (behind turn) (Given v a x) (Asked (record { call = call; place = q; around = turn.around; statement = turn.statement })) (Make call)
-  feed_calls turn a x v call q h e =
-      let next : Turn = record { call = call; place = q; around = turn.around; statement = turn.statement } in
-      let suits : IsTurn next = subst (LeadSuits turn.around) (sym e) (lead_suits turn.place a x turn.around h.inside) in
-      before (Feed turn.place) (around_pieces turn.around (Settle turn.statement ∷ [])) (Making call ∷ Feed q ∷ []) (Given v a x) (Going v) (Asked next) (Make call) tt (ap (goes_on v) (sym e)) (asks_leads next v suits)
+  pub feed_calls : (turn : Turn) (p : Place) (a : Answer) (x : ℕ) (v : Variables) (call : Call) (q : Place) → IsTurn turn → turn.place ≡ Some p → Calls call q ≡ compound_after p a x → Leads s n (behind turn) (Given v a x) (Asked (record { call = call; place = Some q; around = turn.around; statement = turn.statement })) (Make call)
+  feed_calls turn p a x v call q h d e =
+      let next : Turn = record { call = call; place = Some q; around = turn.around; statement = turn.statement } in
+      let suits : IsTurn next = subst (LeadSuits turn.around) (sym e) (lead_suits p a x turn.around (around_place turn p h d)) in
+      at_place turn p (Given v a x) (Asked next) (Make call) d
+      (before (Feed p) (around_pieces turn.around (Settle turn.statement ∷ [])) (Making call ∷ Feed q ∷ []) (Given v a x) (Going v) (Asked next) (Make call) tt (ap (goes_on v) (sym e)) (asks_leads next v suits))
 
   -- to the first call of a compound inside of it
-  pub feed_runs : (turn : Turn) (a : Answer) (x : ℕ) (v : Variables) (b : Begin) (q : Place) (around : Around) → IsTurn turn → around ≡ within q turn.around → Runs b q ≡ compound_after turn.place a x → Leads s n (behind turn) (Given v a x) (Asked (record { call = b.call; place = b.place; around = around; statement = turn.statement })) (Make b.call)
-  feed_runs turn a x v b q around h f e =
-      let k : Suits b.call b.place (within q turn.around) × HasRoom turn.around = subst (LeadSuits turn.around) (sym e) (lead_suits turn.place a x turn.around h.inside) in
-      let turn_of : Around → Turn = λ y. record { call = b.call; place = b.place; around = y; statement = turn.statement } in
+  pub feed_runs : (turn : Turn) (p : Place) (a : Answer) (x : ℕ) (v : Variables) (b : Begin) (q : Place) (around : Around) → IsTurn turn → turn.place ≡ Some p → around ≡ within q turn.around → Runs b q ≡ compound_after p a x → Leads s n (behind turn) (Given v a x) (Asked (record { call = b.call; place = Some b.place; around = around; statement = turn.statement })) (Make b.call)
+  feed_runs turn p a x v b q around h d f e =
+      let k : Suits b.call (Some b.place) (within q turn.around) × HasRoom turn.around = subst (LeadSuits turn.around) (sym e) (lead_suits p a x turn.around (around_place turn p h d)) in
+      let turn_of : Around → Turn = λ y. record { call = b.call; place = Some b.place; around = y; statement = turn.statement } in
       let next : Turn = turn_of (within q turn.around) in
       let suits : IsTurn next = k.0 in
       let rest = around_pieces turn.around (Settle turn.statement ∷ []) in
       let l : Leads s n (behind turn) (Given v a x) (Asked next) (Make b.call) =
-      before (Feed turn.place) rest (Making b.call ∷ Feed b.place ∷ Feed q ∷ []) (Given v a x) (Going v) (Asked next) (Make b.call) tt (ap (goes_on v) (sym e))
-      (subst (λ ps. Leads s n (Making b.call ∷ Feed b.place ∷ ps) (Going v) (Asked next) (Make b.call)) (inside_pieces q turn.around (Settle turn.statement ∷ []) k.1) (asks_leads next v suits)) in
+      at_place turn p (Given v a x) (Asked next) (Make b.call) d
+      (before (Feed p) rest (Making b.call ∷ Feed b.place ∷ Feed q ∷ []) (Given v a x) (Going v) (Asked next) (Make b.call) tt (ap (goes_on v) (sym e))
+      (subst (λ ps. Leads s n (Making b.call ∷ Feed b.place ∷ ps) (Going v) (Asked next) (Make b.call)) (inside_pieces q turn.around (Settle turn.statement ∷ []) k.1) (asks_leads next v suits))) in
       subst (λ y. Leads s n (behind turn) (Given v a x) (Asked (turn_of y)) (Make b.call)) (sym f) l
 
   -- to the place of the compound around it, or to the end
-  pub feed_ends : (turn : Turn) (a b : Answer) (x : ℕ) (v : Variables) (stage : Stage) (next : Next) → Ends b ≡ compound_after turn.place a x → Leads s n (around_pieces turn.around (Settle turn.statement ∷ [])) (Given v b 0) stage next → Leads s n (behind turn) (Given v a x) stage next
-  feed_ends turn a b x v stage next e l =
-      before (Feed turn.place) (around_pieces turn.around (Settle turn.statement ∷ [])) [] (Given v a x) (Given v b 0) stage next tt (ap (goes_on v) (sym e)) l
+  pub feed_ends : (turn : Turn) (p : Place) (a b : Answer) (x : ℕ) (v : Variables) (stage : Stage) (next : Next) → turn.place ≡ Some p → Ends b ≡ compound_after p a x → Leads s n (around_pieces turn.around (Settle turn.statement ∷ [])) (Given v b 0) stage next → Leads s n (behind turn) (Given v a x) stage next
+  feed_ends turn p a b x v stage next d e l =
+      at_place turn p (Given v a x) stage next d (before (Feed p) (around_pieces turn.around (Settle turn.statement ∷ [])) [] (Given v a x) (Given v b 0) stage next tt (ap (goes_on v) (sym e)) l)
 
   -- the pieces around a call are those behind the turn outside of it
   pub outer_leads : (turn o : Turn) (x : Around) (st : State) (stage : Stage) (next : Next) → outer_in turn x ≡ Some o → Leads s n (behind o) st stage next → Leads s n (around_pieces x (Settle turn.statement ∷ [])) st stage next
   outer_leads turn o Nobody st stage next f l = absurd (cc f)
-  outer_leads turn o (One q) st stage next f l = let same : record turn { place = q; around = Nobody } ≡ o = cc f in subst (λ (t : Turn). Leads s n (behind t) st stage next) (sym same) l
-  outer_leads turn o (Two q a) st stage next f l = let same : record turn { place = q; around = One a } ≡ o = cc f in subst (λ (t : Turn). Leads s n (behind t) st stage next) (sym same) l
+  outer_leads turn o (One q) st stage next f l = let same : record turn { place = Some q; around = Nobody } ≡ o = cc f in subst (λ (t : Turn). Leads s n (behind t) st stage next) (sym same) l
+  outer_leads turn o (Two q a) st stage next f l = let same : record turn { place = Some q; around = One a } ≡ o = cc f in subst (λ (t : Turn). Leads s n (behind t) st stage next) (sym same) l
 
   -- nothing is around a call that none is around
   pub alone_around : (turn : Turn) (x : Around) (st : State) (stage : Stage) (next : Next) → outer_in turn x ≡ None → Leads s n (Settle turn.statement ∷ []) st stage next → Leads s n (around_pieces x (Settle turn.statement ∷ [])) st stage next
@@ -499,7 +522,7 @@ module _ (s : Tree) (n : ℕ) where
   alone_leads p x call r v f g k =
       let pieces : default_pieces p (Settle call ∷ []) ≡ Giving (Value x) ∷ Settle call ∷ [] = ap (λ y. default_over y (default_result p) (Settle call ∷ [])) (sym f) ∙ ap (λ y. default_over None y (Settle call ∷ [])) (sym g) in
       carry (default_pieces p (Settle call ∷ [])) (Going v) Over (Done x 0) r k
-      (subst (λ ps. Leads s n ps (Going v) Over (Done x 0)) (sym pieces) (before (Giving (Value x)) (Settle call ∷ []) [] (Going v) (Given v (Value x) 0) Over (Done x 0) tt refl (settles_leads call (Value x) v v)))
+      (subst (λ ps. Leads s n ps (Going v) Over (Done x 0)) (sym pieces) (before (Giving (Value x)) (Settle call ∷ []) [] (Going v) (Given v (Value x) 0) Over (Done x 0) tt refl (settles_leads call (Value x) 0 v v)))
 
   -- the same from an answer that is equal
   pub at_answer : (call : Call) (rest : List Piece) (a b : Answer) (v : Variables) (stage : Stage) (next : Next) → a ≡ b → Leads s n (follows call b ++ rest) (answered call b v) stage next → Leads s n (follows call a ++ rest) (answered call a v) stage next

@@ -116,29 +116,40 @@ count Nobody = 0
 count (One a) = 1
 count (Two a b) = 2
 
--- a call that a compound makes itself, neither a `leave` nor the end of a thread, before that place
-pub record Suits (call : Call) (place : Place) (around : Around) : Type 0 where
+-- the same where its end may lead to a place; a statement that is one call alone is inside of none
+abbrev pub IsPlaced : Option Place → Around → Type 0
+IsPlaced (Some q) around = IsInside q around
+IsPlaced None Nobody = Unit {0}
+IsPlaced None around = ⊥
+
+-- a call that is neither a `leave` nor the end of a thread
+pub record StandsAlone (call : Call) : Type 0 where
   pub stays : leaves call ≡ false
   pub goes_on : is_last call ≡ false
-  pub inside : IsInside place around
+
+-- a call that a statement makes itself, neither a `leave` nor the end of a thread, before that place
+pub record Suits (call : Call) (place : Option Place) (around : Around) : Type 0 where
+  pub stays : leaves call ≡ false
+  pub goes_on : is_last call ≡ false
+  pub inside : IsPlaced place around
 
 -- the same turn at the place of the compound around it, where one is around
 abbrev pub outer_in : Turn → Around → Option Turn
 outer_in turn Nobody = None
-outer_in turn (One a) = Some (record turn { place = a; around = Nobody })
-outer_in turn (Two a b) = Some (record turn { place = a; around = One b })
+outer_in turn (One a) = Some (record turn { place = Some a; around = Nobody })
+outer_in turn (Two a b) = Some (record turn { place = Some a; around = One b })
 
 -- the same by the compounds that are around the turn
 abbrev pub outer : Turn → Option Turn
 outer turn = outer_in turn turn.around
 
--- a call that a compound makes itself
+-- a call that a statement makes itself
 abbrev pub IsTurn : Turn → Type 0
 IsTurn turn = Suits turn.call turn.place turn.around
 
 -- the first call of a compound
 abbrev pub first_turn : Begin → Around → Call → Turn
-first_turn b around call = record { call = b.call; place = b.place; around = around; statement = call }
+first_turn b around call = record { call = b.call; place = Some b.place; around = around; statement = call }
 
 -- the pieces of the compounds around one, before others
 abbrev pub around_pieces : Around → List Piece → List Piece
@@ -146,9 +157,14 @@ around_pieces Nobody ps = ps
 around_pieces (One a) ps = Feed a ∷ ps
 around_pieces (Two a b) ps = Feed a ∷ Feed b ∷ ps
 
+-- the piece of a place, before others
+abbrev pub placed : Option Place → List Piece → List Piece
+placed (Some q) ps = Feed q ∷ ps
+placed None ps = ps
+
 -- the pieces behind a call
 abbrev pub behind : Turn → List Piece
-behind turn = Feed turn.place ∷ around_pieces turn.around (Settle turn.statement ∷ [])
+behind turn = placed turn.place (around_pieces turn.around (Settle turn.statement ∷ []))
 
 -- the piece behind the procedure that runs for a call
 abbrev pub then_piece : Call → Then → Piece

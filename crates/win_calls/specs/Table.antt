@@ -10,7 +10,7 @@ use Rattle.script_tree.specs.declared.statement.CompoundStatement.{CompoundState
 use Rattle.script_tree.specs.declared.statement.CompoundStatement.TheVariants as statements
 use Rattle.script_tree.specs.Values.{value_of, edge_of}
 use Rattle.script_tree.specs.Compounds.{creation, destruction, notifying, broadcast, broadcasting}
-use Rattle.script_tree.specs.Pieces.{Piece, Settle, Running, Leaving, Restore, State, Going, Returning, Becomes, Asks}
+use Rattle.script_tree.specs.Pieces.{Piece, Making, Settle, Running, Leaving, Restore, State, Going, Returning, Becomes, Asks}
 use Rattle.script_tree.specs.Steps.{step, follows, answered, variables_of, parameters_from, begun_over, default_pieces, is_callback}
 use Rattle.user_model.specs.declared.call.Call.{Call}
 use Rattle.user_model.specs.declared.call.Call.TheVariants.{NewWindow, Doom, Show, Enable, Place as PlaceCall, SetFocus as SetFocusCall, SetActive as SetActiveCall, SetCapture as SetCaptureCall, ReleaseCapture as ReleaseCaptureCall, BeginPaint as BeginPaintCall, UpdateRect}
@@ -63,6 +63,10 @@ begun_with b = begun_over b (Settle b.call ∷ [])
 abbrev pub begun : Compound → List Piece
 begun (DefaultOf w number p q) = default_pieces (parameters_from w number p q) (Settle (Doom w) ∷ [])
 begun c = begun_with (begin_of c)
+
+-- the pieces of a statement that is this call alone, as its line in the table has them
+abbrev pub made : Call → List Piece
+made call = Making call ∷ Settle call ∷ []
 
 -- that procedure is to run with these parameters
 abbrev pub run_asked : ℕ → Parameters → Bool → Next

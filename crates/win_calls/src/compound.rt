@@ -1,9 +1,9 @@
-//! Compound statements, what they are handed and what they ask for.
+//! Compound statements, what a statement is handed and what it asks for.
 
 use user_model::{Answer, Call};
 use win_num::Hwnd;
 
-/// What a compound statement is handed.
+/// What a statement is handed.
 #[derive(Clone, Copy, Debug, PartialEq, Eq)]
 pub enum Got {
     /// Nothing yet: it begins.
@@ -14,7 +14,7 @@ pub enum Got {
     Returned(u64),
 }
 
-/// What a compound statement asks for.
+/// What a statement asks for.
 #[derive(Clone, Copy, Debug, PartialEq, Eq)]
 pub enum Next {
     /// This call of the machine is to be made.
@@ -36,7 +36,9 @@ pub enum Next {
     /// It has ended; `r` and `err` are what the statement sets them to: for `create` the window or 0, for
     /// `destroy` 1 or 0, for `default` its result; for `show_window` 1 where the window was visible, for
     /// `enable_window` 1 where it was disabled, for those of focus, active window and capture the window that was
-    /// there, and 1 for any other, each with err 0; and 0 with the number of a refusal.
+    /// there, and 1 for any other, each with err 0; and 0 with the number of a refusal. For a `send` it is the result
+    /// of the window's procedure, or 0 with err 1460 where its time was over and 1400 where its window is gone
+    /// (Microsoft, SendMessageTimeout function).
     Done {
         r: u64,
         err: u16,

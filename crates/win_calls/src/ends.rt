@@ -37,13 +37,13 @@ fn over(r: u64, err: u16) -> Step
     }
 }
 
-/// It ends with this answer, and its statement is that of this call.
-fn ended(statement: Call, answer: Answer) -> Step
-    ensures follows { (s : Tree) (n : ℕ) (v : Variables) → Leads s n (Settle statement ∷ []) (Given v answer 0) result.stage result.next }
+/// It ends with this answer and this result of the procedure that ran for it, and its statement is that of this call.
+fn ended(statement: Call, answer: Answer, value: u64) -> Step
+    ensures follows { (s : Tree) (n : ℕ) (v : Variables) → Leads s n (Settle statement ∷ []) (Given v answer value) result.stage result.next }
     ensures accepts { (g : Got) → Awaits result.next g → Accepts result.stage g }
 {
     let mut variables = Variables::start();
-    variables.settle(&statement, &answer, 0);
+    variables.settle(&statement, &answer, value);
     over(variables.last_result, variables.last_error)
 }
 
@@ -69,32 +69,35 @@ fn outer(turn: Turn) -> Option<Turn>
         Around::Two(place, outer) => (place, Around::One(outer)),
     };
     Some(Turn {
-        place,
+        place: Some(place),
         around,
         ..turn
     })
 }
 
-/// Its call has this answer, with this result of the procedure that ran for it. Where a compound ends
-/// inside of another, that one goes on with the answer.
+/// Its call has this answer, with this result of the procedure that ran for it. A statement that is this call alone
+/// ends; where a compound ends inside of another, that one goes on with the answer.
 pub fn gives(turn: Turn, answer: Answer, value: u64) -> Step
     ensures follows { (s : Tree) (n : ℕ) (v : Variables) → IsTurn turn → Leads s n (behind turn) (Given v answer value) result.stage result.next }
     ensures accepts { (g : Got) → Awaits result.next g → Accepts result.stage g }
 {
-    match turn.place.after(&answer, value) {
+    let Some(at) = turn.place else {
+        return ended(turn.statement, answer, value);
+    };
+    match at.after(&answer, value) {
         Lead::Calls(call, place) => asks(Turn {
             call,
-            place,
+            place: Some(place),
             ..turn
         }),
         Lead::Runs(begin, place) => asks(Turn {
             call: begin.call,
-            place: begin.place,
+            place: Some(begin.place),
             around: within(place, turn.around),
             ..turn
         }),
         Lead::Ends(last) => match outer(turn) {
-            None => ended(turn.statement, last),
+            None => ended(turn.statement, last, 0),
             Some(outer) => gives(outer, last, 0),
         },
     }
@@ -107,7 +110,7 @@ fn starts(begin: Begin, around: Around, statement: Call) -> Step
 {
     asks(Turn {
         call: begin.call,
-        place: begin.place,
+        place: Some(begin.place),
         around,
         statement,
     })

@@ -1,4 +1,4 @@
-//! How far a compound statement has come.
+//! How far a statement has come.
 
 use crate::compound::{Compound, Next};
 use script_tree::Place;
@@ -13,13 +13,13 @@ pub enum Around {
     Two(Place, Place),
 }
 
-/// One call of a compound.
+/// One call of a compound, or of a statement that is one call alone.
 #[derive(Clone, Copy)]
 pub struct Turn {
     /// The call, or the `await` of a send that it began.
     pub call: Call,
-    /// Where its answer leads.
-    pub place: Place,
+    /// Where its answer leads. None where it ends the statement.
+    pub place: Option<Place>,
     /// The compounds around the one that makes it.
     pub around: Around,
     /// The call whose statement sets `r` and `err` at the end.

@@ -44,7 +44,7 @@ impl CompoundState {
         CompoundState {
             stage: Stage::Ready(Turn {
                 call: begin.call,
-                place: begin.place,
+                place: Some(begin.place),
                 around: Around::Nobody,
                 statement: settling,
             }),
@@ -64,7 +64,8 @@ impl CompoundState {
     }
 }
 
-fn goes_on(stage: Stage, got: Got) -> Step
+/// Where a statement at that stage is led, and what it asks for there.
+pub fn goes_on(stage: Stage, got: Got) -> Step
     requires { Accepts stage got }
     ensures follows { (s : Tree) (n : ℕ) (ps qs : List Piece) (st sq : State) → StandsFor stage ps st → Handed s n ps st got qs sq → Leads s n qs sq result.stage result.next }
     ensures accepts { (g : Got) → Awaits result.next g → Accepts result.stage g }

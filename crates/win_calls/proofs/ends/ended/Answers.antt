@@ -9,4 +9,4 @@ use Rattle.win_calls.proofs.ends.ended.Goals as goal
 pub returns-clause-follows : goal.returns-clause-follows
 returns-clause-follows c s n v =
     let end : Variables → Step = λ w. record { stage = Over; next = Done w.last_result w.last_error } in
-    carry s n _ _ _ _ c.over.result (c.over.ensures.step ∙ ap end c.settle.ensures) (settles_leads s n c.args.statement c.args.answer v c.start-variables.result)
+    carry s n _ _ _ _ c.over.result (c.over.ensures.step ∙ ap end c.settle.ensures) (settles_leads s n c.args.statement c.args.answer c.args.value v c.start-variables.result)
