@@ -24,7 +24,7 @@ flips_by x y false false e f = refl
 flips_by x y true false e f = let s = eqb-true x y e in let n = eqb-false y x f in absurd (n (sym s))
 flips_by x y false true e f = let s = eqb-true y x f in let n = eqb-false x y e in absurd (n (sym s))
 
-flips : (x y : ℕ) → nat_eq x y ≡ nat_eq y x
+pub flips : (x y : ℕ) → nat_eq x y ≡ nat_eq y x
 flips x y = flips_by x y (eqb x y) (eqb y x) refl refl
 
 -- items in another order

@@ -1,3 +1,4 @@
+pub mod ApartLaws
 pub mod HearingLaws
 pub mod HoldsLaws
 pub mod ItemLaws

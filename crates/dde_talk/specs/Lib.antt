@@ -1,4 +1,5 @@
 pub mod Agrees
+pub mod Openings
 pub mod Packing
 pub mod Replies
 pub mod Sides

@@ -1,7 +1,8 @@
 //! A server's items with their values, and its commands, in order.
 
-ghost use Rattle.std.specs.Prelude.{◌≡◌, ℕ, IfSome, IfNone, OnOk, IfOk, MatchOption, None, Some, nat_eq, slice_get};
+ghost use Rattle.std.specs.Prelude.{◌≡◌, ◌↔◌, ℕ, IfOk, IsTrue, nat_eq};
 ghost use Rattle.std.specs.Map.{lookup};
+ghost use Rattle.std.specs.List.{list_any};
 ghost use Rattle.dde_talk.specs.Replies.{AreApart, AreRising, IsPlaceOf, is_listed, value_of, with_value};
 
 use std::alloc::AllocError;
@@ -29,6 +30,25 @@ fn place_of(rows: &[(u16, u32)], item: u16) -> Option<usize>
     ensures { AreRising rows.now → IsPlaceOf rows.now item result }
 {
     rows.binary_search_by_key(&item, |row| row.0).ok()
+}
+
+/// Whether an item is named among these.
+fn is_named(rows: &[(u16, u32)], item: u16) -> bool
+    ensures { result ≡ list_any (λ x. nat_eq item x.0) rows.now }
+{
+    rows.iter().any(|row| item == row.0)
+}
+
+/// Whether no item is named twice, which a server asks of its items. It compares each item with each other one.
+pub fn are_apart(items: &[(u16, u32)]) -> bool
+    ensures { IsTrue result ↔ AreApart items.now }
+{
+    for at in 0..items.len() {
+        if is_named(&items[..at], items[at].0) {
+            return false;
+        }
+    }
+    true
 }
 
 impl Items {
