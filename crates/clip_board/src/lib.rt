@@ -9,6 +9,7 @@ mod entry;
 mod errand;
 mod get_state;
 mod law;
+mod laws;
 mod moves;
 mod shared;
 
@@ -20,4 +21,5 @@ pub use entry::{
 };
 pub use get_state::GetState;
 pub use law::get_law;
+pub use laws::{clip_can_be_handed, one_clip_next};
 pub use moves::{ClipGot, ClipNext, may_answer};
