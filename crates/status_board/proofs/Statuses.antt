@@ -163,3 +163,15 @@ module _ {S : Type 0} (setup : Setup) (opening : Past) (old new : Sitting S (Thr
   pub denied_counts : (code : Code) → CameTo setup opening old new (Status 127) (Refused code) → (start : Past) (n : ℕ) → HasCounted start (made_by old) n → HasCounted start (made_by new) n
   denied_counts code (inr full) start n has = subst (λ (l : Past). HasCounted start l n) (sym full.made) has
   denied_counts code (inl made) start n has = subst (λ (l : Past). HasCounted start l n) (sym made.made) (counted_none start (made_by old) (entry_of (thread new.number) (Status 127) (Refused code)) n refl has)
+
+  -- any other call of the owner leaves the count
+  pub other_counts : (call : Call) (answer : Answer) → is_status call ≡ false → CameTo setup opening old new call answer → (start : Past) (n : ℕ) → HasCounted start (made_by old) n → HasCounted start (made_by new) n
+  other_counts call answer other (inr full) start n has = subst (λ (l : Past). HasCounted start l n) (sym full.made) has
+  other_counts call answer other (inl made) start n has =
+      let e = entry_of (thread new.number) call answer in
+      let none : told_by e ≡ [] = ap (λ (b : Bool). if b then one_of (value_told answer) else []) other in
+      subst (λ (l : Past). HasCounted start l n) (sym made.made) (counted_none start (made_by old) e n none has)
+
+-- nothing is told since now
+pub none_counted : (mine : Past) → HasCounted mine mine 0
+none_counted mine = record { since = []; whole = refl; count = refl }
