@@ -1,18 +1,21 @@
 /* A library to preload: refuses one call for memory, counted from 1 over malloc, calloc, realloc and posix_memalign, as if none were
- * left. REFUSE_AT tells which (none or 0: no call is refused). Where COUNT_TO names a file, the number of calls is written into it at
- * the end. Calls before the program's own code begins aren't counted. Built and used by tools/try-memory. */
+ * left. REFUSE_AT tells which (none or 0: no call is refused). Where COUNT_TO names a file of eight bytes, the number of calls so far is
+ * kept in it, however the program ends. Calls before the program's own code begins aren't counted. Built and used by tools/try-memory. */
 #include <errno.h>
+#include <fcntl.h>
 #include <stdatomic.h>
 #include <stddef.h>
-#include <stdio.h>
 #include <stdlib.h>
+#include <sys/mman.h>
+#include <unistd.h>
 
 extern void *__libc_malloc(size_t size);
 extern void *__libc_calloc(size_t count, size_t size);
 extern void *__libc_realloc(void *old, size_t size);
 extern void *__libc_memalign(size_t alignment, size_t size);
 
-static atomic_ulong calls;
+static atomic_ulong own_count;
+static atomic_ulong *calls = &own_count;
 static unsigned long refused_call;
 static atomic_int has_begun;
 
@@ -20,24 +23,29 @@ static int is_refused(void) {
     if (!atomic_load(&has_begun)) {
         return 0;
     }
-    return atomic_fetch_add(&calls, 1) + 1 == refused_call;
+    return atomic_fetch_add(calls, 1) + 1 == refused_call;
+}
+
+static void count_in(const char *name) {
+    int file = open(name, O_RDWR);
+    if (file < 0) {
+        return;
+    }
+    void *shared = mmap(NULL, sizeof(atomic_ulong), PROT_READ | PROT_WRITE, MAP_SHARED, file, 0);
+    close(file);
+    if (shared != MAP_FAILED) {
+        calls = shared;
+    }
 }
 
 __attribute__((constructor)) static void begin(void) {
     const char *at = getenv("REFUSE_AT");
-    refused_call = at ? strtoul(at, NULL, 10) : 0;
-    atomic_store(&has_begun, 1);
-}
-
-__attribute__((destructor)) static void end(void) {
-    unsigned long counted = atomic_load(&calls);
     const char *name = getenv("COUNT_TO");
-    atomic_store(&has_begun, 0);
-    FILE *file = name ? fopen(name, "w") : NULL;
-    if (file) {
-        fprintf(file, "%lu\n", counted);
-        fclose(file);
+    refused_call = at ? strtoul(at, NULL, 10) : 0;
+    if (name) {
+        count_in(name);
     }
+    atomic_store(&has_begun, 1);
 }
 
 void *malloc(size_t size) {

@@ -1,0 +1,4 @@
+pub mod Lists
+pub mod Rule
+pub mod Boards
+pub mod Owners
