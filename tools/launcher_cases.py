@@ -8,7 +8,7 @@ import tempfile
 import time
 
 TOP = pathlib.Path(__file__).resolve().parent.parent
-TOOLS = ("answer-unproved", "build-program", "crate-seconds", "crate_graph.py", "launching.py", "play-examples", "stored_runs.py", "trial.py", "unproved_run.py")
+TOOLS = ("answer-unproved", "build-program", "crate-seconds", "crate_graph.py", "launching.py", "play-examples", "script", "stored_runs.py", "trial.py", "unproved_run.py")
 FILES = {
     "crates.txt": "low: \nuser: low\nother: low\n",
     "HANDLES": "Handles allowed: none.\n",
@@ -31,6 +31,10 @@ LONG = "30"
 WRONG = ("", "walk", "run one two", "run nowhere", "run .", "check one", "check one nowhere", "threads", "threads 0", "threads 16", "threads 01", "threads 2 nowhere",
          "make", "make 0", "make 60001", "make 3 one", "build now", "test all", "version 1", "--json", "help me")
 TEXT = b"some text\n"
+# A script of the kinder form, its strict form, one with a word that the stand-in refuses, which stands in line 3, and one with two mistakes.
+SOURCE, STRICT = b"# one\n\nthread\n    yield # once\nend\n", b"user 1\nscreen 8 4\nbudget 100\norder\nthread\nyield\nend\n"
+REFUSED_SOURCE = b"# one\n\nthread\n    find refused\nend\n"
+WRONG_SOURCE = b"thread\n    walk\n    sleep 01\nend\n"
 
 
 def log(words, size, end="done"):
@@ -56,6 +60,8 @@ class Repository:
             (self.top / name).write_text(text)
         (self.top / "one").write_bytes(TEXT)
         (self.top / "two").write_bytes(b"log 1\n")
+        for name, text in (("good.us", SOURCE), ("refused.us", REFUSED_SOURCE), ("wrong.us", WRONG_SOURCE)):
+            (self.top / name).write_bytes(text)
         self.program = self.top / "crates/user/out/user"
 
     def environment(self, **more):
@@ -155,6 +161,33 @@ def answers(trial, repository, name, first, own_lines):
         trial.tell(f"{name}: what {words} leaves behind", repository.remains())
 
 
+# The words, and what comes of a script of the kinder form: a status, an output, and the last line that is said if there is one.
+SOURCES = (
+    ("run good.us", 0, log("run", len(STRICT)), None),
+    ("run --json good.us", 0, log("run --json", len(STRICT)), None),
+    ("threads 3 good.us", 0, log("threads 3", len(STRICT)), None),
+    ("check good.us two", 0, log("check", len(STRICT) + 6), None),
+    ("run refused.us", 3, b"refused 1 words\n", "refused.us:3: refused"),
+)
+
+
+def sources(trial, repository, name, is_built):
+    """Scripts of the kinder form: translated first, refused by the source's line, and never run where they have mistakes."""
+    for words, status, output, told in SOURCES:
+        ran = repository.run(words)
+        fault = run_fault(ran, status, output, count=(told is not None) + 2 * (not is_built))
+        trial.tell(f"{name}: {words}", fault or (None if told is None or told in ran[2] else f"it said {ran[2]}") or repository.remains())
+    repository.called()
+    ran = repository.run("run wrong.us")
+    wanted = ["wrong.us:2:5: no statement begins with 'walk'", "wrong.us:3:11: '01' has a leading zero", "script: 2 mistakes; nothing was run"]
+    fault = run_fault(ran, 2, b"") or (None if ran[2] == wanted else f"it said {ran[2]}")
+    trial.tell(f"{name}: run wrong.us", fault or (f"it asked rt for {repository.called()}" if repository.calls.exists() else None))
+    with open("/dev/full", "wb") as device:
+        process = repository.begin("run good.us", stdout=device)
+        process.communicate(TEXT, timeout=SECONDS)
+    trial.tell(f"{name}: good.us to a full device", None if is_built or process.returncode == 8 else f"status {process.returncode}")
+
+
 def not_built(trial, repository):
     answers(trial, repository, "not built", NEVER, 2)
     told = repository.run("run")[2]
@@ -228,7 +261,7 @@ def interrupts(trial, repository):
     for number in (signal.SIGINT, signal.SIGTERM, signal.SIGHUP):
         for moment in MOMENTS:
             interrupted_run(trial, repository, "run", number, moment)
-    for words in ("test", "threads 2 one"):
+    for words in ("test", "threads 2 one", "run good.us"):
         for moment in (0.2, None):
             interrupted_run(trial, repository, words, signal.SIGINT, moment)
 
@@ -302,6 +335,7 @@ def launcher(trial):
     with tempfile.TemporaryDirectory() as folder:
         repository = Repository(folder)
         not_built(trial, repository)
+        sources(trial, repository, "not built", is_built=False)
         two_at_a_time(trial, repository)
         wrong_words(trial, repository, "not built")
         plays(trial, repository, "not built")
@@ -309,5 +343,6 @@ def launcher(trial):
         no_toolchain(trial, repository)
         builds(trial, repository)
         built(trial, repository)
+        sources(trial, repository, "built", is_built=True)
         plays(trial, repository, "built")
         sources_newer(trial, repository)
