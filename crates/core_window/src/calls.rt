@@ -1,7 +1,8 @@
 //! The calls on classes, windows, groups of attached threads, the mouse, keys and dialogs: what each answers, and its entry.
 
-ghost use Rattle.std.specs.Prelude.{◌≡◌, ◌<◌, ◌≤◌, true, false, IfOk, OnOk, OnErr};
+ghost use Rattle.std.specs.Prelude.{◌≡◌, ◌<◌, ◌≤◌, ◌+◌, true, false, IfOk, IsOk, OnOk, OnErr};
 ghost use Rattle.core_deliver.specs.Groups.{is_window_call};
+ghost use Rattle.core_state.specs.OnePlace.{takes_one_place};
 ghost use Rattle.core_window.specs.Lookups.{IsLookup};
 ghost use Rattle.user_model.specs.Idle.{reply};
 ghost use Rattle.user_model.specs.Machines.{after};
@@ -122,6 +123,8 @@ pub fn window(s: &mut CoreState, who: Thread, call: &Call) -> Result<Answer, All
     ensures entry { OnOk result (s.new.past ≡ after s.old.setup s.old.past who call.now) }
     ensures err { OnErr result (s.new.past ≡ s.old.past) }
     ensures setup { s.new.setup ≡ s.old.setup }
+    ensures spare { s.old.spare ≤ s.new.spare + 1 }
+    ensures with_room { takes_one_place call.now ≡ true → 1 ≤ s.old.spare → IsOk result }
 {
     let answer = window_answer(s, who, call);
     enter(s, who, call, answer)
