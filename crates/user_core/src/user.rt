@@ -198,6 +198,7 @@ fn retrieve_uncounted<L: Ledger>(
     ensures err { OnErr result (s.new.past ≡ s.old.past) }
     ensures setup { s.new.setup ≡ s.old.setup }
     ensures spare { s.old.spare ≤ s.new.spare + 1 }
+    ensures with_room { takes_one_place entry.old.call ≡ true → 1 ≤ s.old.spare → IsOk result }
 {
     let mut steps = Steps::<L>::new(blank);
     retrieve_in(s, entry, &mut steps)
@@ -219,6 +220,7 @@ fn status_uncounted<L: Ledger>(
     ensures err { OnErr result (s.new.past ≡ s.old.past) }
     ensures setup { s.new.setup ≡ s.old.setup }
     ensures spare { s.old.spare ≤ s.new.spare + 1 }
+    ensures with_room { takes_one_place call.now ≡ true → 1 ≤ s.old.spare → IsOk result }
 {
     let Call::Status(flags) = *call else {
         unreachable!()
@@ -227,7 +229,7 @@ fn status_uncounted<L: Ledger>(
     status(s, who, flags, &mut steps)
 }
 
-/// Makes a call of time or timers, or ends a thread.
+/// Makes a call of time or timers.
 fn make_other(s: &mut CoreState, who: Thread, call: &Call) -> Result<Answer, AllocError>
     requires { group_of call.now ≡ Other }
     ensures answer { IfOk result (λ answer. answer ≡ reply s.old.setup s.old.past who.0 call.now) }
