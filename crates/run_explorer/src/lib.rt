@@ -6,14 +6,14 @@
 //! one goes the same way up to its last step at which a higher thread might have moved, which moves there.
 #![tactic(auto)]
 
-mod explore;
 mod path;
 mod play;
 mod report;
 mod run;
+mod search;
 mod step;
 mod text;
 
-pub use explore::explore;
 pub use report::{Found, Order, Report};
+pub use search::explore;
 pub use text::put_report;
