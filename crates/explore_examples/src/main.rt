@@ -3,10 +3,14 @@
 //! with `/` in the place of an end of a line.
 #![tactic(auto)]
 
-use run_explorer::{explore, put_report};
-use script_text::read;
+ghost use Rattle.script_text.specs.Limits.{IsScript};
+
+use run_explorer::{Report, explore, put_report};
+use script_text::{Script, read};
 use std::alloc::{AllocError, Global};
 use std::io::{BufRead, BufReader, Input, Print};
+use user_core::User;
+use user_model::Setup;
 
 /// A text in which `/` ends a line.
 fn lines_of(alloc: Global, text: &str) -> Result<String, AllocError> {
@@ -42,6 +46,16 @@ fn bounds_of(words: &str) -> Option<Bounds> {
     })
 }
 
+/// The report on the runs of a script, each on a machine of its own.
+fn explored(alloc: Global, bounds: Bounds, script: &Script) -> Result<Report, AllocError>
+    requires { IsScript script.now }
+{
+    let setup = Setup::new(script.thread_count(), script.width(), script.height());
+    explore(alloc, script, bounds.switches, bounds.runs, || {
+        User::new(alloc, setup)
+    })
+}
+
 /// The report on the script of a text.
 fn report_of(alloc: Global, bounds: Bounds, text: &str) -> anyhow::Result<String> {
     let text = lines_of(alloc, text)?;
@@ -49,7 +63,7 @@ fn report_of(alloc: Global, bounds: Bounds, text: &str) -> anyhow::Result<String
         Ok(script) => script,
         Err(fault) => anyhow::bail!("{fault:?}"),
     };
-    let report = explore(alloc, &script, bounds.switches, bounds.runs)?;
+    let report = explored(alloc, bounds, &script)?;
     let mut out = Vec::new(alloc);
     put_report(&mut out, &report)?;
     match String::from_utf8(out) {

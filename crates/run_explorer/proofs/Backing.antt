@@ -1,13 +1,12 @@
 -- Going back along the steps of a run that has ended.
-use Rattle.std.proofs.Common.{◌≡◌, ℕ, suc, ◌+◌, ◌<◌, ◌≤◌, List, [], ◌∷◌, ◌++◌, length, Option, Some, None, refl, sym, ap, ◌∙◌, subst, inl, inr, ◌⊎◌, append_assoc, arith}
-use Rattle.std.specs.Prelude.{All, Contains}
-use Rattle.user_model.specs.declared.entry.Entry.{Entry}
+use Rattle.std.proofs.Common.{◌≡◌, ℕ, List, [], ◌∷◌, ◌++◌, Some, None, refl, sym, ap, ◌∙◌, subst, inl, inr, ◌⊎◌, append_assoc}
+use Rattle.std.specs.Prelude.{Contains}
 use Rattle.user_model.specs.Past.{Past}
 use Rattle.script_tree.specs.Tree.{Tree}
 use Rattle.run_explorer.specs.declared.step.Step.{Step}
 use Rattle.run_explorer.specs.declared.path.Path.{Path}
 use Rattle.run_explorer.specs.Orders.{IsWithin, IsBefore}
-use Rattle.run_explorer.specs.Steps.{next_above, IsMadeBy, IsAt}
+use Rattle.run_explorer.specs.Steps.{IsMadeBy, IsAt}
 use Rattle.run_explorer.specs.Searches.{GoesOnFrom, IsClosed, TurnsAt, IsWay}
 use Rattle.run_explorer.proofs.Orders.{none_after}
 use Rattle.run_explorer.proofs.Stepping.{step_back, no_steps}

@@ -3,4 +3,5 @@ mod Moves
 mod Searching
 mod Stepping
 mod Backing
+mod Exploring
 mod Telling

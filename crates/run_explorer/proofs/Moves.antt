@@ -1,23 +1,22 @@
 -- Who may move within a bound.
-use Rattle.std.proofs.Common.{◌≡◌, ◌≢◌, ℕ, zero, suc, ◌+◌, ◌<◌, ◌≤◌, ◌-◌, Bool, true, false, not, cond, eqb, List, [], ◌∷◌, ◌++◌, length, Option, Some, None, refl, sym, ap, ◌∙◌, subst, inl, inr, ◌⊎◌, arith}
-use Rattle.std.specs.Prelude.{◌&&◌, ◌||◌, nat_lt, nat_le, is_none}
+use Rattle.std.proofs.Common.{◌≡◌, ◌≢◌, ℕ, zero, suc, ◌+◌, ◌<◌, ◌≤◌, ◌-◌, Bool, true, false, not, cond, eqb, [], ◌∷◌, ◌++◌, length, Option, Some, None, refl, sym, ap, ◌∙◌, subst, inl, inr, arith}
+use Rattle.std.specs.Prelude.{◌&&◌, ◌||◌, nat_lt, nat_le}
 use Rattle.std.proofs.lemmas.Bool.{cases_Bool, cases_lt, false≢true}
 use Rattle.std.proofs.lemmas.Bool.Decides.{nat_tests, eqb_tells}
 use Rattle.user_model.specs.declared.entry.Entry.{Entry}
 use Rattle.user_model.specs.Past.{Past, or_else}
 use Rattle.user_model.specs.Threads.{lowest, is_thread}
-use Rattle.user_model.specs.Idle.{is_idle, is_barred, first_busy}
+use Rattle.user_model.specs.Idle.{is_idle, is_barred}
 use Rattle.script_tree.specs.Tree.{Tree}
 use Rattle.log_text.specs.Ends.{setup_of, used}
-use Rattle.user_pool.specs.Runs.{is_runnable, last_thread, first_above, in_turn, listed, clock_move, choice, IsMove, IsRun}
+use Rattle.user_pool.specs.Runs.{is_runnable, last_thread, first_above, in_turn, listed, clock_move, choice, IsMove}
 use Rattle.user_pool.specs.Moves.{CanMove}
-use Rattle.user_pool.proofs.Turns.{and_both, lowest_hit, lowest_all, lowest_nobody, runnable_can, move_can, thread_positive, thread_within, is_thread_of}
+use Rattle.user_pool.proofs.Turns.{and_both, lowest_hit, lowest_all, lowest_nobody, runnable_can, move_can, thread_positive, thread_within}
 use Rattle.user_model.proofs.Lowest.{lowest_found, lowest_here}
 use Rattle.user_pool.proofs.Choices.{by_clock}
 use Rattle.user_pool.proofs.NeverCut.{none_runs}
 use Rattle.user_pool.proofs.NeverFull.{quiet}
-use Rattle.user_pool.proofs.Interleavings.{run_front}
-use Rattle.run_explorer.specs.Orders.{is_switch, switches, IsWithin}
+use Rattle.run_explorer.specs.Orders.{is_switch, switches}
 use Rattle.run_explorer.specs.Steps.{is_held, may_move, next_above, least, CanGoOn, MayTake}
 
 -- ---- who can move

@@ -1,21 +1,19 @@
 -- What is left of the search when a run goes on, ends, or turns back.
-use Rattle.std.proofs.Common.{◌≡◌, ℕ, zero, suc, ◌+◌, ◌<◌, ◌≤◌, Bool, true, false, List, [], ◌∷◌, ◌++◌, length, Option, Some, None, Result, Ok, Err, OnOk, refl, sym, ap, ◌∙◌, subst, inl, inr, ◌⊎◌, append-nil, arith}
+use Rattle.std.proofs.Common.{◌≡◌, ℕ, ◌<◌, ◌≤◌, List, [], ◌∷◌, ◌++◌, Option, Some, None, Result, Ok, Err, OnOk, refl, sym, ap, ◌∙◌, subst, inl, inr, ◌⊎◌, append-nil, arith}
 use Rattle.std.specs.Prelude.{All, Contains}
 use Rattle.std.proofs.lemmas.Bool.{cases_lt, false≢true}
 use Rattle.user_model.specs.declared.entry.Entry.{Entry}
 use Rattle.user_model.specs.Past.{Past, or_else}
-use Rattle.user_model.specs.Idle.{is_barred}
 use Rattle.script_tree.specs.Tree.{Tree}
-use Rattle.log_text.specs.Ends.{setup_of}
-use Rattle.user_pool.specs.Runs.{is_runnable, clock_move, choice, IsMove, IsRun}
+use Rattle.user_pool.specs.Runs.{clock_move, choice, IsMove, IsRun}
 use Rattle.user_pool.specs.Moves.{HasGoneOn}
 use Rattle.user_pool.proofs.OneRun.{move_same}
 use Rattle.user_pool.proofs.Interleavings.{run_front}
-use Rattle.run_explorer.specs.Orders.{switches, IsWithin, IsBefore, AreRising, AreFirst}
-use Rattle.run_explorer.specs.Steps.{may_move, next_above, least, MayTake}
+use Rattle.run_explorer.specs.Orders.{switches, IsWithin, IsBefore, AreFirst}
+use Rattle.run_explorer.specs.Steps.{next_above, least}
 use Rattle.run_explorer.specs.Searches.{GoesOnFrom, GoesOnBy, IsOpen, IsClosed, TurnsAt}
-use Rattle.run_explorer.proofs.Orders.{before_too, before_longer, longer_before, parts_here, parts_or_before, none_after, goes_further, all_none, all_more, all_into, here_too, there_too}
-use Rattle.run_explorer.proofs.Moves.{mover_runs, quiet_stays, clock_free, none_moves, switches_more, mover_may, none_may, above_least, none_above, next_may, may_can, can_runs, least_may}
+use Rattle.run_explorer.proofs.Orders.{before_too, before_longer, longer_before, parts_here, parts_or_before, goes_further, all_none, all_more, all_into, here_too, there_too}
+use Rattle.run_explorer.proofs.Moves.{mover_runs, quiet_stays, clock_free, none_moves, switches_more, mover_may, none_may, above_least, none_above, next_may}
 
 -- ---- the next move of a run within the bound
 

@@ -1,5 +1,5 @@
 -- The steps of a run, as they are kept and gone along.
-use Rattle.std.proofs.Common.{◌≡◌, ℕ, zero, suc, ◌+◌, ◌<◌, ◌≤◌, List, [], ◌∷◌, ◌++◌, length, get_or, Option, Some, None, refl, sym, ap, ◌∙◌, subst, inl, inr, ◌⊎◌, arith}
+use Rattle.std.proofs.Common.{◌≡◌, ℕ, ◌+◌, ◌<◌, ◌≤◌, List, [], ◌∷◌, ◌++◌, length, get_or, refl, sym, ap, ◌∙◌, subst, inl, inr, arith}
 use Rattle.std.proofs.lemmas.List.{get_or_append_left, length-append}
 use Rattle.std.proofs.Math.Seq.{get_or-append_seam}
 use Rattle.user_model.specs.declared.entry.Entry.{Entry}
@@ -11,7 +11,7 @@ use Rattle.user_pool.proofs.OneRun.{move_same}
 use Rattle.user_pool.proofs.Interleavings.{run_front}
 use Rattle.run_explorer.specs.declared.step.Step.{Step}
 use Rattle.run_explorer.specs.Orders.{switches}
-use Rattle.run_explorer.specs.Steps.{EndWith, IsStepOf, AreStepsOf, IsMadeBy, IsAt, CanGoOn, MayTake, next_above}
+use Rattle.run_explorer.specs.Steps.{IsStepOf, AreStepsOf, IsMadeBy, IsAt, CanGoOn, MayTake, next_above}
 use Rattle.run_explorer.specs.Searches.{GoesOnFrom, GoesOnBy}
 use Rattle.run_explorer.proofs.Orders.{goes_further}
 use Rattle.run_explorer.proofs.Moves.{move_goes, switches_more, take_few}

@@ -4,7 +4,6 @@ use Rattle.user_model.specs.declared.entry.Entry.{Entry}
 use Rattle.user_model.specs.Past.{Past}
 use Rattle.script_tree.specs.Tree.{Tree}
 use Rattle.run_explorer.specs.declared.path.Path.{Path}
-use Rattle.run_explorer.specs.declared.step.Step.{Step}
 use Rattle.run_explorer.specs.declared.report.Report.{Report}
 use Rattle.run_explorer.specs.Orders.{IsWithin, IsBefore, AreFirst}
 use Rattle.run_explorer.specs.Steps.{may_move, IsAt, IsMadeBy}

@@ -1,5 +1,5 @@
 -- The text that tells of the runs that were made.
-use Rattle.std.specs.Prelude.{ℕ, Bool, true, false, List, [], ◌∷◌, ◌++◌, codes}
+use Rattle.std.specs.Prelude.{ℕ, Bool, true, false, List, [], ◌++◌, codes}
 use Rattle.std.specs.List.{flat_map}
 use Rattle.user_io.specs.Text.{operand}
 use Rattle.log_text.specs.Summaries.{count_line}

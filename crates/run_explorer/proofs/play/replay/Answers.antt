@@ -1,4 +1,4 @@
-use Rattle.std.proofs.Common.{ℕ, ◌≡◌, ◌<◌, ◌≤◌, length, [], ◌++◌, refl, sym, ap, ◌∙◌, subst, append-nil, arith}
+use Rattle.std.proofs.Common.{◌<◌, ◌≤◌, length, ◌++◌, sym, ap, ◌∙◌, append-nil, arith}
 use Rattle.user_model.specs.Past.{Past}
 use Rattle.run_explorer.proofs.Stepping.{can_at, moved_at, one_longer, front_runs, all_along}
 use Rattle.run_explorer.proofs.play.replay.Goals as goal
