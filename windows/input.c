@@ -61,9 +61,9 @@ void forget_active(const Thread *t) {
         foreground = 0;
 }
 
-static BOOL script_has_keys(void) {
+BOOL script_has(Player player) {
     for (size_t k = 0; k < script.statement_count; k++)
-        if (script.statements[k].play == play_key)
+        if (script.statements[k].play == player)
             return TRUE;
     return FALSE;
 }
@@ -72,7 +72,7 @@ void active_was_set(Thread *t, Number window) {
     if (!window)
         return;
     foreground = t->number;
-    if (script_has_keys()) {
+    if (script_has(play_key)) {
         Doing quiet = {.kind = DOING_SYSTEM, .outer = t->doing};
         t->doing = &quiet;
         SetForegroundWindow(handle_of(window));
@@ -95,6 +95,44 @@ static void inject(DWORD flags, int x, int y) {
     input.mi.dy = (LONG)(((int64_t)y * 65536 + 32768) / GetSystemMetrics(SM_CYSCREEN));
     input.mi.dwFlags = flags;
     SendInput(1, &input, sizeof input);
+}
+
+static void eat_moves(void *unused) {
+    MSG m;
+    (void)unused;
+    PeekMessageA(&m, NULL, WM_MOUSEMOVE, WM_MOUSEMOVE, PM_REMOVE | PM_QS_INPUT);
+}
+
+static BOOL move_is_last(void) {
+    return input_count && inputs[input_count - 1].message == WM_MOUSEMOVE && !inputs[input_count - 1].taken;
+}
+
+/* A button is injected where the cursor is, so the cursor goes there first; the move that Windows makes of this is
+ * taken away again. */
+static void bring_cursor(Thread *t, int x, int y) {
+    if (move_is_last())
+        cannot_play(t, "a button away from a move of the mouse that nobody has taken: Windows would merge the moves");
+    inject(MOUSEEVENTF_MOVE | MOUSEEVENTF_ABSOLUTE, x, y);
+    for (int k = 1; k <= script.thread_count; k++)
+        if (threads[k].state != STATE_ENDED)
+            do_in(t, &threads[k], eat_moves, NULL);
+}
+
+/* Lets go of all that an earlier program has left down, and puts the cursor away. */
+void clear_input(void) {
+    for (int key = 1; key < 255; key++) {
+        INPUT input = {.type = INPUT_KEYBOARD};
+        if (!(GetAsyncKeyState(key) & 0x8000))
+            continue;
+        if (key == VK_LBUTTON || key == VK_RBUTTON) {
+            inject(key == VK_LBUTTON ? MOUSEEVENTF_LEFTUP : MOUSEEVENTF_RIGHTUP, 0, 0);
+            continue;
+        }
+        input.ki.wVk = (WORD)key;
+        input.ki.dwFlags = KEYEVENTF_KEYUP;
+        SendInput(1, &input, sizeof input);
+    }
+    SetCursorPos(600, 400);
 }
 
 static DWORD flag_of(Number message) {
@@ -122,10 +160,13 @@ void play_mouse(Thread *t, const Statement *s) {
         BOOL away = cursor_x != (int)x || cursor_y != (int)y || !input_count;
         cursor_x = (int)x;
         cursor_y = (int)y;
-        if (away || message == WM_MOUSEMOVE)
+        if (message == WM_MOUSEMOVE) {
             inject(MOUSEEVENTF_MOVE | MOUSEEVENTF_ABSOLUTE, (int)x, (int)y);
-        if (message != WM_MOUSEMOVE)
+        } else {
+            if (away)
+                bring_cursor(t, (int)x, (int)y);
             inject(flag_of(message), (int)x, (int)y);
+        }
         answer(t, "input %" PRIu64, add_input(message, 0));
     }
     set_result(t, !code, (Number)code);

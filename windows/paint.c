@@ -144,6 +144,9 @@ void play_begin_paint(Thread *t, const Statement *s) {
     Entry *entry = answer(t, "painting 1 %ld %ld %ld %ld", region.box.left, region.box.top, region.box.right, region.box.bottom);
     t->doing = &doing;
     BeginPaint(doing.handle, &paint);
+    /* Windows tried to erase before, and was put off until now. */
+    if (paint.fErase && !doing.erased)
+        SendMessageA(doing.handle, WM_ERASEBKGND, (WPARAM)paint.hdc, 0);
     t->doing = doing.outer;
     change_answer(entry, "painting %d %ld %ld %ld %ld", doing.erased, paint.rcPaint.left, paint.rcPaint.top, paint.rcPaint.right,
                   paint.rcPaint.bottom);
@@ -224,6 +227,30 @@ static char digit_of(uint32_t pixel) {
     return '0'; /* of the desktop, which isn't the script's */
 }
 
+static HWND shown[MAX_WINDOWS];
+static int shown_count;
+
+static BOOL CALLBACK note_shown(HWND handle, LPARAM unused) {
+    (void)unused;
+    if (number_of(handle) && IsWindowVisible(handle) && shown_count < MAX_WINDOWS)
+        shown[shown_count++] = handle;
+    return TRUE;
+}
+
+/* Copies each top-level window of the script, from the lowest to the highest: what a window shows stands in its own
+ * surface, and the screen may lag behind. */
+static void copy_windows(HDC to) {
+    shown_count = 0;
+    EnumWindows(note_shown, 0);
+    while (shown_count--) {
+        RECT box;
+        HDC from = GetWindowDC(shown[shown_count]);
+        GetWindowRect(shown[shown_count], &box);
+        BitBlt(to, box.left, box.top, box.right - box.left, box.bottom - box.top, from, 0, 0, SRCCOPY);
+        ReleaseDC(shown[shown_count], from);
+    }
+}
+
 static char *read_rows(void) {
     int width = script.width, height = script.height;
     BITMAPINFO form = {.bmiHeader = {sizeof form.bmiHeader, width, -height, 1, 32, BI_RGB, 0, 0, 0, 0, 0}};
@@ -231,7 +258,7 @@ static char *read_rows(void) {
     HDC screen = GetDC(NULL), memory = CreateCompatibleDC(screen);
     HBITMAP bitmap = CreateDIBSection(memory, &form, DIB_RGB_COLORS, &pixels, NULL, 0);
     HGDIOBJ before = SelectObject(memory, bitmap);
-    BitBlt(memory, 0, 0, width, height, screen, 0, 0, SRCCOPY);
+    copy_windows(memory);
     GdiFlush();
     char *rows = malloc((size_t)(width + 1) * (size_t)height + 1), *at = rows;
     for (int y = 0; y < height; y++) {
@@ -259,7 +286,6 @@ void play_snap(Thread *t, const Statement *s) {
     for (int k = 1; k <= script.thread_count; k++)
         if (threads[k].state != STATE_ENDED)
             do_in(t, &threads[k], flush, NULL);
-    Sleep(60); /* Wine shows what was painted after up to 50 milliseconds */
     char *rows = read_rows();
     answer(t, "snap %d", ++frames)->rows = rows;
     set_result(t, 1, 0);

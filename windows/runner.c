@@ -35,6 +35,12 @@ int main(int count, char **words) {
     if (!text)
         return fprintf(stderr, "runner: no memory\n"), 9;
     read_script(text);
+    BOOL has_input = script_has(play_mouse) || script_has(play_key);
+    if (has_input)
+        clear_input();
     start_threads(play_thread);
-    ExitProcess((UINT)schedule(limit));
+    int status = schedule(limit);
+    if (has_input)
+        clear_input();
+    ExitProcess((UINT)status);
 }

@@ -149,7 +149,7 @@ typedef struct Doing {
     BOOL erased;              /* of BeginPaint: WM_ERASEBKGND came */
     BOOL blocked;             /* of a compound: it waits for another thread inside of Windows */
     struct Send *before;      /* what the thread awaited before */
-    BOOL created;             /* of a creation: WM_CREATE came */
+    BOOL created, refused;    /* of a creation: WM_CREATE came; a procedure has refused the window */
     const char *call;         /* of DOING_RETRIEVAL and DOING_SEND: the call that waits */
 } Doing;
 
@@ -256,6 +256,7 @@ typedef struct Send {
     Number deadline;          /* of SEND_TIMED, on the virtual clock */
     double real_deadline;
     BOOL inside, entered, callback_waits, timed_out;
+    BOOL endless;             /* its time is over, and Windows doesn't come back */
     Cause cause;
     int frames;
     int procedure;
@@ -419,6 +420,8 @@ double real_now(void);
 /* The number of the input that this message is, or 0; it is forgotten where it is removed. */
 Number input_of(const MSG *message, BOOL removed, int *x, int *y, Number *time);
 void forget_active(const Thread *t);
+void clear_input(void);
+BOOL script_has(Player player);
 void active_was_set(Thread *t, Number window);
 void play_mouse(Thread *t, const Statement *s);
 void play_key(Thread *t, const Statement *s);

@@ -145,7 +145,7 @@ BOOL has_reason_to_return(const Thread *t) {
 }
 
 BOOL waits_for_time(const Thread *t, Number *deadline) {
-    if (!t->awaited || t->awaited->kind != SEND_TIMED)
+    if (!t->awaited || t->awaited->kind != SEND_TIMED || t->awaited->endless)
         return FALSE;
     *deadline = t->awaited->deadline;
     return TRUE;
@@ -377,7 +377,7 @@ static LRESULT make_call(const Order *order, Send *send, LPARAM lp) {
         return SendMessageA(handle, message, wp, lp);
     case SEND_TIMED: {
         double left = (send->real_deadline - real_now()) * 1000;
-        UINT real = send->inside || left < 1 ? 1 : left > INT32_MAX ? INT32_MAX : (UINT)left;
+        UINT real = !order->milliseconds ? 0 : send->inside || left < 1 ? 1 : left > INT32_MAX ? INT32_MAX : (UINT)left;
         /* Windows gives 0 where the time is over, or the send was lost. */
         LRESULT done = SendMessageTimeoutA(handle, message, wp, lp, (UINT)order->flags, real, &result);
         if (!done && GetLastError() == ERROR_TIMEOUT)

@@ -55,8 +55,8 @@ void take_turn(Thread *t) {
         ReleaseSRWLockExclusive(&lock);
         return;
     }
-    if (mover == t)
-        mover = NULL;
+    if (mover == t && t->state != STATE_WANTS)
+        mover = NULL; /* else it was given the turn before it asked */
     t->in_transit = FALSE;
     t->state = STATE_WANTS;
     WakeConditionVariable(&turn_back);
@@ -324,6 +324,8 @@ static void wait_for_timeouts(void) {
         while (threads[k].state == STATE_SENDS && waits_for_time(&threads[k], &deadline) && deadline <= virtual_clock &&
                real_now() < end && !out_of_patience())
             wait_a_little(20);
+        if (threads[k].state == STATE_SENDS && waits_for_time(&threads[k], &deadline) && deadline <= virtual_clock)
+            threads[k].awaited->endless = TRUE;
     }
 }
 

@@ -122,6 +122,7 @@ static LRESULT part_of_creation(Thread *t, Doing *doing, HWND handle, UINT messa
         answer(t, "window %" PRIu64, doing->window);
         LRESULT made = send_made(t, doing->window, WM_NCCREATE, 0, 0);
         t->hold--;
+        doing->refused = !made;
         return made;
     }
     if (handle == doing->handle && message == WM_CREATE && !doing->created) {
@@ -129,10 +130,12 @@ static LRESULT part_of_creation(Thread *t, Doing *doing, HWND handle, UINT messa
         if (doing->wp & WS_VISIBLE) {
             Doing quiet = {.kind = DOING_SYSTEM, .outer = t->doing};
             t->doing = &quiet;
-            SetWindowPos(handle, NULL, 0, 0, 0, 0, SWP_SHOWWINDOW | SWP_NOACTIVATE | SWP_NOMOVE | SWP_NOSIZE | SWP_NOZORDER);
+            SetWindowPos(handle, NULL, 0, 0, 0, 0, SWP_SHOWWINDOW | SWP_NOACTIVATE | SWP_NOMOVE | SWP_NOSIZE | SWP_NOZORDER | SWP_DEFERERASE);
             t->doing = quiet.outer;
         }
-        return send_made(t, doing->window, WM_CREATE, 0, 0);
+        LRESULT made = send_made(t, doing->window, WM_CREATE, 0, 0);
+        doing->refused = made == -1;
+        return made;
     }
     if (message == WM_NCDESTROY && handle == doing->handle && !doing->gone) {
         /* The creation was refused: a destruction begins, with the messages that this system sends. */
@@ -356,7 +359,8 @@ void play_create(Thread *t, const Statement *s) {
         begin_call(t, "unmake %" PRIu64, number);
         answer(t, "gone");
     }
-    set_result(t, made ? number : 0, 0);
+    (void)made; /* NULL also where the window was destroyed meanwhile */
+    set_result(t, doing.refused ? 0 : number, 0);
 }
 
 /* ---- destruction ---- */
