@@ -7,13 +7,18 @@ A file has lines `word: text`. `documentation`, `here` and `wine` are for people
 
 of the first bad place: the reason of `check`, the entry that was found without its thread, and what was kept. Each line `before` is a
 regular expression that the whole of some earlier entry of the history has to fit, and each line `never` one that none may fit; {who}
-stands there for the thread of the bad place, and {NAME} for the group NAME of the pattern. Lines `pattern` may be several.
+stands there for the thread of the bad place, and {NAME} for the group NAME of the pattern. Each line `where` compares groups of the pattern as
+numbers, as `left <= least` or `here & 32 != there & 32`; one whose groups the pattern hasn't is passed over. Lines `pattern` may be several.
 """
+import ast
+import operator
 import pathlib
 import re
 from typing import NamedTuple
 
-WORDS = {"documentation", "here", "wine", "script", "pattern", "before", "never"}
+WORDS = {"documentation", "here", "wine", "script", "pattern", "before", "never", "where"}
+OPERATORS = {ast.Add: operator.add, ast.Sub: operator.sub, ast.BitAnd: operator.and_, ast.BitOr: operator.or_, ast.BitXor: operator.xor,
+             ast.Lt: operator.lt, ast.LtE: operator.le, ast.Gt: operator.gt, ast.GtE: operator.ge, ast.Eq: operator.eq, ast.NotEq: operator.ne}
 
 
 class Known(NamedTuple):
@@ -22,6 +27,7 @@ class Known(NamedTuple):
     patterns: list
     before: list
     never: list
+    where: list
     texts: dict
 
 
@@ -36,7 +42,8 @@ class Place(NamedTuple):
         return self.found.partition(" ")[0]
 
     def text(self):
-        return f"{self.reason} | {self.found.partition(' ')[2]} | {self.kept}"
+        found = self.found if self.reason in ("frame", "end") else self.found.partition(" ")[2]
+        return f"{self.reason} | {found} | {self.kept}"
 
     def family(self):
         """What stays the same where a script is made smaller: the reason and the words of call and answers."""
@@ -54,11 +61,12 @@ def read_known(path):
         texts[word].append(text)
     try:
         patterns = [re.compile(text) for text in texts["pattern"]]
-    except re.error as error:
+        where = [ast.parse(text, mode="eval").body for text in texts["where"]]
+    except (re.error, SyntaxError) as error:
         raise ValueError(f"{path}: {error}") from error
     if not patterns:
         raise ValueError(f"{path}: no line 'pattern'")
-    return Known(path.name, patterns, texts["before"], texts["never"], texts)
+    return Known(path.name, patterns, texts["before"], texts["never"], where, texts)
 
 
 def read_folders(folders):
@@ -71,10 +79,34 @@ def fits(known, place, earlier):
     """Whether a first bad place, behind these entries, is this known difference."""
     for pattern in known.patterns:
         match = pattern.fullmatch(place.text())
-        if match and all(stands(text, place, match, earlier) for text in known.before) and not any(
+        if match and all(holds(test, match.groupdict()) for test in known.where) and all(
+                stands(text, place, match, earlier) for text in known.before) and not any(
                 stands(text, place, match, earlier) for text in known.never):
             return True
     return False
+
+
+def holds(test, groups):
+    """Whether a line `where` holds of the groups, or speaks of others."""
+    names = {node.id for node in ast.walk(test) if isinstance(node, ast.Name)}
+    return any(groups.get(name) is None for name in names) or bool(value(test, groups))
+
+
+def value(node, groups):
+    """The value of a term or a comparison."""
+    if isinstance(node, ast.Name):
+        return int(groups[node.id])
+    if isinstance(node, ast.Constant):
+        return node.value
+    if isinstance(node, ast.BinOp):
+        return OPERATORS[type(node.op)](value(node.left, groups), value(node.right, groups))
+    if isinstance(node, ast.BoolOp):
+        values = [value(part, groups) for part in node.values]
+        return any(values) if isinstance(node.op, ast.Or) else all(values)
+    if isinstance(node, ast.Compare):
+        sides = [value(side, groups) for side in (node.left, *node.comparators)]
+        return all(OPERATORS[type(test)](one, other) for test, one, other in zip(node.ops, sides, sides[1:]))
+    raise ValueError(f"a line 'where' has {ast.unparse(node)!r}")
 
 
 def stands(text, place, match, earlier):

@@ -13,7 +13,7 @@ typedef struct {
 
 static void show_it(void *data) {
     Change *change = data;
-    change->result = ShowWindow(change->handle, change->on ? SW_SHOWNA : SW_HIDE) != 0;
+    change->result = ShowWindow(change->handle, change->on ? SW_SHOWNOACTIVATE : SW_HIDE) != 0;
 }
 
 static void enable_it(void *data) {

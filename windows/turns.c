@@ -182,6 +182,7 @@ static LRESULT CALLBACK helper_procedure(HWND handle, UINT message, WPARAM wp, L
             t->doing->blocked = TRUE;
             t->doing->before = t->awaited;
             t->awaited = NULL;
+            everybody_may_look();
             give_back(t, STATE_SENDS);
         }
         return 0;
@@ -424,13 +425,30 @@ static BOOL advance(void) {
     return TRUE;
 }
 
+/* Whether a thread waits inside of SetFocus or its like for messages that another one has to take: some aren't written,
+ * so that nobody seems to move. */
+static BOOL is_blocked(void) {
+    for (int k = 1; k <= script.thread_count; k++)
+        if (threads[k].state == STATE_SENDS && threads[k].doing->blocked && !threads[k].doing->send)
+            return TRUE;
+    return FALSE;
+}
+
 int schedule(double seconds) {
+    double moved = real_now();
     end_of_patience = real_now() + seconds;
     AcquireSRWLockExclusive(&lock);
     for (;;) {
         int live = 0, busy = 0;
-        if (wait_for_turn_back() && step())
+        if (wait_for_turn_back() && step()) {
+            moved = real_now();
             continue;
+        }
+        if (is_blocked() && real_now() < moved + 4 * PATIENCE && !out_of_patience()) {
+            wait_a_little(10);
+            everybody_may_look();
+            continue;
+        }
         if (out_of_patience()) {
             write_log("cut");
             fprintf(stderr, "the limit of %g seconds is over\n", seconds);

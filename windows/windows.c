@@ -189,7 +189,6 @@ static LRESULT part_of_compound(Thread *t, Doing *doing, HWND handle, UINT messa
     Number window = number_of(handle);
     BOOL its = handle == doing->handle;
     *known = TRUE;
-    finish_foreign(t, doing);
     switch (doing->compound) {
     case COMPOUND_CREATE:
         return part_of_creation(t, doing, handle, message, wp, lp, known);
@@ -211,15 +210,15 @@ static LRESULT part_of_compound(Thread *t, Doing *doing, HWND handle, UINT messa
         break;
     case COMPOUND_FOCUS:
         if (window && (message == WM_SETFOCUS || message == WM_KILLFOCUS))
-            return send_made(t, window, message, number_of((HWND)wp), 0);
+            return finish_foreign(t, doing), send_made(t, window, message, number_of((HWND)wp), 0);
         break;
     case COMPOUND_ACTIVE:
         if (window && message == WM_ACTIVATE)
-            return send_made(t, window, message, wp, number_of((HWND)lp));
+            return finish_foreign(t, doing), send_made(t, window, message, wp, number_of((HWND)lp));
         break;
     case COMPOUND_CAPTURE:
         if (window && message == WM_CAPTURECHANGED)
-            return send_made(t, window, message, wp, number_of((HWND)lp));
+            return finish_foreign(t, doing), send_made(t, window, message, wp, number_of((HWND)lp));
         break;
     case COMPOUND_PAINT:
         if (its && message == WM_ERASEBKGND && !doing->erased) {
