@@ -112,7 +112,10 @@ class Player:
         return Place(int(number), reason, lines[1].partition(" ")[2], lines[2].partition(" ")[2])
 
     def play(self, name, text):
+        """The outcome of a script. One that brings no log is played once more, where it isn't the runner that refuses it."""
         log, told = self.history(text)
+        if log is None and not told.startswith("line "):
+            log, told = self.history(text)
         if log is None:
             return Outcome(name, "unplayable", (), None, told, "")
         return self.judge(name, text, log)

@@ -226,6 +226,8 @@ void play_status(Thread *t, const Statement *s) {
     } else {
         arm_timers(t);
         found = GetQueueStatus((UINT)flags) & ((UINT)flags | (UINT)flags << 16);
+        if (t->probes > 0 && !has_sends(t))
+            found &= ~(Number)(QS_SENDMESSAGE | QS_SENDMESSAGE << 16);
         answer(t, "value %" PRIu64, found);
     }
     set_result(t, found, (Number)code);

@@ -196,6 +196,7 @@ typedef struct Thread {
     struct Send *awaited;     /* the send whose answer it waits for, innermost */
     struct Send *serving;     /* the send of another thread that it serves, innermost */
     int hold;                 /* keeps the turn, since Windows shows the steps between to nobody */
+    int probes;               /* of the scheduler, that it hasn't served: they don't count as sends */
     int callbacks;            /* results of SendMessageCallback that it hasn't been told */
     int timer_count;
 } Thread;

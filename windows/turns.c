@@ -175,6 +175,7 @@ static void run_quietly(void *data) {
 static LRESULT CALLBACK helper_procedure(HWND handle, UINT message, WPARAM wp, LPARAM lp) {
     Thread *t = current_thread();
     if (message == MESSAGE_PROBE) {
+        t->probes--;
         if (t->in_transit && t->state == STATE_SENDS) {
             give_back(t, STATE_SENDS);
         } else if (t->state == STATE_MOVES && !t->fresh && t->doing->kind == DOING_COMPOUND && !t->doing->blocked) {
@@ -268,6 +269,7 @@ static void probe(Thread *t) {
         }
         return;
     }
+    t->probes++;
     ReleaseSRWLockExclusive(&lock);
     SendNotifyMessageA(t->helper, MESSAGE_PROBE, 0, 0);
     AcquireSRWLockExclusive(&lock);
@@ -294,7 +296,8 @@ static BOOL wait_for_turn_back(void) {
         } else {
             Thread *t = mover;
             wait_a_little(100);
-            if (mover == t && t->state == STATE_MOVES && !t->fresh && !t->in_transit) {
+            if (mover == t && t->state == STATE_MOVES && !t->fresh && !t->in_transit && t->doing->kind == DOING_COMPOUND) {
+                t->probes++;
                 ReleaseSRWLockExclusive(&lock);
                 SendNotifyMessageA(t->helper, MESSAGE_PROBE, 0, 0);
                 AcquireSRWLockExclusive(&lock);
