@@ -286,7 +286,11 @@ static BOOL find_character(Thread *t, MSG *m) {
     BOOL found = FALSE;
     Doing doing = {.kind = DOING_SYSTEM, .outer = t->doing};
     t->doing = &doing;
-    while (count < 64 && PeekMessageA(&others[count], from.hwnd ? from.hwnd : (HWND)(INT_PTR)-1, WM_CHAR, WM_CHAR, PM_REMOVE | PM_QS_POSTMESSAGE))
+    HWND of = from.hwnd ? from.hwnd : (HWND)(INT_PTR)-1;
+    /* A quit that is set passes each range: it is looked at alone, and left. */
+    while (count < 64 && PeekMessageA(&others[count], of, WM_CHAR, WM_CHAR, PM_NOREMOVE | PM_QS_POSTMESSAGE) &&
+           others[count].message == WM_CHAR &&
+           PeekMessageA(&others[count], of, WM_CHAR, WM_CHAR, PM_REMOVE | PM_QS_POSTMESSAGE))
         count++;
     for (int k = 0; k < count; k++)
         if (from.hwnd)
