@@ -373,9 +373,8 @@ static void mark_family(Number window) {
 
 Number destroy(Thread *t, Number window, Number *err) {
     begin_call(t, "doom %" PRIu64, window);
-    int code = refusal(t, window, TRUE);
-    if (!code && live_window(window)->marked)
-        code = ERROR_INVALID_WINDOW_HANDLE;
+    const Window *w = live_window(window);
+    int code = w && w->marked ? ERROR_INVALID_WINDOW_HANDLE : refusal(t, window, TRUE);
     *err = (Number)code;
     if (code) {
         refuse(t, code);
