@@ -353,11 +353,17 @@ void play_create(Thread *t, const Statement *s) {
         set_result(t, 0, error);
         return;
     }
-    if (doing.gone) {
+    BOOL dropped = doing.gone;
+    if (dropped) {
         drop_where_gone(t, &doing);
         begin_call(t, "unmake %" PRIu64, number);
         answer(t, "gone");
     }
+    Number unused;
+    if (!live_window(number) && !dropped && !doing.created && !doing.refused)
+        doing.refused = !send_part(t, number, WM_CREATE, 0, 0, &unused); /* destroyed in WM_NCCREATE */
+    if (!live_window(number) && !dropped && doing.refused)
+        destroy(t, number, &unused);
     (void)made; /* NULL also where the window was destroyed meanwhile */
     set_result(t, doing.refused ? 0 : number, 0);
 }
