@@ -27,7 +27,10 @@ fn show<R: Threads + Wait + Sync + Print>(rt: &R, alloc: Global) -> anyhow::Resu
 
 fn main(rt: HostRuntime) -> anyhow::Result<()> {
     let alloc = rt.alloc();
-    if env::args(&rt)?.skip(1).any(|word| word.as_str() == "measure") {
+    if env::args(&rt)?
+        .skip(1)
+        .any(|word| word.as_str() == "measure")
+    {
         return measure::run(&rt, alloc);
     }
     show(&rt, alloc)
