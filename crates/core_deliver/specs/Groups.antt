@@ -6,7 +6,7 @@ use Rattle.core_deliver.specs.declared.groups.Group.{Group}
 use Rattle.core_deliver.specs.declared.groups.Group.TheVariants.{Retrieval, Status, Delivery, Window, Drawing, Other}
 
 -- the group of each call: it asks for a message; it asks which kinds of messages are there; it posts, also the character of a key, sends, hands a message to a procedure, is made inside or
--- after a send, or registers a message; it is about classes or windows, focus, active window, capture, attached threads, the mouse, keys or dialogs; it is about dirty pixels, painting, colours or frames; or it is about time or timers, or ends a thread
+-- after a send, or registers a message; it is about classes or windows, focus, active window, capture, attached threads, the mouse, keys or dialogs, or ends a thread; it is about dirty pixels, painting, colours or frames; or it is about time or timers
 abbrev pub group_of : Call → Group
 group_of (Peek w min max flags) = Retrieval
 group_of (Get w min max) = Retrieval
@@ -65,7 +65,7 @@ group_of (Erase w) = Drawing
 group_of Snap = Drawing
 group_of (SetTimer w id ms) = Other
 group_of (KillTimer w id) = Other
-group_of EndThread = Other
+group_of EndThread = Window
 group_of Clock = Other
 group_of (SleepUntil time) = Other
 group_of Yield = Other
@@ -120,7 +120,7 @@ are_window_calls Window = true
 are_window_calls Drawing = false
 are_window_calls Other = false
 
--- whether the call is about classes or windows
+-- whether the call is about classes or windows, or ends a thread
 abbrev pub is_window_call : Call → Bool
 is_window_call call = are_window_calls (group_of call)
 

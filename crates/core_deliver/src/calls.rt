@@ -1,8 +1,9 @@
 //! The calls of delivery: what each answers, and its entry.
 
-ghost use Rattle.std.specs.Prelude.{◌≡◌, ◌<◌, ◌≤◌, ◌+◌, length, true, false, IfOk, OnOk, OnErr};
+ghost use Rattle.std.specs.Prelude.{◌≡◌, ◌<◌, ◌≤◌, ◌+◌, length, true, false, IfOk, IsOk, OnOk, OnErr};
 ghost use Rattle.core_deliver.specs.Groups.{is_delivery, is_retrieval};
 ghost use Rattle.core_deliver.specs.Reads.{is_unfiltered, reads_by};
+ghost use Rattle.core_state.specs.OnePlace.{takes_one_place};
 ghost use Rattle.user_model.specs.Idle.{reply};
 ghost use Rattle.user_model.specs.Machines.{after};
 ghost use Rattle.user_model.specs.Past.{is_full};
@@ -168,6 +169,8 @@ fn keep(s: &mut CoreState, entry: &Entry) -> Result<(), AllocError>
     ensures entry { OnOk result (s.new.past ≡ after s.old.setup s.old.past entry.now.who entry.now.call) }
     ensures err { OnErr result (s.new.past ≡ s.old.past) }
     ensures setup { s.new.setup ≡ s.old.setup }
+    ensures spare { s.old.spare ≤ s.new.spare + 1 }
+    ensures with_room { takes_one_place entry.now.call ≡ true → 1 ≤ s.old.spare → IsOk result }
 {
     if s.is_full() {
         return Ok(());
@@ -189,6 +192,8 @@ pub fn enter(
     ensures entry { OnOk result (s.new.past ≡ after s.old.setup s.old.past who call.now) }
     ensures err { OnErr result (s.new.past ≡ s.old.past) }
     ensures setup { s.new.setup ≡ s.old.setup }
+    ensures spare { s.old.spare ≤ s.new.spare + 1 }
+    ensures with_room { takes_one_place call.now ≡ true → 1 ≤ s.old.spare → IsOk result }
 {
     let entry = Entry {
         who,
@@ -211,6 +216,7 @@ pub fn retrieve_in<L: Ledger>(
     ensures entry { OnOk result (s.new.past ≡ after s.old.setup s.old.past entry.old.who entry.old.call) }
     ensures err { OnErr result (s.new.past ≡ s.old.past) }
     ensures setup { s.new.setup ≡ s.old.setup }
+    ensures spare { s.old.spare ≤ s.new.spare + 1 }
     ensures reads { steps.new ≤ steps.old + reads_by s.old.past entry.old.who.0 entry.old.call }
     ensures same { (entry.new.who ≡ entry.old.who) × (entry.new.call ≡ entry.old.call) }
 {
@@ -234,6 +240,7 @@ pub fn retrieve<L: Ledger>(
     ensures entry { OnOk result (s.new.past ≡ after s.old.setup s.old.past who call.now) }
     ensures err { OnErr result (s.new.past ≡ s.old.past) }
     ensures setup { s.new.setup ≡ s.old.setup }
+    ensures spare { s.old.spare ≤ s.new.spare + 1 }
     ensures reads { steps.new ≤ steps.old + reads_by s.old.past who.0 call.now }
     ensures unfiltered { is_unfiltered call.now ≡ true → steps.new ≤ steps.old + 1 }
     ensures most { steps.new ≤ steps.old + length (posted s.old.past who.0) }
@@ -255,6 +262,8 @@ pub fn deliver_in(s: &mut CoreState, entry: &mut Entry) -> Result<(), AllocError
     ensures entry { OnOk result (s.new.past ≡ after s.old.setup s.old.past entry.old.who entry.old.call) }
     ensures err { OnErr result (s.new.past ≡ s.old.past) }
     ensures setup { s.new.setup ≡ s.old.setup }
+    ensures spare { s.old.spare ≤ s.new.spare + 1 }
+    ensures with_room { takes_one_place entry.old.call ≡ true → 1 ≤ s.old.spare → IsOk result }
     ensures same { (entry.new.who ≡ entry.old.who) × (entry.new.call ≡ entry.old.call) }
 {
     write_delivery(s, entry.who, &entry.call, &mut entry.answer);
@@ -270,6 +279,8 @@ pub fn deliver(s: &mut CoreState, who: Thread, call: &Call) -> Result<Answer, Al
     ensures entry { OnOk result (s.new.past ≡ after s.old.setup s.old.past who call.now) }
     ensures err { OnErr result (s.new.past ≡ s.old.past) }
     ensures setup { s.new.setup ≡ s.old.setup }
+    ensures spare { s.old.spare ≤ s.new.spare + 1 }
+    ensures with_room { takes_one_place call.now ≡ true → 1 ≤ s.old.spare → IsOk result }
 {
     let mut entry = Entry {
         who,
@@ -293,6 +304,7 @@ pub fn status<L: Ledger>(
     ensures entry { OnOk result (s.new.past ≡ after s.old.setup s.old.past who (Call.Status flags)) }
     ensures err { OnErr result (s.new.past ≡ s.old.past) }
     ensures setup { s.new.setup ≡ s.old.setup }
+    ensures spare { s.old.spare ≤ s.new.spare + 1 }
     ensures steps { steps.new ≡ steps.old }
 {
     let answer = status_answer(s, who, flags)?;

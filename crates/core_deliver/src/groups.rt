@@ -14,11 +14,11 @@ pub enum Group {
     Status,
     /// It posts, also the character of a key, dispatches, sends, is made inside or after a send, or registers a message.
     Delivery,
-    /// It is about classes or windows, focus, active window, capture, attached threads, the mouse, keys or dialogs, and `core_window` answers it.
+    /// It is about classes or windows, focus, active window, capture, attached threads, the mouse, keys or dialogs, or ends a thread, and `core_window` answers it.
     Window,
     /// It is about dirty pixels, painting, colours and frames, and `core_draw` answers it.
     Drawing,
-    /// It is about time or timers, or ends a thread, and the machine answers it.
+    /// It is about time or timers, and the machine answers it.
     Other,
 }
 
@@ -54,7 +54,6 @@ pub fn group_of(call: &Call) -> Group
         | Call::Snap => Group::Drawing,
         Call::SetTimer(..)
         | Call::KillTimer(..)
-        | Call::EndThread
         | Call::Clock
         | Call::SleepUntil(..)
         | Call::Yield
@@ -94,7 +93,7 @@ pub fn is_delivery(call: &Call) -> bool
     }
 }
 
-/// Whether the call is about classes, windows, groups of attached threads, the mouse, keys or dialogs.
+/// Whether the call is about classes, windows, groups of attached threads, the mouse, keys or dialogs, or ends a thread.
 pub fn is_window_call(call: &Call) -> bool
     ensures { result ≡ is_window_call call.now }
 {

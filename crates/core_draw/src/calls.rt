@@ -1,6 +1,6 @@
 //! The calls on dirty pixels, painting, colours and frames: what each answers, and its entry.
 
-ghost use Rattle.std.specs.Prelude.{◌≡◌, true, IfOk, OnOk, OnErr};
+ghost use Rattle.std.specs.Prelude.{◌≡◌, ◌≤◌, ◌+◌, true, IfOk, OnOk, OnErr};
 ghost use Rattle.core_deliver.specs.Groups.{is_drawing};
 ghost use Rattle.user_model.specs.Idle.{reply};
 ghost use Rattle.user_model.specs.Machines.{after};
@@ -58,6 +58,7 @@ pub fn draw(s: &mut CoreState, who: Thread, call: &Call) -> Result<Answer, Alloc
     ensures entry { OnOk result (s.new.past ≡ after s.old.setup s.old.past who call.now) }
     ensures err { OnErr result (s.new.past ≡ s.old.past) }
     ensures setup { s.new.setup ≡ s.old.setup }
+    ensures spare { s.old.spare ≤ s.new.spare + 1 }
 {
     let answer = drawing_answer(s, who, call);
     enter(s, who, call, answer)

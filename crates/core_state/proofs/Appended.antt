@@ -155,7 +155,7 @@ thread_step setup past p shift e tree t count st down right made counted =
     ∙ thread-next setup past t e st.lawful right
 
 -- the untaken input follows it too
-inputs_step : (setup : Setup) (past : Past) (p : Parts) (meant : Meant) (e : Entry) (inputs1 inputs2 : List KeptElement) → Stands setup past p → IsMeantBy setup past e.call meant → e.answer ≡ reply setup past e.who.0 e.call → inputs1 ≡ added_by meant e.answer e.call p.inputs → inputs2 ≡ left_by e.who e.answer e.call inputs1 → inputs2 ≡ untaken_at setup (e ∷ past)
+pub inputs_step : (setup : Setup) (past : Past) (p : Parts) (meant : Meant) (e : Entry) (inputs1 inputs2 : List KeptElement) → Stands setup past p → IsMeantBy setup past e.call meant → e.answer ≡ reply setup past e.who.0 e.call → inputs1 ≡ added_by meant e.answer e.call p.inputs → inputs2 ≡ left_by e.who e.answer e.call inputs1 → inputs2 ≡ untaken_at setup (e ∷ past)
 inputs_step setup past p meant e inputs1 inputs2 st m right added left =
     left ∙ ap (left_by e.who e.answer e.call) (added ∙ ap (added_by meant e.answer e.call) st.untaken)
     ∙ inputs_after setup past e meant st.ready st.lawful m right
@@ -225,8 +225,8 @@ moment_step setup past p e progress m st right went is =
     made inputs time = record { inputs = inputs; time = time }
 
 -- the parts that were brought up to date stand for the past with the entry
-pub stands_step : (setup : Setup) (past : Past) (p : Parts) (shift : Bool) (meant : Meant) (e : Entry) (classes1 classes2 : ClassTable) (tree1 tree2 : Windows) (order1 order2 : Layers) (display2 : Shown) (threads1 threads2 threads3 threads4 : List ThreadView) (timers2 : List Setting) (groups2 : Kept) (inputs1 inputs2 : List KeptElement) (progress : Progress) (sends1 sends2 : SendParts) (first : Option Cause) (lost : ℕ) (tally : Tally) (stories1 stories2 stories3 : List SendStory) (looks2 : List LookView) (dialogs2 : List (ℕ × Dialog)) (place : ℕ)
-    → is_full past ≡ false → e.answer ≡ reply setup past e.who.0 e.call → Stands setup past p → (is_running setup past e.who.0 ≡ true → posting_of shift e.call ≡ posting_of (is_shift_down past e.who.0) e.call) → IsMeantBy setup past e.call meant
+pub stands_step : (setup : Setup) (past : Past) (p : Parts) (shift : Bool) (e : Entry) (classes1 classes2 : ClassTable) (tree1 tree2 : Windows) (order1 order2 : Layers) (display2 : Shown) (threads1 threads2 threads3 threads4 : List ThreadView) (timers2 : List Setting) (groups2 : Kept) (inputs2 : List KeptElement) (progress : Progress) (sends1 sends2 : SendParts) (first : Option Cause) (lost : ℕ) (tally : Tally) (stories1 stories2 stories3 : List SendStory) (looks2 : List LookView) (dialogs2 : List (ℕ × Dialog)) (place : ℕ)
+    → is_full past ≡ false → e.answer ≡ reply setup past e.who.0 e.call → Stands setup past p → (is_running setup past e.who.0 ≡ true → posting_of shift e.call ≡ posting_of (is_shift_down past e.who.0) e.call)
     → classes1 ≡ added_classes e.answer e.call p.classes → classes2 ≡ affected_classes e.answer e.call classes1
     → IsAddedBy e.who.0 e.answer e.call p.tree tree1 → IsAffected e.who.0 e.answer e.call tree1 tree2
     → IsOrderAdded e.answer e.call p.tree tree1 p.order order1 → order2 ≡ affected_order e.answer e.call tree2 order1 → IsDisplayAt setup (e ∷ past) display2
@@ -235,7 +235,7 @@ pub stands_step : (setup : Setup) (past : Past) (p : Parts) (shift : Bool) (mean
     → EachBy (λ t. noted t e) threads2 threads3 → EachBy (λ t. marked t e progress.posts) threads3 threads4
     → timers2 ≡ timers_at (e ∷ past)
     → IsGroupsAt setup (e ∷ past) groups2
-    → inputs1 ≡ added_by meant e.answer e.call p.inputs → inputs2 ≡ left_by e.who e.answer e.call inputs1
+    → inputs2 ≡ untaken_at setup (e ∷ past)
     → progress ≡ record { posts = count_kept e.answer p.post_count; inputs = counted_with e.answer p.input_count; time = time_kept e p.time; cursor = cursor_with e.answer e.call p.cursor }
     → sends1 ≡ added_sends p.tree.live p.time place e.who e.answer e.call p.sends → PartsStand setup (e ∷ past) sends2 → MarksStand setup (e ∷ past) sends2.marks → place ≡ place_after past
     → first ≡ first_cause p.sends e.who.0 e.answer e.call → lost ≡ losses_by tree1.live place e.who.0 e.answer e.call sends1 → tally ≡ tallied e.answer first lost p.tally
@@ -243,7 +243,7 @@ pub stands_step : (setup : Setup) (past : Past) (p : Parts) (shift : Bool) (mean
     → AreLooksAt setup (e ∷ past) looks2
     → Follows e.answer e.call p.dialogs dialogs2
     → Stands setup (e ∷ past) (parts tree2 order2 display2 classes2 threads4 timers2 groups2 inputs2 progress sends2 tally stories3 looks2 dialogs2)
-stands_step setup past p shift meant e classes1 classes2 tree1 tree2 order1 order2 display2 threads1 threads2 threads3 threads4 timers2 groups2 inputs1 inputs2 progress sends1 sends2 cause lost tally stories1 stories2 stories3 looks2 dialogs2 place room right st down m grown settled made given ranked left_order seen first second note mark timed grouped put taken went begun stay stood here named counted noted_tally story_more story_losses story_answers looked turned = record {
+stands_step setup past p shift e classes1 classes2 tree1 tree2 order1 order2 display2 threads1 threads2 threads3 threads4 timers2 groups2 inputs2 progress sends1 sends2 cause lost tally stories1 stories2 stories3 looks2 dialogs2 place room right st down grown settled made given ranked left_order seen first second note mark timed grouped taken went begun stay stood here named counted noted_tally story_more story_losses story_answers looked turned = record {
   ready = st.ready;
   lawful = (st.lawful, right);
   short = grind (arith, nat_tests, room);
@@ -264,7 +264,7 @@ stands_step setup past p shift meant e classes1 classes2 tree1 tree2 order1 orde
   };
   timers = timed;
   groups = grouped;
-  untaken = inputs_step setup past p meant e inputs1 inputs2 st m right put taken;
+  untaken = taken;
   posts = ap (λ (q : Progress). q.posts) went ∙ ap (count_kept e.answer) st.posts ∙ count_kept-next setup past e right;
   injected = ap (λ (q : Progress). q.inputs) went ∙ ap (counted_with e.answer) st.injected ∙ counted_with-next setup past e right;
   clock = ap (λ (q : Progress). q.time) went ∙ ap (time_kept e) st.clock ∙ time_kept-next e past;

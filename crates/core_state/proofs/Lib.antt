@@ -21,7 +21,9 @@ pub mod TurnedDialogs
 pub mod Tops
 pub mod Owners
 pub mod PostReads
+pub mod PlainEntries
 pub mod QuietEntries
+pub mod StillEntries
 pub mod Running
 pub mod SendNumbers
 pub mod Threads

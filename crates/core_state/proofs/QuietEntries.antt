@@ -1,7 +1,6 @@
 -- An entry that adds a post, or that finds a post or none, leaves all parts but threads, looks and the count of posts.
-use Rattle.std.proofs.Common.{◌≡◌, ◌∙◌, ℕ, ◌+◌, Bool, true, false, not, eqb, List, [], ◌∷◌, length, None, Some, refl, sym, ap, subst, arith}
-use Rattle.std.specs.Prelude.{◌&&◌, ◌||◌, slice_index_or}
-use Rattle.std.specs.List.{list_all}
+use Rattle.std.proofs.Common.{◌≡◌, ◌∙◌, inr, ℕ, ◌+◌, Bool, true, false, List, [], None, Some, refl}
+use Rattle.std.specs.Prelude.{slice_index_or}
 use Rattle.std.proofs.lemmas.Bool.{false≢true}
 use Rattle.win_num.specs.declared.message.Msg.{Msg}
 use Rattle.win_num.specs.declared.message.Thread.{Thread}
@@ -17,51 +16,36 @@ use Rattle.user_model.specs.declared.entry.Answer.TheVariants as answers
 use Rattle.user_model.specs.declared.entry.Entry.{Entry}
 use Rattle.user_model.specs.declared.entry.Origin.{Origin}
 use Rattle.user_model.specs.declared.entry.Origin.TheVariants as origins
-use Rattle.user_model.specs.declared.entry.Setup.{Setup}
 use Rattle.user_model.specs.declared.story.SendStory.{SendStory}
-use Rattle.user_model.specs.Idle.{reply}
 use Rattle.user_model.specs.Inputs.{Injection, injection}
-use Rattle.user_model.specs.Keys.{is_shift_down}
-use Rattle.user_model.specs.Past.{Past, is_full, is_refusal}
+use Rattle.user_model.specs.Past.{is_refusal}
 use Rattle.user_model.specs.Retrievals.{input_got}
 use Rattle.user_model.specs.Status.{is_look}
 use Rattle.dialog_state.specs.Dialogs.{turns}
-use Rattle.dialog_state.proofs.Steps.{follows_same}
-use Rattle.display_state.specs.Displays.{IsDisplayAt}
-use Rattle.display_state.proofs.Followed.{display_follows, kept_shown}
-use Rattle.group_state.specs.GroupTables.{IsGroupsAt}
-use Rattle.group_state.proofs.GroupSteps.{IsQuiet, call_step, other_quiet}
+use Rattle.group_state.proofs.GroupSteps.{IsQuiet, other_quiet}
 use Rattle.input_queue.specs.declared.element.Element.{Element as KeptElement}
 use Rattle.look_state.specs.declared.moment.Moment.{Moment}
-use Rattle.look_state.specs.Looks.{AreLooksAt, EachLook, LookView, look_after, moment_at}
+use Rattle.look_state.specs.Looks.{EachLook, LookView, look_after}
 use Rattle.pending_state.specs.declared.changes.Meant.{Meant}
 use Rattle.pending_state.specs.Changes.{added_by, counted_with, cursor_with, left_by, moved_by}
-use Rattle.screen_owners.specs.declared.owners.Owned.{Owned}
-use Rattle.screen_state.specs.Screens.{draws, is_none_dirty, keeps_screen}
-use Rattle.screen_state.specs.Shown.{changes_owners, shows}
-use Rattle.screen_state.proofs.Screens.{stays_follow}
-use Rattle.send_state.specs.Standing.{MarksStand, PartsStand}
+use Rattle.screen_state.specs.Screens.{draws}
+use Rattle.screen_state.specs.Shown.{changes_owners}
 use Rattle.send_state.specs.Parts.{SendParts}
-use Rattle.send_state.specs.Stories.{EachStory, noted_answer, with_begun}
-use Rattle.send_state.specs.Tallies.{enters_one, first_of, named_send, one_if, tallied}
-use Rattle.send_state.specs.declared.tally.Tally.{Tally}
-use Rattle.thread_queues.specs.Changes.{changed, count_kept, marked, noted, time_told_to}
+use Rattle.send_state.specs.Stories.{noted_answer, with_begun}
+use Rattle.send_state.specs.Tallies.{enters_one, named_send}
+use Rattle.thread_queues.specs.Changes.{changed, count_kept, marked, time_told_to}
 use Rattle.thread_queues.specs.Deliveries.{FitsPost, adding_in, change_of_post, effect_in, posting}
 use Rattle.thread_queues.specs.Queues.{EachBy}
 use Rattle.thread_state.specs.Threads.{ThreadView, waiting_with}
 use Rattle.timer_source.specs.declared.setting.Setting.{Setting}
 use Rattle.timer_state.specs.Changes.{added_timers, followed}
-use Rattle.timer_state.specs.TimerLists.{timers_at}
 use Rattle.window_state.specs.Effects.{IsAddedBy, IsAffected, added_classes, affected_classes}
 use Rattle.window_state.specs.Orders.{IsOrderAdded, affected_order}
 use Rattle.core_state.specs.Needs.{FitsAdding, FitsEffect, FitsPosting, FitsReading}
 use Rattle.core_state.specs.PostEntries.{adds_post, finds_post_or_none, reads_posts}
-use Rattle.core_state.specs.declared.progress.Progress.{Progress}
 use Rattle.core_state.specs.Sendings.{added_sends, affected_sends, losses_by, noted_losses}
-use Rattle.core_state.specs.States.{Parts, Stands, parts}
-use Rattle.core_state.specs.Progress.{moment_of}
-use Rattle.core_state.proofs.Appended.{moment_step, sends_step, stands_step}
-use Rattle.core_state.proofs.Timing.{timers_step}
+use Rattle.core_state.specs.States.{parts}
+use Rattle.core_state.proofs.StillEntries.{IsStill}
 
 -- ---- which answers and calls
 
@@ -101,6 +85,41 @@ pub record IsIdle (call : Call) : Type 0 where
   pub groups : IsQuiet call
   pub stays : call ≡ calls.EndThread → ⊥
 
+-- such an answer to such a call
+quiet_still : (a : Answer) (call : Call) → IsCalm a → IsIdle call → IsStill a call
+quiet_still a call calm idle = record {
+  classes = calm.classes call;
+  classes_later = calm.classes_later call;
+  tree = λ who t. calm.tree who call t;
+  tree_later = λ who t. calm.tree_later who call t;
+  order = calm.order call;
+  order_later = calm.order_later call;
+  owners = calm.owners call;
+  undrawn = idle.undrawn a;
+  timers = λ who time l. calm.timers who time call l;
+  timers_later = λ ws who time l. calm.timers_later ws who time call l;
+  counted = calm.counted;
+  cursor = λ p. idle.cursor p ∙ calm.cursor call p;
+  sends = λ ws time place who q. calm.sends ws time place who call q;
+  sends_later = λ ws place who q. calm.sends_later ws place who call q;
+  losses = λ ws place who q. calm.losses ws place who call q;
+  enters_none = calm.enters_none;
+  unnamed = λ q who. idle.unnamed q who a;
+  stories = calm.stories;
+  stories_lost = λ ws place who q s x. calm.stories_lost ws place who call q s x;
+  stories_told = calm.stories_told;
+  turned = calm.turned call;
+  fate = inr (record {
+    fine = calm.fine;
+    no_input = calm.no_input call;
+    inputs = λ meant l. calm.inputs meant call l;
+    inputs_later = λ who l. calm.inputs_later who call l;
+    uninjected = idle.uninjected;
+    groups = idle.groups;
+    stays = idle.stays;
+  });
+}
+
 calm_post : (k : ℕ) → IsCalm (answers.Posted k)
 calm_post k = record { classes = λ call t. refl; classes_later = λ call t. refl; tree = λ who call t. refl; tree_later = λ who call t. refl; order = λ call t z. refl; order_later = λ call t z. refl; owners = λ call. refl; timers = λ who time call l. refl; timers_later = λ ws who time call l. refl; inputs = λ meant call l. refl; inputs_later = λ who call l. refl; counted = λ n. refl; time = λ who n. refl; cursor = λ call p. refl; sends = λ ws time place who call q. refl; sends_later = λ ws place who call q. refl; losses = λ ws place who call q. refl; enters_none = refl; stories = λ l. refl; stories_lost = λ ws place who call q s x. refl; stories_told = λ place s x. refl; turned = λ call. refl; fine = refl; no_input = λ call. refl }
 
@@ -111,25 +130,38 @@ finding_calm answers.Nothing h = record { classes = λ call t. refl; classes_lat
 finding_calm _ h = absurd (false≢true h)
 
 -- an entry that adds a post
-pub post_calm : (a : Answer) (call : Call) → adds_post a call ≡ true → IsCalm a
+post_calm : (a : Answer) (call : Call) → adds_post a call ≡ true → IsCalm a
 post_calm (answers.Posted k) call h = calm_post k
 post_calm _ call h = absurd (false≢true h)
 
-pub post_idle : (a : Answer) (call : Call) → adds_post a call ≡ true → IsIdle call
+post_idle : (a : Answer) (call : Call) → adds_post a call ≡ true → IsIdle call
 post_idle (answers.Posted k) (calls.Post w number wparam lparam) h = record { cursor = λ p. refl; unnamed = λ q who a. refl; uninjected = λ i is. absurd cc; undrawn = λ a. refl; groups = other_quiet (calls.Post w number wparam lparam) (λ w is. absurd cc) (λ w is. absurd cc) (λ w is. absurd cc) (λ is. absurd cc) (λ t u is. absurd cc) (λ t u is. absurd cc); stays = λ is. absurd cc }
 post_idle (answers.Posted k) (calls.PostThread to number wparam lparam) h = record { cursor = λ p. refl; unnamed = λ q who a. refl; uninjected = λ i is. absurd cc; undrawn = λ a. refl; groups = other_quiet (calls.PostThread to number wparam lparam) (λ w is. absurd cc) (λ w is. absurd cc) (λ w is. absurd cc) (λ is. absurd cc) (λ t u is. absurd cc) (λ t u is. absurd cc); stays = λ is. absurd cc }
 post_idle _ _ h = absurd (false≢true h)
 
 -- and one that finds a post or none
-pub read_calm : (a : Answer) (call : Call) → reads_posts a call ≡ true → IsCalm a
+read_calm : (a : Answer) (call : Call) → reads_posts a call ≡ true → IsCalm a
 read_calm a (calls.Get w min max) h = finding_calm a h
 read_calm a (calls.Peek w min max flags) h = finding_calm a h
 read_calm a _ h = absurd (false≢true h)
 
-pub read_idle : (a : Answer) (call : Call) → reads_posts a call ≡ true → IsIdle call
+read_idle : (a : Answer) (call : Call) → reads_posts a call ≡ true → IsIdle call
 read_idle a (calls.Get w min max) h = record { cursor = λ p. refl; unnamed = λ q who a. refl; uninjected = λ i is. absurd cc; undrawn = λ a. refl; groups = other_quiet (calls.Get w min max) (λ w is. absurd cc) (λ w is. absurd cc) (λ w is. absurd cc) (λ is. absurd cc) (λ t u is. absurd cc) (λ t u is. absurd cc); stays = λ is. absurd cc }
 read_idle a (calls.Peek w min max flags) h = record { cursor = λ p. refl; unnamed = λ q who a. refl; uninjected = λ i is. absurd cc; undrawn = λ a. refl; groups = other_quiet (calls.Peek w min max flags) (λ w is. absurd cc) (λ w is. absurd cc) (λ w is. absurd cc) (λ is. absurd cc) (λ t u is. absurd cc) (λ t u is. absurd cc); stays = λ is. absurd cc }
 read_idle a _ h = absurd (false≢true h)
+
+pub post_still : (a : Answer) (call : Call) → adds_post a call ≡ true → IsStill a call
+post_still a call h = quiet_still a call (post_calm a call h) (post_idle a call h)
+
+pub read_still : (a : Answer) (call : Call) → reads_posts a call ≡ true → IsStill a call
+read_still a call h = quiet_still a call (read_calm a call h) (read_idle a call h)
+
+-- the clock stays
+pub post_time : (who n : ℕ) (a : Answer) (call : Call) → adds_post a call ≡ true → n ≡ time_told_to who a n
+post_time who n a call h = let calm : IsCalm a = post_calm a call h in calm.time who n
+
+pub read_time : (who n : ℕ) (a : Answer) (call : Call) → reads_posts a call ≡ true → n ≡ time_told_to who a n
+read_time who n a call h = let calm : IsCalm a = read_calm a call h in calm.time who n
 
 -- ---- threads
 
@@ -224,85 +256,3 @@ pub post_no_look : (a : Answer) (call : Call) → adds_post a call ≡ true → 
 post_no_look (answers.Posted n) (calls.Post w number wparam lparam) h is = false≢true is
 post_no_look (answers.Posted n) (calls.PostThread to number wparam lparam) h is = false≢true is
 post_no_look _ _ h is = false≢true h
-
--- ---- all parts
-
-no_more : (n : ℕ) → n ≡ n + 0
-no_more n = omega arith
-
-abbrev counts : ℕ → ℕ → ℕ → ℕ → ℕ → Tally
-counts entered by_proc by_reply by_loss by_timeout = record { entered = entered; by_proc = by_proc; by_reply = by_reply; by_loss = by_loss; by_timeout = by_timeout }
-
--- no send is entered, answered or lost
-nothing_counted : (t : Tally) (a : Answer) → enters_one a ≡ false → t ≡ tallied a None 0 t
-nothing_counted t a h =
-    ap (λ n. counts n t.by_proc t.by_reply t.by_loss t.by_timeout) (no_more t.entered ∙ ap (λ b. t.entered + one_if b) (sym h))
-    ∙ ap (λ n. counts (t.entered + one_if (enters_one a)) n t.by_reply t.by_loss t.by_timeout) (no_more t.by_proc)
-    ∙ ap (λ n. counts (t.entered + one_if (enters_one a)) (t.by_proc + 0) n t.by_loss t.by_timeout) (no_more t.by_reply)
-    ∙ ap (λ n. counts (t.entered + one_if (enters_one a)) (t.by_proc + 0) (t.by_reply + 0) n t.by_timeout) (no_more t.by_loss)
-    ∙ ap (λ n. counts (t.entered + one_if (enters_one a)) (t.by_proc + 0) (t.by_reply + 0) (t.by_loss + 0) n) (no_more t.by_timeout)
-
--- how far a past has come
-abbrev pub come : ℕ → ℕ → ℕ → Point → Progress
-come posts inputs time cursor = record { posts = posts; inputs = inputs; time = time; cursor = cursor }
-
-module _ (setup : Setup) (past : Past) (p : Parts) (e : Entry) (calm : IsCalm e.answer) (idle : IsIdle e.call) (room : is_full past ≡ false) (right : e.answer ≡ reply setup past e.who.0 e.call) (st : Stands setup past p) where
-  shown : IsDisplayAt setup (e ∷ past) p.display
-  shown =
-      let keeps : keeps_screen e.call e.answer p.display.screen ≡ true = ap (λ b. not b || (not (shows e.call e.answer) && (list_all (λ (o : Owned). eqb o.window.0 0) p.display.screen.owners && is_none_dirty p.display.screen.dirty))) (calm.owners e.call) in
-      display_follows setup p.tree p.order None e p.display (stays_follow setup p.tree p.order e p.display.screen keeps (idle.undrawn e.answer)) (idle.undrawn e.answer) past p.display (kept_shown p.display) st.lawful st.tree st.order right st.display
-
-  grouped : IsGroupsAt setup (e ∷ past) p.groups
-  grouped = call_step setup past p.groups (length past) e (record { lawful = st.lawful; groups = st.groups; at = refl; right = right }) calm.fine (calm.no_input e.call) idle.groups idle.stays
-
-  timed : p.timers ≡ timers_at (e ∷ past)
-  timed = timers_step setup past p e p.tree p.timers p.timers st right (calm.tree e.who.0 e.call p.tree) (calm.timers e.who p.time e.call p.timers) (calm.timers_later p.tree.live e.who p.time e.call p.timers)
-
-  meant : Meant
-  meant = record { home = e.who; group = 0; cursor = p.cursor; time = p.time }
-
-  -- the clock, the cursor and the count of inputs stay
-  gone_on : (progress : Progress) → progress ≡ come (count_kept e.answer p.post_count) p.input_count p.time p.cursor → progress ≡ come (count_kept e.answer p.post_count) (counted_with e.answer p.input_count) (time_told_to e.who.0 e.answer p.time) (cursor_with e.answer e.call p.cursor)
-  gone_on progress went =
-      went
-      ∙ ap (λ n. come (count_kept e.answer p.post_count) n p.time p.cursor) (calm.counted p.input_count)
-      ∙ ap (λ n. come (count_kept e.answer p.post_count) (counted_with e.answer p.input_count) n p.cursor) (calm.time e.who.0 p.time)
-      ∙ ap (λ q. come (count_kept e.answer p.post_count) (counted_with e.answer p.input_count) (time_told_to e.who.0 e.answer p.time) q) (idle.cursor p.cursor ∙ calm.cursor e.call p.cursor)
-
-  -- the sends stay
-  pub quiet_sends : PartsStand setup (e ∷ past) p.sends
-  quiet_sends = sends_step setup past p e p.tree p.sends p.sends (length past) st right (calm.tree e.who.0 e.call p.tree) (calm.sends p.tree.live p.time (length past) e.who e.call p.sends) (calm.sends_later p.tree.live (length past) e.who.0 e.call p.sends) refl
-
-  -- how far the past with the entry comes
-  pub quiet_moment : (m : Moment) (progress : Progress) → progress ≡ come (count_kept e.answer p.post_count) p.input_count p.time p.cursor → m ≡ moment_of progress → m ≡ moment_at (e ∷ past)
-  quiet_moment m progress went is = moment_step setup past p e progress m st right (gone_on progress went) is
-
-  -- the parts with the threads, marks and looks after the entry
-  pub quiet_step : (threads1 threads2 threads3 threads4 : List ThreadView) (progress : Progress) (sends2 : SendParts) (looks2 : List LookView)
-      → EachBy (λ t. changed t (adding_in p.tree.live p.time p.cursor (is_shift_down past e.who.0) e.who.0 e.answer e.call)) p.threads threads1
-      → EachBy (λ t. changed t (effect_in p.tree.live e.who.0 e.answer e.call)) threads1 threads2
-      → EachBy (λ t. noted t e) threads2 threads3 → EachBy (λ t. marked t e progress.posts) threads3 threads4
-      → progress ≡ come (count_kept e.answer p.post_count) p.input_count p.time p.cursor
-      → PartsStand setup (e ∷ past) sends2 → MarksStand setup (e ∷ past) sends2.marks
-      → AreLooksAt setup (e ∷ past) looks2
-      → Stands setup (e ∷ past) (parts p.tree p.order p.display p.classes threads4 p.timers p.groups p.inputs progress sends2 p.tally p.stories looks2 p.dialogs)
-  quiet_step threads1 threads2 threads3 threads4 progress sends2 looks2 first second note mark went stay stood looked =
-      let a = e.answer in
-      let call = e.call in
-      let who = e.who.0 in
-      let ws = p.tree.live in
-      let place = length past in
-      let cause : None ≡ first_of p.sends (named_send p.sends who a call) = ap (first_of p.sends) (sym (idle.unnamed p.sends who a)) in
-      let told : EachStory (noted_answer a (named_send p.sends who a call) place) p.stories p.stories = subst (λ q. EachStory (noted_answer a q place) p.stories p.stories) (sym (idle.unnamed p.sends who a)) (record { same_length = refl; at = λ i d lt. calm.stories_told place (i + 1) (slice_index_or p.stories i d) }) in
-      stands_step setup past p (is_shift_down past who) meant e p.classes p.classes p.tree p.tree p.order p.order p.display threads1 threads2 threads3 threads4 p.timers p.groups p.inputs p.inputs progress p.sends sends2 None 0 p.tally p.stories p.stories p.stories looks2 p.dialogs place
-      room right st (λ runs. refl) (λ i is home. absurd (idle.uninjected i is))
-      (calm.classes call p.classes) (calm.classes_later call p.classes)
-      (calm.tree who call p.tree) (calm.tree_later who call p.tree)
-      (calm.order call p.tree p.order) (calm.order_later call p.tree p.order) shown
-      first second note mark timed grouped
-      (calm.inputs meant call p.inputs) (calm.inputs_later e.who call p.inputs)
-      (gone_on progress went)
-      (calm.sends ws p.time place e.who call p.sends) stay stood refl
-      cause (calm.losses ws place who call p.sends) (nothing_counted p.tally a calm.enters_none)
-      (calm.stories p.stories) (record { same_length = refl; at = λ i d lt. calm.stories_lost ws place who call p.sends (i + 1) (slice_index_or p.stories i d) }) told
-      looked (follows_same a call p.dialogs (calm.turned call))

@@ -8,7 +8,7 @@ use Rattle.send_state.specs.Standing.{IsOurs, PartsStand}
 use Rattle.core_state.specs.States.{Seen}
 
 -- a thread of what is seen is one of the setup's
-pub is_ours : (v : Seen) (setup : Setup) (past : Past) (t : ℕ) → record { setup = setup; past = past } ≡ v → 0 < t → t ≤ v.setup.threads → IsOurs setup t
+pub is_ours : (v : Seen) (setup : Setup) (past : Past) (t : ℕ) → {n : ℕ} → record { setup = setup; past = past; spare = n } ≡ v → 0 < t → t ≤ v.setup.threads → IsOurs setup t
 is_ours v setup past t view some known =
     let here : t ≤ setup.threads = subst (λ (s : Seen). t ≤ s.setup.threads) (sym view) known in
     (omega (arith, some), here)

@@ -1,6 +1,7 @@
 pub mod Frames
 pub mod Inputs
 pub mod Needs
+pub mod OnePlace
 pub mod PostEntries
 pub mod Progress
 pub mod Sendings

@@ -32,10 +32,11 @@ use Rattle.look_state.specs.Looks.{AreLooksAt, LookView}
 use Rattle.user_model.specs.declared.dialog.Dialog.{Dialog}
 use Rattle.dialog_state.specs.Dialogs.{AreDialogsAt}
 
--- its setup and its past
+-- its setup, its past, and for how many entries more a place is taken
 pub record Seen : Type 0 where
   pub setup : Setup
   pub past : Past
+  pub spare : ℕ
 
 -- the parts beside the history
 pub record Parts : Type 0 where

@@ -1,6 +1,6 @@
 //! The history, and the parts that stand for it.
 
-ghost use Rattle.std.specs.Prelude.{◌≡◌, ◌==◌, ◌<◌, ◌≤◌, ◌+◌, ◌&&◌, option_copied, vec_capacity, vec_len, [], ◌∷◌, length, map, nat_le, reverse, All, true, false, IfOk, IfSome, OnOk, OnErr, Some, is_some, option_and_then, option_map};
+ghost use Rattle.std.specs.Prelude.{◌≡◌, ◌==◌, ◌<◌, ◌≤◌, ◌+◌, ◌&&◌, option_copied, vec_capacity, vec_len, [], ◌∷◌, length, map, nat_le, reverse, All, true, false, IfOk, IfSome, IsOk, OnOk, OnErr, Some, is_some, option_and_then, option_map};
 ghost use Rattle.win_num.specs.Clocks.{clock_limit};
 ghost use Rattle.user_model.specs.Legal.{IsLegal};
 ghost use Rattle.user_model.specs.Past.{is_full};
@@ -18,6 +18,7 @@ ghost use Rattle.user_model.specs.ReplySends.{blocks, deadline, next_send_number
 ghost use Rattle.send_state.specs.Standing.{as_told, row_of};
 ghost use Rattle.user_model.specs.Stories.{send_story};
 ghost use Rattle.core_state.specs.Frames.{IsOnTop, wait_end};
+ghost use Rattle.core_state.specs.OnePlace.{takes_one_place};
 ghost use Rattle.user_model.specs.Windows.{live, window, is_live, parent_in, thread_of, up, next_top};
 ghost use Rattle.user_model.specs.Looks.{look, placed, is_disabled, is_shown};
 ghost use Rattle.user_model.specs.Focus.{foreground, value_of};
@@ -46,6 +47,7 @@ ghost use Rattle.thread_state.specs.Threads.{code_of, fresh_thread, told_post, w
 ghost use Rattle.window_state.specs.Steps.{destruction_answer};
 
 use self::posts::{adds_post, reads_posts};
+use self::quiet::is_quiet;
 use crate::change::{add_change, take_effect};
 use crate::progress::Progress;
 use crate::sendings::{note_look, settle_sends};
@@ -78,6 +80,7 @@ use window_state::{
 
 mod inputs;
 mod posts;
+mod quiet;
 mod status;
 
 /// The history so far, and parts that answer in short time what the definitions say of it.
@@ -111,12 +114,12 @@ pub struct CoreState {
 }
 
 impl Model for CoreState {
-    ghost use Rattle.std.specs.Prelude.{reverse};
+    ghost use Rattle.std.specs.Prelude.{◌-◌, reverse, vec_capacity, vec_len};
     ghost use Rattle.core_state.specs.States.{Seen, Stands, parts};
 
     ghost Value = { Seen };
 
-    ghost view = { λ s. record { setup = s.setup; past = reverse s.history.items } };
+    ghost view = { λ s. record { setup = s.setup; past = reverse s.history.items; spare = vec_capacity s.history - vec_len s.history } };
 
     ghost invariant = { λ s. Stands s.setup (reverse s.history.items) (parts s.tree s.order s.display s.classes s.threads.items s.timers s.groups s.inputs s.progress s.sends s.tally s.stories.items s.looks s.dialogs) };
 }
@@ -125,7 +128,8 @@ impl CoreState {
     /// No entry yet.
     pub fn new(alloc: Global, setup: Setup) -> Result<CoreState, AllocError>
         requires { IsSetup setup }
-        ensures { IfOk result (λ s. s ≡ record { setup = setup; past = [] }) }
+        ensures setup { IfOk result (λ s. s.setup ≡ setup) }
+        ensures past { IfOk result (λ s. s.past ≡ []) }
     {
         let display = Display::new(alloc, setup)?;
         let threads = fresh_threads(alloc, setup.threads)?;
@@ -793,18 +797,37 @@ impl CoreState {
         self.classes.messages_are_full()
     }
 
-    /// Adds an entry, and brings the parts up to date. After want of memory nothing has changed.
+    /// Takes the places of this many entries more. Want of memory comes only where there were fewer, and leaves at least those that there
+    /// were. No entry comes or goes (Rust, Vec::reserve).
+    pub fn reserve(&mut self, n: u32) -> Result<(), AllocError>
+        ensures room { OnOk result (n ≤ self.new.spare) }
+        ensures kept { self.old.spare ≤ self.new.spare }
+        ensures lacking { OnErr result (self.old.spare < n) }
+        ensures past { self.new.past ≡ self.old.past }
+        ensures setup { self.new.setup ≡ self.old.setup }
+    {
+        self.history.reserve(n as usize)
+    }
+
+    /// Adds an entry, and brings the parts up to date. After want of memory nothing has changed. Where there is a place for an entry more,
+    /// one of a call that needs no other memory is added.
     pub fn append(&mut self, entry: &Entry) -> Result<(), AllocError>
         requires room { is_full self.old.past ≡ false }
         requires answer { entry.now.answer ≡ reply self.old.setup self.old.past entry.now.who.0 entry.now.call }
-        ensures ok { OnOk result (self.new ≡ record { setup = self.old.setup; past = entry.now ∷ self.old.past }) }
-        ensures err { OnErr result (self.new ≡ self.old) }
+        ensures past { OnOk result (self.new.past ≡ entry.now ∷ self.old.past) }
+        ensures err { OnErr result (self.new.past ≡ self.old.past) }
+        ensures setup { self.new.setup ≡ self.old.setup }
+        ensures spare { self.old.spare ≤ self.new.spare + 1 }
+        ensures with_room { takes_one_place entry.now.call ≡ true → 1 ≤ self.old.spare → IsOk result }
     {
         if adds_post(entry) {
             return self.append_post(entry);
         }
         if reads_posts(entry) {
             return self.append_read(entry);
+        }
+        if is_quiet(entry) {
+            return self.append_quiet(entry);
         }
         self.append_any(entry)
     }
@@ -813,8 +836,10 @@ impl CoreState {
     fn append_any(&mut self, entry: &Entry) -> Result<(), AllocError>
         requires room { is_full self.old.past ≡ false }
         requires answer { entry.now.answer ≡ reply self.old.setup self.old.past entry.now.who.0 entry.now.call }
-        ensures ok { OnOk result (self.new ≡ record { setup = self.old.setup; past = entry.now ∷ self.old.past }) }
-        ensures err { OnErr result (self.new ≡ self.old) }
+        ensures past { OnOk result (self.new.past ≡ entry.now ∷ self.old.past) }
+        ensures err { OnErr result (self.new.past ≡ self.old.past) }
+        ensures setup { self.new.setup ≡ self.old.setup }
+        ensures spare { self.old.spare ≤ self.new.spare + 1 }
     {
         let entry = *entry;
         let stamp = Stamp {
@@ -880,6 +905,8 @@ impl CoreState {
 /// Takes the places of one entry and of one send's story. Whatever comes of it, nothing else changes.
 fn make_room(history: &mut Vec<Entry>, stories: &mut Vec<SendStory>) -> Result<(), AllocError>
     ensures entries { history.new.items ≡ history.old.items }
+    ensures len { vec_len history.new ≡ vec_len history.old }
+    ensures kept { vec_capacity history.old ≤ vec_capacity history.new }
     ensures stories { stories.new.items ≡ stories.old.items }
     ensures entry { OnOk result (vec_len history.new + 1 ≤ vec_capacity history.new) }
     ensures story { OnOk result (vec_len stories.new + 1 ≤ vec_capacity stories.new) }
@@ -892,7 +919,10 @@ fn make_room(history: &mut Vec<Entry>, stories: &mut Vec<SendStory>) -> Result<(
 #[inline(always)]
 fn make_place(history: &mut Vec<Entry>) -> Result<(), AllocError>
     ensures entries { history.new.items ≡ history.old.items }
+    ensures len { vec_len history.new ≡ vec_len history.old }
+    ensures kept { vec_capacity history.old ≤ vec_capacity history.new }
     ensures room { OnOk result (vec_len history.new + 1 ≤ vec_capacity history.new) }
+    ensures succeeds { vec_len history.old + 1 ≤ vec_capacity history.old → IsOk result }
 {
     if history.len() < history.capacity() {
         return Ok(());

@@ -1,7 +1,9 @@
-//! The calls on classes, windows, groups of attached threads, the mouse, keys and dialogs: what each answers, and its entry.
+//! The calls on classes, windows, groups of attached threads, the mouse, keys and dialogs, and the end of a thread: what each answers, and its
+//! entry.
 
-ghost use Rattle.std.specs.Prelude.{◌≡◌, ◌<◌, ◌≤◌, true, false, IfOk, OnOk, OnErr};
+ghost use Rattle.std.specs.Prelude.{◌≡◌, ◌<◌, ◌≤◌, ◌+◌, true, false, IfOk, IsOk, OnOk, OnErr};
 ghost use Rattle.core_deliver.specs.Groups.{is_window_call};
+ghost use Rattle.core_state.specs.OnePlace.{takes_one_place};
 ghost use Rattle.core_window.specs.Lookups.{IsLookup};
 ghost use Rattle.user_model.specs.Idle.{reply};
 ghost use Rattle.user_model.specs.Machines.{after};
@@ -26,7 +28,7 @@ use std::alloc::AllocError;
 use user_model::{Answer, Call};
 use win_num::Thread;
 
-/// The answer of a call on classes, windows, groups, input or dialogs to a running thread, where its stack allows it.
+/// The answer of a call on classes, windows, groups, input or dialogs, or of the end of a thread, to a running thread, where its stack allows it.
 fn window_row(state: &CoreState, thread: u8, call: &Call) -> Answer
     requires group { is_window_call call.now ≡ true }
     requires room { is_full state.now.past ≡ false }
@@ -63,6 +65,7 @@ fn window_row(state: &CoreState, thread: u8, call: &Call) -> Answer
         }
         Call::Show(w, on) => show_answer(state, w, on),
         Call::Enable(w, on) => enable_answer(state, w, on),
+        Call::EndThread => Answer::Ended,
         _ => lookup_row(state, thread, call),
     }
 }
@@ -102,7 +105,7 @@ fn lookup_row(state: &CoreState, thread: u8, call: &Call) -> Answer
     }
 }
 
-/// What a call on classes or windows answers.
+/// What a call on classes or windows, or the end of a thread, answers.
 pub fn window_answer(state: &CoreState, who: Thread, call: &Call) -> Answer
     requires { is_window_call call.now ≡ true }
     ensures { result ≡ reply state.now.setup state.now.past who.0 call.now }
@@ -113,15 +116,17 @@ pub fn window_answer(state: &CoreState, who: Thread, call: &Call) -> Answer
     }
 }
 
-/// Makes a call on classes or windows. The answer is the reply of the definitions, and stands with the call
+/// Makes a call on classes or windows, or ends a thread. The answer is the reply of the definitions, and stands with the call
 /// as the newest entry, unless the history is full: then it stays as it was. After want of memory nothing
-/// has changed, and the call may be made again (Microsoft, CreateWindowEx and SetWindowPos functions).
+/// has changed, and the call may be made again (Microsoft, CreateWindowEx, SetWindowPos and ExitThread functions).
 pub fn window(s: &mut CoreState, who: Thread, call: &Call) -> Result<Answer, AllocError>
     requires { is_window_call call.now ≡ true }
     ensures answer { IfOk result (λ answer. answer ≡ reply s.old.setup s.old.past who.0 call.now) }
     ensures entry { OnOk result (s.new.past ≡ after s.old.setup s.old.past who call.now) }
     ensures err { OnErr result (s.new.past ≡ s.old.past) }
     ensures setup { s.new.setup ≡ s.old.setup }
+    ensures spare { s.old.spare ≤ s.new.spare + 1 }
+    ensures with_room { takes_one_place call.now ≡ true → 1 ≤ s.old.spare → IsOk result }
 {
     let answer = window_answer(s, who, call);
     enter(s, who, call, answer)

@@ -1,6 +1,6 @@
 //! Calls of a text at a machine. The text has calls, one a line, each with the actor that makes it; each is written again
 //! with the machine's answer, in the words of a log. A line `machine N` begins a new machine with N threads, and `barred T`
-//! asks whether an actor has no call to make now, `frame K` for the colours of a frame. A line `from A to B: T CALL .. = ANSWER; ..` makes its calls for each number of a
+//! asks whether an actor has no call to make now, `frame K` for the colours of a frame, `reserve N` takes the places of N entries more. A line `from A to B: T CALL .. = ANSWER; ..` makes its calls for each number of a
 //! range, and each must have that answer. Names and procedures are their numbers. Empty lines and comments are written as they are.
 
 ghost use Rattle.std.specs.Prelude.{◌≡◌, ◌≤◌, ◌&&◌, nat_le};
@@ -48,6 +48,10 @@ fn run_line(rt: &impl Print, alloc: Global, machine: &mut User, line: &str) -> a
         )?,
         Some(Line::Sends) => println!(rt; "{line} = {:?}", machine.send_count())?,
         Some(Line::Frame(number)) => println!(rt; "{line} = {:?}", machine.frame(number))?,
+        Some(Line::Reserve(places)) => {
+            machine.reserve(places)?;
+            println!(rt; "{line} = ok")?;
+        }
         Some(Line::Call(actor, call)) => {
             let answer = machine.step(actor, call)?;
             println!(rt; "{line} = {}", Told(answer))?;

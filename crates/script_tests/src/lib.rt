@@ -3,3 +3,5 @@
 
 #[cfg(test)]
 mod programs;
+#[cfg(test)]
+mod turns;

@@ -103,7 +103,8 @@ fn run_input<S: Source, K: Sink>(
 /// The machine for a script.
 pub fn machine(alloc: Global, script: &Script) -> Result<User, AllocError>
     requires { IsScript script.now }
-    ensures { IfOk result (λ user. user ≡ record { setup = setup_of script.now; past = [] }) }
+    ensures setup { IfOk result (λ user. user.setup ≡ setup_of script.now) }
+    ensures past { IfOk result (λ user. user.past ≡ []) }
 {
     let setup = Setup::new(script.thread_count(), script.width(), script.height());
     User::new(alloc, setup)

@@ -21,8 +21,7 @@ use core_window::window_answer;
 use user_model::{Answer, Call};
 use win_num::{Code, Thread};
 
-/// The answer of a call of time or timers, or of the end of a thread, to a running thread, where its stack allows the
-/// call.
+/// The answer of a call of time or timers to a running thread, where its stack allows the call.
 fn row_answer(state: &CoreState, thread: u8, call: &Call) -> Answer
     requires room { is_full state.now.past ≡ false }
     requires no_retrieval { is_retrieval call.now ≡ false }
@@ -36,7 +35,6 @@ fn row_answer(state: &CoreState, thread: u8, call: &Call) -> Answer
         Call::SetTimer(w, id, _) => set_timer_answer(state, thread, w, id),
         Call::KillTimer(w, id) => kill_timer_answer(state, thread, w, id),
         Call::Yield => Answer::Okay,
-        Call::EndThread => Answer::Ended,
         Call::Clock => Answer::Value(state.time()),
         Call::SleepUntil(time) => sleep_until_answer(state, time),
         Call::Tick(_) | Call::Advance => Answer::Refused(Code::NotNow),
@@ -44,7 +42,7 @@ fn row_answer(state: &CoreState, thread: u8, call: &Call) -> Answer
     }
 }
 
-/// The answer of a call of time or timers, or of the end of a thread, to an actor other than the clock.
+/// The answer of a call of time or timers to an actor other than the clock.
 fn own_answer(state: &CoreState, who: Thread, call: &Call) -> Answer
     requires no_retrieval { is_retrieval call.now ≡ false }
     requires no_status { is_status call.now ≡ false }
@@ -165,7 +163,7 @@ fn clock_answer(state: &CoreState, call: &Call) -> Answer
     }
 }
 
-/// What a call of time or timers, or the end of a thread, answers.
+/// What a call of time or timers answers.
 #[tactic(auto, unfolding(user_model::specs::Idle::reply))]
 pub fn answer(state: &CoreState, who: Thread, call: &Call) -> Answer
     requires no_retrieval { is_retrieval call.now ≡ false }

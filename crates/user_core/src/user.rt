@@ -1,8 +1,9 @@
 //! The machine.
 
-ghost use Rattle.std.specs.Prelude.{◌≡◌, [], IfOk, OnErr, OnOk, false, reverse, true};
+ghost use Rattle.std.specs.Prelude.{◌≡◌, ◌≤◌, ◌<◌, ◌+◌, [], IfOk, IsOk, OnErr, OnOk, false, reverse, true};
 ghost use Rattle.core_deliver.specs.Groups.{group_of, is_delivery, is_retrieval, is_status};
 ghost use Rattle.core_deliver.specs.declared.groups.Group.TheVariants.{Other};
+ghost use Rattle.core_state.specs.OnePlace.{takes_one_place};
 ghost use Rattle.user_model.specs.Stories.{send_story};
 ghost use Rattle.user_model.specs.Idle.{have_all_ended, reply};
 ghost use Rattle.user_model.specs.Legal.{IsLegal};
@@ -41,7 +42,8 @@ impl User {
     /// A machine without entries.
     pub fn new(alloc: Global, setup: Setup) -> Result<User, AllocError>
         requires { IsSetup setup }
-        ensures { IfOk result (λ user. user ≡ record { setup = setup; past = [] }) }
+        ensures setup { IfOk result (λ user. user.setup ≡ setup) }
+        ensures past { IfOk result (λ user. user.past ≡ []) }
     {
         let state = CoreState::new(alloc, setup)?;
         Ok(User { state })
@@ -53,6 +55,18 @@ impl User {
         ensures legal { IsLegal self.now.setup result.now }
     {
         self.state.history()
+    }
+
+    /// Takes the places of this many steps more. Want of memory comes only where there were fewer, and leaves at least those that there
+    /// were. No entry comes or goes (Rust, Vec::reserve). While there is one, a step answers Ok whose call takes no other memory.
+    pub fn reserve(&mut self, n: u32) -> Result<(), AllocError>
+        ensures room { OnOk result (n ≤ self.new.spare) }
+        ensures kept { self.old.spare ≤ self.new.spare }
+        ensures lacking { OnErr result (self.old.spare < n) }
+        ensures past { self.new.past ≡ self.old.past }
+        ensures setup { self.new.setup ≡ self.old.setup }
+    {
+        self.state.reserve(n)
     }
 
     /// What became of the send of a number: nothing, where there is none.
@@ -75,8 +89,16 @@ impl Machine for User {
 
     ghost past = { λ u. u.past };
 
+    /// As the trait says. It uses up one place of an entry at most, and where there is one, a call that takes no other memory is answered.
     #[inline(always)]
-    fn step(&mut self, who: Thread, call: Call) -> Result<Answer, AllocError> {
+    fn step(&mut self, who: Thread, call: Call) -> Result<Answer, AllocError>
+        ensures answer { IfOk result (λ answer. answer ≡ reply self.old.setup self.old.past who.0 call) }
+        ensures entry { OnOk result (self.new.past ≡ after self.old.setup self.old.past who call) }
+        ensures err { OnErr result (self.new.past ≡ self.old.past) }
+        ensures setup { self.new.setup ≡ self.old.setup }
+        ensures spare { self.old.spare ≤ self.new.spare + 1 }
+        ensures with_room { takes_one_place call ≡ true → 1 ≤ self.old.spare → IsOk result }
+    {
         let mut entry = Entry {
             who,
             call,
@@ -113,6 +135,8 @@ fn make(s: &mut CoreState, entry: &mut Entry) -> Result<(), AllocError>
     ensures entry { OnOk result (s.new.past ≡ after s.old.setup s.old.past entry.old.who entry.old.call) }
     ensures err { OnErr result (s.new.past ≡ s.old.past) }
     ensures setup { s.new.setup ≡ s.old.setup }
+    ensures spare { s.old.spare ≤ s.new.spare + 1 }
+    ensures with_room { takes_one_place entry.old.call ≡ true → 1 ≤ s.old.spare → IsOk result }
 {
     match group_of(&entry.call) {
         Group::Retrieval => retrieve_uncounted::<Brand>(Blank::new(1), s, entry),
@@ -130,6 +154,8 @@ fn make_any(s: &mut CoreState, entry: &mut Entry) -> Result<(), AllocError>
     ensures entry { OnOk result (s.new.past ≡ after s.old.setup s.old.past entry.old.who entry.old.call) }
     ensures err { OnErr result (s.new.past ≡ s.old.past) }
     ensures setup { s.new.setup ≡ s.old.setup }
+    ensures spare { s.old.spare ≤ s.new.spare + 1 }
+    ensures with_room { takes_one_place entry.old.call ≡ true → 1 ≤ s.old.spare → IsOk result }
 {
     let answer = answered(s, entry.who, &entry.call)?;
     entry.answer = answer;
@@ -144,6 +170,8 @@ fn answered(s: &mut CoreState, who: Thread, call: &Call) -> Result<Answer, Alloc
     ensures entry { OnOk result (s.new.past ≡ after s.old.setup s.old.past who call.now) }
     ensures err { OnErr result (s.new.past ≡ s.old.past) }
     ensures setup { s.new.setup ≡ s.old.setup }
+    ensures spare { s.old.spare ≤ s.new.spare + 1 }
+    ensures with_room { takes_one_place call.now ≡ true → 1 ≤ s.old.spare → IsOk result }
 {
     match group_of(call) {
         Group::Status => status_uncounted::<Brand>(Blank::new(1), s, who, call),
@@ -169,6 +197,8 @@ fn retrieve_uncounted<L: Ledger>(
     ensures entry { OnOk result (s.new.past ≡ after s.old.setup s.old.past entry.old.who entry.old.call) }
     ensures err { OnErr result (s.new.past ≡ s.old.past) }
     ensures setup { s.new.setup ≡ s.old.setup }
+    ensures spare { s.old.spare ≤ s.new.spare + 1 }
+    ensures with_room { takes_one_place entry.old.call ≡ true → 1 ≤ s.old.spare → IsOk result }
 {
     let mut steps = Steps::<L>::new(blank);
     retrieve_in(s, entry, &mut steps)
@@ -189,6 +219,8 @@ fn status_uncounted<L: Ledger>(
     ensures entry { OnOk result (s.new.past ≡ after s.old.setup s.old.past who call.now) }
     ensures err { OnErr result (s.new.past ≡ s.old.past) }
     ensures setup { s.new.setup ≡ s.old.setup }
+    ensures spare { s.old.spare ≤ s.new.spare + 1 }
+    ensures with_room { takes_one_place call.now ≡ true → 1 ≤ s.old.spare → IsOk result }
 {
     let Call::Status(flags) = *call else {
         unreachable!()
@@ -197,13 +229,15 @@ fn status_uncounted<L: Ledger>(
     status(s, who, flags, &mut steps)
 }
 
-/// Makes a call of time or timers, or ends a thread.
+/// Makes a call of time or timers.
 fn make_other(s: &mut CoreState, who: Thread, call: &Call) -> Result<Answer, AllocError>
     requires { group_of call.now ≡ Other }
     ensures answer { IfOk result (λ answer. answer ≡ reply s.old.setup s.old.past who.0 call.now) }
     ensures entry { OnOk result (s.new.past ≡ after s.old.setup s.old.past who call.now) }
     ensures err { OnErr result (s.new.past ≡ s.old.past) }
     ensures setup { s.new.setup ≡ s.old.setup }
+    ensures spare { s.old.spare ≤ s.new.spare + 1 }
+    ensures with_room { takes_one_place call.now ≡ true → 1 ≤ s.old.spare → IsOk result }
 {
     let answer = answer(s, who, call);
     enter(s, who, call, answer)

@@ -1,21 +1,19 @@
 -- The clock's move between two phases.
-use Rattle.std.proofs.Common.{◌≡◌, ◌≢◌, ℕ, suc, ◌+◌, ◌<◌, ◌≤◌, Bool, true, false, not, cond, eqb, List, [], ◌∷◌, length, get_or, Option, Some, None, refl, ap, ◌∙◌, sym, subst, arith}
-use Rattle.std.specs.Prelude.{◌&&◌, ◌||◌, is_none, map}
+use Rattle.std.proofs.Common.{◌≡◌, ◌≢◌, ℕ, ◌<◌, ◌≤◌, Bool, true, false, not, cond, eqb, List, ◌∷◌, length, get_or, Option, Some, None, refl, ap, ◌∙◌, sym, subst, arith}
+use Rattle.std.specs.Prelude.{◌&&◌, ◌||◌, is_none}
 use Rattle.std.proofs.lemmas.Bool.{false≢true}
 use Rattle.std.proofs.lemmas.Bool.Decides.{nat_tests}
 use Rattle.std.proofs.lemmas.List.{length-map}
 use Rattle.win_num.specs.declared.message.Thread.{Thread}
 use Rattle.user_model.specs.declared.call.Call.TheVariants.{Advance}
-use Rattle.user_model.specs.declared.entry.Answer.{Answer}
 use Rattle.user_model.specs.declared.entry.Entry.{Entry}
 use Rattle.user_model.specs.declared.entry.Setup.{Setup}
 use Rattle.user_model.specs.Past.{Past, is_full}
 use Rattle.user_model.specs.Places.{has_ended, is_end}
 use Rattle.user_model.specs.Threads.{lowest}
 use Rattle.user_model.specs.Idle.{is_barred, is_quiet, have_all_ended, ends_stuck}
-use Rattle.user_model.specs.Machines.{after, entry_by}
+use Rattle.user_model.specs.Machines.{entry_by}
 use Rattle.script_tree.specs.Tree.{Tree}
-use Rattle.script_tree.specs.Traces.{trace_of}
 use Rattle.script_tree.proofs.PastLaws.{trace_of-other}
 use Rattle.script_proc.specs.declared.program.Program.{Program}
 use Rattle.script_proc.specs.declared.worker.Worker.{Worker}
@@ -23,7 +21,7 @@ use Rattle.script_proc.specs.Workers.{IsWorkerOf, thread_of}
 use Rattle.log_text.specs.declared.end.End.TheVariants as ends
 use Rattle.log_text.specs.Ends.{setup_of, is_spent, end_of}
 use Rattle.user_pool.specs.Runs.{IsRun}
-use Rattle.user_pool.specs.Teams.{threads_of, AreWorkers, AreTeams}
+use Rattle.user_pool.specs.Teams.{threads_of, AreTeams}
 use Rattle.user_pool.proofs.Ended.{has_ended-next}
 use Rattle.user_pool.proofs.Turns.{lowest_all, lowest_nobody}
 use Rattle.user_pool.proofs.Handing.{get_map, threads_within}

@@ -1,5 +1,5 @@
 -- How a run by groups has ended.
-use Rattle.std.proofs.Common.{◌≡◌, ◌≢◌, ◌⊎◌, ℕ, zero, suc, ◌<◌, ◌≤◌, Bool, true, false, not, cond, eqb, List, length, get_or, Option, Some, None, refl, ap, ◌∙◌, sym, subst, inl, inr, arith}
+use Rattle.std.proofs.Common.{◌≡◌, ◌⊎◌, ℕ, zero, suc, ◌<◌, ◌≤◌, Bool, true, false, not, cond, eqb, List, length, get_or, Option, Some, None, refl, ap, ◌∙◌, sym, subst, inl, inr, arith}
 use Rattle.std.specs.Prelude.{◌&&◌, ◌||◌, is_none}
 use Rattle.std.proofs.lemmas.Bool.{false≢true}
 use Rattle.std.proofs.lemmas.Bool.Decides.{nat_tests}
@@ -15,10 +15,9 @@ use Rattle.log_text.specs.declared.end.End.TheVariants as ends
 use Rattle.log_text.specs.Ends.{setup_of, used, could_go_on, end_of}
 use Rattle.user_pool.specs.Runs.{IsRun}
 use Rattle.std.proofs.lemmas.List.{length-map}
-use Rattle.std.specs.Prelude.{map}
 use Rattle.user_pool.specs.Teams.{threads_of, HaveThreads, IsStopped, AreStopped, AreIdle, IsOneBusy}
 use Rattle.user_pool.proofs.Turns.{barred_is_idle, idle_parts, lowest_all, lowest_nobody, used_within}
-use Rattle.user_pool.proofs.Handing.{some_of, IsThere, is_there, get_map, threads_within}
+use Rattle.user_pool.proofs.Handing.{some_of, is_there, get_map, threads_within}
 
 stopped_so : (idle : Bool) (u b : ℕ) → u ≤ b → (idle ≡ true) ⊎ (b ≤ u) → (not idle && not (eqb u b)) ≡ false
 stopped_so true u b le h = refl

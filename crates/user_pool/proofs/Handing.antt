@@ -1,10 +1,10 @@
 -- Seats that are handed out and taken back.
-use Rattle.std.proofs.Common.{◌≡◌, ◌≢◌, ◌⊎◌, ℕ, zero, suc, ◌+◌, ◌<◌, ◌≤◌, ◌%◌, Bool, true, false, cond, eqb, List, [], ◌∷◌, ◌++◌, length, get_or, set, length-append, length-set, refl, ap, ◌∙◌, sym, subst, inl, inr, arith, eq-eqb}
-use Rattle.std.specs.Prelude.{map, All, Contains}
+use Rattle.std.proofs.Common.{◌≡◌, ◌≢◌, ℕ, zero, suc, ◌+◌, ◌<◌, ◌≤◌, ◌%◌, cond, List, [], ◌∷◌, ◌++◌, length, get_or, set, length-append, length-set, refl, ap, ◌∙◌, sym, subst, inl, inr, arith, eq-eqb}
+use Rattle.std.specs.Prelude.{map, Contains}
 use Rattle.std.proofs.lemmas.Bool.{ne_eqb}
-use Rattle.std.proofs.lemmas.Bool.Decides.{nat_tests, eqb_tells}
+use Rattle.std.proofs.lemmas.Bool.Decides.{eqb_tells}
 use Rattle.std.proofs.lemmas.Nat.{mod_below}
-use Rattle.std.proofs.lemmas.List.{get_or-set_same, get_or-set_other, map-append, length-map, get_or_append_left, get_or-append-add}
+use Rattle.std.proofs.lemmas.List.{get_or-set_same, get_or-set_other, length-map, get_or_append_left}
 use Rattle.std.proofs.Math.Seq.{get_or-append_seam}
 use Rattle.std.proofs.lemmas.List.Elements.{Contains-append_left, Contains-append_right}
 use Rattle.win_num.specs.declared.message.Thread.{Thread}
@@ -12,8 +12,7 @@ use Rattle.user_model.specs.declared.call.Call.{Call}
 use Rattle.user_model.specs.declared.entry.Answer.{Answer}
 use Rattle.script_proc.specs.declared.worker.Worker.{Worker}
 use Rattle.script_proc.specs.Workers.{thread_of}
-use Rattle.turn_lock.specs.Seats.{Lock, Sitting, new_seat, new_seats, seat_number}
-use Rattle.user_desk.specs.Desks.{IsDeskSeat}
+use Rattle.turn_lock.specs.Seats.{Lock, Sitting, new_seat, new_seats}
 use Rattle.user_pool.specs.Teams.{threads_of, IsSeated, AreSeated, HaveThreads}
 
 -- ---- lists

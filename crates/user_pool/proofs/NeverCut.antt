@@ -10,7 +10,7 @@ use Rattle.user_model.specs.Idle.{is_idle, is_barred, is_quiet, have_all_ended, 
 use Rattle.script_tree.specs.Tree.{Tree}
 use Rattle.log_text.specs.declared.end.End.TheVariants as ends
 use Rattle.log_text.specs.Ends.{setup_of, used, could_go_on, end_of}
-use Rattle.user_pool.specs.Runs.{is_runnable, last_thread, first_above, in_turn, listed, clock_move, IsRun, IsListed}
+use Rattle.user_pool.specs.Runs.{is_runnable, last_thread, first_above, in_turn, listed, clock_move, choice, IsRun}
 use Rattle.user_pool.proofs.Turns.{lowest_all, lowest_nobody, and_right, is_thread_of, used_within}
 
 or_none : (a b : Option ℕ) → or_else a b ≡ None → (a ≡ None) × (b ≡ None)
@@ -64,22 +64,22 @@ record Over (s : Tree) (past : Past) : Type 0 where
   none : is_none (lowest (could_go_on s past) (length s.threads)) ≡ true
   barred : (not (is_quiet (setup_of s) past) || have_all_ended (setup_of s) past || ends_stuck past) ≡ true
 
-over_is : (s : Tree) (past : Past) → IsListed s past → Over s past
-over_is s past over =
-    let first = or_none (listed s past) (or_else (in_turn s past) (clock_move s past)) over.over in
+over_is : (s : Tree) (past : Past) → IsRun s past → choice s past ≡ None → Over s past
+over_is s past run over =
+    let first = or_none (listed s past) (or_else (in_turn s past) (clock_move s past)) over in
     let second = or_none (in_turn s past) (clock_move s past) first.1 in
     record {
-      none = ap is_none (lowest_nobody (could_go_on s past) (length s.threads) (λ t p w. cannot_go_on s past t over.run p w (none_runs s past t second.0 p w)));
+      none = ap is_none (lowest_nobody (could_go_on s past) (length s.threads) (λ t p w. cannot_go_on s past t run p w (none_runs s past t second.0 p w)));
       barred = bars (setup_of s) past (clock_barred (is_barred (setup_of s) past 0) second.1);
     }
 
-pub never_cut : (s : Tree) (past : Past) → IsListed s past → end_of s past ≢ ends.Cut
-never_cut s past over =
-    let so = over_is s past over in
+pub never_cut : (s : Tree) (past : Past) → IsRun s past → choice s past ≡ None → end_of s past ≢ ends.Cut
+never_cut s past run over =
+    let so = over_is s past run over in
     ends_well (is_quiet (setup_of s) past) (have_all_ended (setup_of s) past) (ends_stuck past) (is_none (lowest (could_go_on s past) (length s.threads))) so.none so.barred
 
 -- a run that is over, where some thread hasn't ended and all isn't stuck, is spent
-pub spent_is : (s : Tree) (past : Past) → IsListed s past → have_all_ended (setup_of s) past ≡ false → ends_stuck past ≡ false → end_of s past ≡ ends.Spent
-spent_is s past over ended stuck =
-    let so = over_is s past over in
+pub spent_is : (s : Tree) (past : Past) → IsRun s past → choice s past ≡ None → have_all_ended (setup_of s) past ≡ false → ends_stuck past ≡ false → end_of s past ≡ ends.Spent
+spent_is s past run over ended stuck =
+    let so = over_is s past run over in
     only_spent (is_quiet (setup_of s) past) (have_all_ended (setup_of s) past) (ends_stuck past) (is_none (lowest (could_go_on s past) (length s.threads))) so.none so.barred ended stuck

@@ -56,7 +56,7 @@ not_barred (Some t) ended stuck e = absurd (false≢true (sym e))
 not_barred None true stuck e = absurd (false≢true (sym e))
 not_barred None false stuck e = (refl, e)
 
-quiet : (setup : Setup) (past : Past) → is_barred setup past 0 ≡ false → (first_busy setup past ≡ None) × (ends_stuck past ≡ false)
+pub quiet : (setup : Setup) (past : Past) → is_barred setup past 0 ≡ false → (first_busy setup past ≡ None) × (ends_stuck past ≡ false)
 unfolding is_barred
 quiet setup past free = not_barred (first_busy setup past) (have_all_ended setup past) (ends_stuck past) free
 

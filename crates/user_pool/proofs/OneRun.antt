@@ -23,7 +23,7 @@ next_same s past zero c d a b = a ∙ sym b
 next_same s past (suc n) c d a b = let same : Cut c ≡ Cut d = one_end s a b in cc
 
 -- two moves of one actor after the same past are the same
-move_same : (s : Tree) (h : List Entry) (e f : Entry) → e.who.0 ≡ f.who.0 → IsMove s h e → IsMove s h f → e ≡ f
+pub move_same : (s : Tree) (h : List Entry) (e f : Entry) → e.who.0 ≡ f.who.0 → IsMove s h e → IsMove s h f → e ≡ f
 move_same s h e f who a b =
     let call : e.call ≡ f.call = next_same s h e.who.0 e.call f.call a.call (subst (λ w. ComesNext s h w f.call) (sym who) b.call) in
     let answer : e.answer ≡ f.answer = a.answer ∙ ap (λ (w : ℕ). reply (setup_of s) h w e.call) who ∙ ap (reply (setup_of s) h f.who.0) call ∙ sym b.answer in

@@ -1,8 +1,8 @@
 -- What a phase leaves is a run, and its workers stand for it.
-use Rattle.std.proofs.Common.{◌≡◌, ◌⊎◌, ℕ, zero, suc, ◌+◌, ◌<◌, ◌≤◌, ◌%◌, Bool, true, false, cond, eqb, List, [], ◌∷◌, ◌++◌, length, get_or, reverse, length-append, refl, ap, ◌∙◌, sym, subst, inl, inr, arith, eq-eqb}
+use Rattle.std.proofs.Common.{◌≡◌, ℕ, zero, suc, ◌+◌, ◌<◌, ◌≤◌, Bool, true, false, cond, eqb, List, [], ◌∷◌, ◌++◌, length, get_or, length-append, refl, ap, ◌∙◌, sym, subst, inl, inr, arith}
 use Rattle.std.specs.Prelude.{map, All, Contains}
-use Rattle.std.proofs.lemmas.Bool.{false≢true, ne_eqb}
-use Rattle.std.proofs.lemmas.Bool.Decides.{nat_tests, eqb_tells}
+use Rattle.std.proofs.lemmas.Bool.{false≢true}
+use Rattle.std.proofs.lemmas.Bool.Decides.{eqb_tells}
 use Rattle.std.proofs.lemmas.List.{reverse-reverse, length-reverse, length-map, map-append, get_or_append_left, get_or-append-add}
 use Rattle.std.proofs.Math.Seq.{get_or-append_seam}
 use Rattle.std.proofs.lemmas.List.Elements.{All-append, Contains-append_left, Contains-append_right}
@@ -11,7 +11,7 @@ use Rattle.user_model.specs.declared.call.Call.{Call}
 use Rattle.user_model.specs.declared.entry.Answer.{Answer}
 use Rattle.user_model.specs.declared.entry.Entry.{Entry}
 use Rattle.user_model.specs.declared.entry.Setup.{Setup}
-use Rattle.user_model.specs.Past.{Past, is_full}
+use Rattle.user_model.specs.Past.{Past}
 use Rattle.user_model.specs.Places.{mine as entries_of}
 use Rattle.user_model.specs.Idle.{is_barred, is_stuck, ends_stuck}
 use Rattle.user_model.specs.Legal.{IsLawful}
@@ -25,8 +25,8 @@ use Rattle.log_text.specs.Ends.{setup_of}
 use Rattle.turn_lock.specs.Seats.{Lock, Sitting, new_seat, seat_number, HasAllSeats}
 use Rattle.user_desk.specs.Desks.{IsDeskSeat, HasClosed, seen_by, made_by}
 use Rattle.user_pool.specs.Runs.{IsRun}
-use Rattle.user_pool.specs.Interleavings.{IsPart, IsFree, IsInterleaving}
-use Rattle.user_pool.specs.Teams.{threads_of, IsOwnPart, HasWorked, IsAtWork, AreWorkers, AreTeams, HaveThreads, AreSeated, AllSeated, AllAtWork, seats_of}
+use Rattle.user_pool.specs.Interleavings.{IsPart, IsFree}
+use Rattle.user_pool.specs.Teams.{IsOwnPart, HasWorked, AreWorkers, HaveThreads, AllSeated, AllAtWork, seats_of}
 use Rattle.user_pool.proofs.Interleavings.{run_interleaves, interleaving_runs}
 use Rattle.user_pool.proofs.NeverFull.{has_room}
 use Rattle.user_pool.proofs.AtWork.{none_newer, absent, same_behind, trace_same, part_same, place_in, full_stays}

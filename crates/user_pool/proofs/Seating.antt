@@ -1,5 +1,5 @@
 -- Seats at a past with one entry more.
-use Rattle.std.proofs.Common.{◌≡◌, ◌≢◌, ℕ, zero, suc, ◌+◌, ◌-◌, ◌<◌, ◌≤◌, Bool, true, false, not, cond, eqb, List, [], ◌∷◌, ◌++◌, length, get_or, set, Some, None, Result, Ok, OnOk, refl, ap, ◌∙◌, sym, subst, inl, inr, arith, length-set}
+use Rattle.std.proofs.Common.{◌≡◌, ◌≢◌, ℕ, zero, suc, ◌+◌, ◌-◌, ◌<◌, ◌≤◌, Bool, true, false, not, cond, eqb, List, [], ◌∷◌, ◌++◌, length, get_or, set, Option, Some, None, Result, Ok, OnOk, refl, ap, ◌∙◌, sym, subst, inl, inr, arith, length-set}
 use Rattle.std.specs.Prelude.{◌&&◌, is_none}
 use Rattle.std.proofs.lemmas.Bool.Decides.{nat_tests, eqb_tells}
 use Rattle.std.proofs.lemmas.List.{get_or-set_same, get_or-set_other}
@@ -11,7 +11,7 @@ use Rattle.user_model.specs.declared.entry.Setup.{Setup}
 use Rattle.user_model.specs.Past.{Past, is_full}
 use Rattle.user_model.specs.Places.{has_ended, is_end}
 use Rattle.user_model.specs.Threads.{lowest}
-use Rattle.user_model.specs.Idle.{reply, have_all_ended}
+use Rattle.user_model.specs.Idle.{reply, have_all_ended, is_barred}
 use Rattle.user_model.specs.Machines.{after, entry_by}
 use Rattle.user_model.proofs.Lowest.{lowest_found, lowest_here}
 use Rattle.script_tree.specs.Tree.{Tree}
@@ -21,11 +21,10 @@ use Rattle.script_proc.specs.declared.program.Program.{Program}
 use Rattle.script_proc.specs.Workers.{IsWorkerOf}
 use Rattle.log_text.specs.Ends.{setup_of}
 use Rattle.user_pool.specs.declared.seat.Seat.{Seat}
-use Rattle.user_pool.specs.Runs.{ComesNext, choice}
-use Rattle.user_pool.specs.Moves.{HasMoved}
+use Rattle.user_pool.specs.Runs.{ComesNext, HasEntriesLeft, choice}
+use Rattle.user_pool.specs.Moves.{HasGoneOn, HasMoved}
 use Rattle.user_pool.specs.Seats.{IsSeatOf, SeatsStand, SeatsCount}
 use Rattle.user_pool.proofs.Ended.{has_ended-next}
-use Rattle.user_pool.proofs.Turns.{chosen_free, chosen_left}
 
 -- what is known where there is a value
 pub on_ok : {X E : Type 0} (P : Type 0) (r : Result X E) (x : X) → r ≡ Ok x → OnOk r P → P
@@ -38,17 +37,26 @@ with_entry s past now t call setup same room is =
     let who : Thread = record { 0 = t } in
     is ∙ ap (λ (x : Setup). after x past who call) same ∙ ap (λ b. cond b past (entry_by (setup_of s) past who call ∷ past)) room
 
-pub has_moved : (s : Tree) (past now : Past) (t : ℕ) (call : Call) (setup : Setup) → setup ≡ setup_of s → choice s past ≡ Some t → ComesNext s past t call → is_full past ≡ false
-    → (let who : Thread = record { 0 = t } in now ≡ after setup past who call) → HasMoved s past now t
-has_moved s past now t call setup same chosen next room is =
+pub has_gone_on : (s : Tree) (past now : Past) (t : ℕ) (call : Call) (setup : Setup) → setup ≡ setup_of s → is_barred (setup_of s) past t ≡ false → HasEntriesLeft s past t → ComesNext s past t call → is_full past ≡ false
+    → (let who : Thread = record { 0 = t } in now ≡ after setup past who call) → HasGoneOn s past now t
+has_gone_on s past now t call setup same free left next room is =
     let who : Thread = record { 0 = t } in
     record {
       entry = entry_by (setup_of s) past who call;
-      move = record { free = chosen_free s past t chosen; remains = chosen_left s past t chosen; call = next; answer = refl; room = room };
-      chosen = chosen;
+      move = record { free = free; remains = left; call = next; answer = refl; room = room };
       newest = with_entry s past now t call setup same room is;
       who = refl;
     }
+
+-- one that was chosen
+pub has_moved : (s : Tree) (past now : Past) (t : ℕ) → choice s past ≡ Some t → HasGoneOn s past now t → HasMoved s past now t
+has_moved s past now t chosen went = record {
+  entry = went.entry;
+  move = went.move;
+  chosen = chosen ∙ ap (λ (n : ℕ). let o : Option ℕ = Some n in o) (sym went.who);
+  newest = went.newest;
+  who = went.who;
+}
 
 end_own : (ends own ended : Bool) → own ≡ true → cond (ends && own) true ended ≡ cond ends true ended
 end_own true own ended e = ap (λ b. cond b true ended) e
@@ -79,21 +87,21 @@ seat_other s p past e t seat miss other stands = record {
   ended = stands.ended ∙ sym (has_ended-next e past t ∙ end_other (is_end e.answer) (eqb e.who.0 t) (has_ended past t) miss);
 }
 
-pub seat_stays : (s : Tree) (p : Program) (past now : Past) (actor t : ℕ) (seat : Seat) → HasMoved s past now actor → actor ≢ t → IsSeatOf s p past t seat → IsSeatOf s p now t seat
+pub seat_stays : (s : Tree) (p : Program) (past now : Past) (actor t : ℕ) (seat : Seat) → HasGoneOn s past now actor → actor ≢ t → IsSeatOf s p past t seat → IsSeatOf s p now t seat
 seat_stays s p past now actor t seat moved other stands =
     let differs : moved.entry.who.0 ≢ t = λ e. other (sym moved.who ∙ e) in
     let miss : eqb moved.entry.who.0 t ≡ false = grind (arith, nat_tests, differs) in
     subst (λ h. IsSeatOf s p h t seat) (sym moved.newest) (seat_other s p past moved.entry t seat miss differs stands)
 
 -- all seats, after the clock's move
-pub seats_clock : (s : Tree) (p : Program) (past now : Past) (seats : List Seat) → HasMoved s past now 0 → SeatsStand s p past seats → SeatsStand s p now seats
+pub seats_clock : (s : Tree) (p : Program) (past now : Past) (seats : List Seat) → HasGoneOn s past now 0 → SeatsStand s p past seats → SeatsStand s p now seats
 seats_clock s p past now seats moved stands = record {
   count = stands.count;
   at = λ i d lt. seat_stays s p past now 0 (i + 1) (get_or seats i d) moved (λ e. absurd (omega (arith, e))) (stands.at i d lt);
 }
 
 -- and after a thread's
-pub seats_thread : (s : Tree) (p : Program) (past now : Past) (seats : List Seat) (actor : ℕ) (seat : Seat) → HasMoved s past now actor → 0 < actor → actor ≤ length s.threads → SeatsStand s p past seats → IsSeatOf s p now actor seat → SeatsStand s p now (set seats (actor - 1) seat)
+pub seats_thread : (s : Tree) (p : Program) (past now : Past) (seats : List Seat) (actor : ℕ) (seat : Seat) → HasGoneOn s past now actor → 0 < actor → actor ≤ length s.threads → SeatsStand s p past seats → IsSeatOf s p now actor seat → SeatsStand s p now (set seats (actor - 1) seat)
 seats_thread s p past now seats actor seat moved positive within stands here = record {
   count = length-set seats (actor - 1) seat ∙ stands.count;
   at = λ i d lt. elim (eqb_tells i (actor - 1)) [

@@ -1,5 +1,5 @@
 -- How a phase starts: each thread with a new seat.
-use Rattle.std.proofs.Common.{◌≡◌, ℕ, ◌+◌, ◌<◌, ◌≤◌, false, List, [], ◌∷◌, ◌++◌, length, get_or, refl, ap, ◌∙◌, sym, subst, inl, arith}
+use Rattle.std.proofs.Common.{◌≡◌, ℕ, ◌+◌, ◌<◌, ◌≤◌, List, [], ◌∷◌, ◌++◌, length, get_or, refl, ap, ◌∙◌, sym, subst, inl, arith}
 use Rattle.std.specs.Prelude.{map}
 use Rattle.std.proofs.lemmas.List.{length-map}
 use Rattle.win_num.specs.declared.message.Thread.{Thread}
@@ -7,13 +7,11 @@ use Rattle.user_model.specs.declared.call.Call.{Call}
 use Rattle.user_model.specs.declared.entry.Answer.{Answer}
 use Rattle.user_model.specs.declared.entry.Entry.{Entry}
 use Rattle.user_model.specs.Past.{Past}
-use Rattle.user_model.specs.Idle.{is_barred}
 use Rattle.script_tree.specs.Tree.{Tree}
 use Rattle.script_tree.specs.Traces.{trace_of}
 use Rattle.script_proc.specs.declared.program.Program.{Program}
 use Rattle.script_proc.specs.declared.worker.Worker.{Worker}
 use Rattle.script_proc.specs.Workers.{IsWorkerOf, thread_of}
-use Rattle.log_text.specs.Ends.{setup_of}
 use Rattle.turn_lock.specs.Seats.{Lock, Sitting, new_seat}
 use Rattle.user_desk.specs.Desks.{seen_by, made_by}
 use Rattle.user_pool.specs.Runs.{IsRun}

@@ -163,13 +163,19 @@ chosen_free s past zero chosen = clock_chosen (listed s past) (in_turn s past) (
     (never_zero s past (in_turn s past) (λ t e. turn_runs s past t e)) chosen
 chosen_free s past (suc n) chosen = barred_is_idle (setup_of s) past (suc n) (omega arith) ∙ (chosen_can_move s past (suc n) chosen (omega arith)).busy
 
-left_of : (s : Tree) (past : Past) (n : ℕ) → CanMove s past (suc n) → HasEntriesLeft s past (suc n)
-left_of s past n can = (omega (arith, thread_within s (suc n) can.known), can.remains)
+-- who can move isn't barred
+pub can_free : (s : Tree) (past : Past) (t : ℕ) → 0 < t → CanMove s past t → is_barred (setup_of s) past t ≡ false
+can_free s past t positive can = barred_is_idle (setup_of s) past t positive ∙ can.busy
+
+-- and has entries left
+pub can_left : (s : Tree) (past : Past) (t : ℕ) → 0 < t → CanMove s past t → HasEntriesLeft s past t
+can_left s past zero positive can = absurd (omega arith)
+can_left s past (suc n) positive can = (omega (arith, thread_within s (suc n) can.known), can.remains)
 
 -- and has entries left
 pub chosen_left : (s : Tree) (past : Past) (t : ℕ) → choice s past ≡ Some t → HasEntriesLeft s past t
 chosen_left s past zero chosen = tt
-chosen_left s past (suc n) chosen = left_of s past n (chosen_can_move s past (suc n) chosen (omega arith))
+chosen_left s past (suc n) chosen = can_left s past (suc n) (omega arith) (chosen_can_move s past (suc n) chosen (omega arith))
 
 -- ---- a thread that can move has not ended
 

@@ -14,6 +14,13 @@ pub record CanMove (s : Tree) (past : Past) (t : ℕ) : Type 0 where
   pub busy : is_idle (setup_of s) past t ≡ false
   pub remains : used past t < s.budget
 
+-- the actor made one move
+pub record HasGoneOn (s : Tree) (before now : Past) (actor : ℕ) : Type 0 where
+  pub entry : Entry
+  pub move : IsMove s before entry
+  pub newest : now ≡ entry ∷ before
+  pub who : entry.who.0 ≡ actor
+
 -- the actor, who was chosen, made one move
 pub record HasMoved (s : Tree) (before now : Past) (actor : ℕ) : Type 0 where
   pub entry : Entry

@@ -19,7 +19,7 @@ pub struct Choice {
 }
 
 /// Whether a number is a thread's that can move: it isn't idle, and has some of its budget left.
-fn runnable<M: Machine>(script: &Script, machine: &M, seats: &[Seat], number: u8) -> bool
+pub fn runnable<M: Machine>(script: &Script, machine: &M, seats: &[Seat], number: u8) -> bool
     requires setup { M.setup machine.now ≡ setup_of script.now }
     requires seats { SeatsCount script.now (M.past machine.now) seats.now }
     ensures { result ≡ is_runnable script.now (M.past machine.now) number }
@@ -53,7 +53,7 @@ fn first_between<M: Machine>(
 }
 
 /// The least thread above a number that can move.
-fn first_above<M: Machine>(script: &Script, machine: &M, seats: &[Seat], low: u8) -> Option<u8>
+pub fn first_above<M: Machine>(script: &Script, machine: &M, seats: &[Seat], low: u8) -> Option<u8>
     requires few { length script.now.threads ≤ 15 }
     requires setup { M.setup machine.now ≡ setup_of script.now }
     requires seats { SeatsCount script.now (M.past machine.now) seats.now }

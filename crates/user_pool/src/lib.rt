@@ -14,10 +14,12 @@ mod phase;
 mod run;
 mod seat;
 
+pub use choice::{first_above, runnable};
 pub use groups::run_groups;
 pub use laws::{
     listed_runs_are_runs, movers_decide_the_run, no_call_out_of_turn, one_run,
     runs_answer_their_sends, runs_are_interleavings, runs_are_lawful, runs_are_not_cut,
     runs_are_short,
 };
-pub use run::run_listed;
+pub use run::{end_of, move_clock, move_thread, run_listed};
+pub use seat::{Seat, new_seats};

@@ -1,12 +1,12 @@
 //! The run of a script by its order list, and then by round robin.
 
-ghost use Rattle.std.specs.Prelude.{◌≡◌, ◌≢◌, ◌<◌, ◌≤◌, [], length, drop, reverse, IfOk, OnOk, false};
+ghost use Rattle.std.specs.Prelude.{◌≡◌, ◌≢◌, ◌<◌, ◌≤◌, [], length, drop, reverse, IfOk, OnOk, false, None};
 ghost use Rattle.user_model.specs.Past.{is_full};
-ghost use Rattle.user_model.specs.Idle.{have_all_ended, ends_stuck};
+ghost use Rattle.user_model.specs.Idle.{have_all_ended, ends_stuck, is_barred};
 ghost use Rattle.user_model.specs.Legal.{IsLawful};
 ghost use Rattle.log_text.specs.Ends.{setup_of, end_of};
 ghost use Rattle.user_pool.specs.Runs.{choice, IsRun, IsListed};
-ghost use Rattle.user_pool.specs.Moves.{CanMove, HasMoved};
+ghost use Rattle.user_pool.specs.Moves.{CanMove, HasGoneOn, HasMoved};
 ghost use Rattle.user_pool.specs.Seats.{SeatsStand, SeatsCount};
 
 use crate::choice::choose;
@@ -18,33 +18,32 @@ use std::alloc::{AllocError, Global};
 use user_model::{Answer, Call, Entry, Machine};
 use win_num::Thread;
 
-/// Makes the next call of a thread.
-fn thread_turn<M: Machine>(
+/// Makes the next call of a thread that can move. `AllocError` comes only for want of memory.
+pub fn move_thread<M: Machine>(
     script: &Script,
     program: &Program,
     machine: &mut M,
     seats: &mut Vec<Seat>,
-    actor: u8,
+    thread: u8,
 ) -> Result<(), AllocError>
     requires small { script.now.budget ≤ 65536 }
     requires setup { M.setup machine.old ≡ setup_of script.now }
     requires seats { SeatsStand script.now program.now (M.past machine.old) seats.old.items }
-    requires chosen { choice script.now (M.past machine.old) ≡ Some actor }
-    requires thread { 0 < actor }
-    requires can { CanMove script.now (M.past machine.old) actor }
+    requires thread { 0 < thread }
+    requires can { CanMove script.now (M.past machine.old) thread }
     requires room { is_full (M.past machine.old) ≡ false }
     requires run { IsRun script.now (M.past machine.old) }
-    ensures moved { OnOk result (HasMoved script.now (M.past machine.old) (M.past machine.new) actor) }
+    ensures moved { OnOk result (HasGoneOn script.now (M.past machine.old) (M.past machine.new) thread) }
     ensures seats { OnOk result (SeatsStand script.now program.now (M.past machine.new) seats.new.items) }
     ensures setup { M.setup machine.new ≡ setup_of script.now }
 {
-    let seat = &mut seats[(actor - 1) as usize];
-    seat.turn(script, program, machine, actor)?;
+    let seat = &mut seats[(thread - 1) as usize];
+    seat.turn(script, program, machine, thread)?;
     Ok(())
 }
 
-/// Lets the clock go on.
-fn clock_turn<M: Machine>(
+/// Lets the clock go on, which isn't barred. `AllocError` comes only for want of memory.
+pub fn move_clock<M: Machine>(
     script: &Script,
     program: &Program,
     machine: &mut M,
@@ -52,9 +51,9 @@ fn clock_turn<M: Machine>(
 ) -> Result<(), AllocError>
     requires setup { M.setup machine.old ≡ setup_of script.now }
     requires seats { SeatsStand script.now program.now (M.past machine.old) seats.now }
-    requires chosen { choice script.now (M.past machine.old) ≡ Some 0 }
+    requires free { is_barred (setup_of script.now) (M.past machine.old) 0 ≡ false }
     requires room { is_full (M.past machine.old) ≡ false }
-    ensures moved { OnOk result (HasMoved script.now (M.past machine.old) (M.past machine.new) 0) }
+    ensures moved { OnOk result (HasGoneOn script.now (M.past machine.old) (M.past machine.new) 0) }
     ensures seats { OnOk result (SeatsStand script.now program.now (M.past machine.new) seats.now) }
     ensures setup { M.setup machine.new ≡ setup_of script.now }
 {
@@ -81,9 +80,9 @@ fn turn<M: Machine>(
     ensures setup { M.setup machine.new ≡ setup_of script.now }
 {
     if actor == 0 {
-        return clock_turn(script, program, machine, seats);
+        return move_clock(script, program, machine, seats);
     }
-    thread_turn(script, program, machine, seats, actor)
+    move_thread(script, program, machine, seats, actor)
 }
 
 /// Whether all threads have ended.
@@ -109,10 +108,11 @@ pub fn ends_stuck(history: &[Entry]) -> bool
     }
 }
 
-/// How the run that is over has ended.
-fn end_of<M: Machine>(script: &Script, machine: &M, seats: &[Seat]) -> End
+/// How a run that is over has ended: nobody can move, not even the clock.
+pub fn end_of<M: Machine>(script: &Script, machine: &M, seats: &[Seat]) -> End
     requires seats { SeatsCount script.now (M.past machine.now) seats.now }
-    requires listed { IsListed script.now (M.past machine.now) }
+    requires run { IsRun script.now (M.past machine.now) }
+    requires over { choice script.now (M.past machine.now) ≡ None }
     ensures { result ≡ end_of script.now (M.past machine.now) }
 {
     if have_all_ended(script, machine, seats) {

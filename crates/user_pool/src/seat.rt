@@ -4,8 +4,8 @@ ghost use Rattle.std.specs.Prelude.{◌≡◌, ◌<◌, ◌≤◌, ◌+◌, ◌^
 ghost use Rattle.user_model.specs.Past.{is_full};
 ghost use Rattle.user_model.specs.Places.{is_end};
 ghost use Rattle.log_text.specs.Ends.{setup_of};
-ghost use Rattle.user_pool.specs.Runs.{choice, IsRun};
-ghost use Rattle.user_pool.specs.Moves.{CanMove, HasMoved};
+ghost use Rattle.user_pool.specs.Runs.{IsRun};
+ghost use Rattle.user_pool.specs.Moves.{CanMove, HasGoneOn};
 ghost use Rattle.script_tree.specs.Tree.{Tree};
 ghost use Rattle.script_proc.specs.Programs.{IsProgramOf};
 ghost use Rattle.user_pool.specs.Seats.{IsSeatOf, SeatsStand};
@@ -35,7 +35,7 @@ impl Seat {
         })
     }
 
-    /// Makes the next call of the thread that was chosen.
+    /// Makes the next call of a thread that can move.
     pub fn turn<M: Machine>(
         &mut self,
         script: &Script,
@@ -46,12 +46,11 @@ impl Seat {
         requires small { script.now.budget ≤ 65536 }
         requires setup { M.setup machine.old ≡ setup_of script.now }
         requires seat { IsSeatOf script.now program.now (M.past machine.old) actor self.old }
-        requires chosen { choice script.now (M.past machine.old) ≡ Some actor }
         requires thread { 0 < actor }
         requires can { CanMove script.now (M.past machine.old) actor }
         requires room { is_full (M.past machine.old) ≡ false }
         requires run { IsRun script.now (M.past machine.old) }
-        ensures moved { OnOk result (HasMoved script.now (M.past machine.old) (M.past machine.new) actor) }
+        ensures moved { OnOk result (HasGoneOn script.now (M.past machine.old) (M.past machine.new) actor) }
         ensures seat { OnOk result (IsSeatOf script.now program.now (M.past machine.new) actor self.new) }
         ensures setup { M.setup machine.new ≡ setup_of script.now }
     {

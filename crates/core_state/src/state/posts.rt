@@ -1,7 +1,7 @@
 //! Entries that add a post, and entries that look for a message and find a post or none. They change posts, waits, looks, marks of
 //! ready lists and the count of posts, and nothing else.
 
-ghost use Rattle.std.specs.Prelude.{◌≡◌, ◌∷◌, true, false, OnOk, OnErr, List, None};
+ghost use Rattle.std.specs.Prelude.{◌≡◌, ◌≤◌, ◌+◌, ◌∷◌, true, false, OnOk, OnErr, List, None};
 ghost use Rattle.core_state.specs.Needs.{FitsPosting, FitsReading};
 ghost use Rattle.core_state.specs.Sendings.{FitsLook, is_looking, looked_by};
 ghost use Rattle.look_state.specs.Looks.{EachLook, look_after};
@@ -85,8 +85,10 @@ impl CoreState {
         requires room { is_full self.old.past ≡ false }
         requires answer { entry.now.answer ≡ reply self.old.setup self.old.past entry.now.who.0 entry.now.call }
         requires posts { adds_post entry.now.answer entry.now.call ≡ true }
-        ensures ok { OnOk result (self.new ≡ record { setup = self.old.setup; past = entry.now ∷ self.old.past }) }
-        ensures err { OnErr result (self.new ≡ self.old) }
+        ensures past { OnOk result (self.new.past ≡ entry.now ∷ self.old.past) }
+        ensures err { OnErr result (self.new.past ≡ self.old.past) }
+        ensures setup { self.new.setup ≡ self.old.setup }
+        ensures spare { self.old.spare ≤ self.new.spare + 1 }
     {
         let stamp = Stamp {
             place: self.history.len() as u32,
@@ -109,8 +111,10 @@ impl CoreState {
         requires room { is_full self.old.past ≡ false }
         requires answer { entry.now.answer ≡ reply self.old.setup self.old.past entry.now.who.0 entry.now.call }
         requires reads { reads_posts entry.now.answer entry.now.call ≡ true }
-        ensures ok { OnOk result (self.new ≡ record { setup = self.old.setup; past = entry.now ∷ self.old.past }) }
-        ensures err { OnErr result (self.new ≡ self.old) }
+        ensures past { OnOk result (self.new.past ≡ entry.now ∷ self.old.past) }
+        ensures err { OnErr result (self.new.past ≡ self.old.past) }
+        ensures setup { self.new.setup ≡ self.old.setup }
+        ensures spare { self.old.spare ≤ self.new.spare + 1 }
     {
         let place = self.history.len() as u32;
         let alloc = *self.history.allocator();

@@ -20,6 +20,8 @@ pub enum Line {
     Sends,
     /// The colours of the frame of a number.
     Frame(u32),
+    /// The places of so many entries more.
+    Reserve(u32),
     /// A call of an actor.
     Call(Thread, Call),
 }
@@ -40,6 +42,7 @@ impl Line {
         match first {
             "machine" => Some(Line::Machine(rest.parse().ok()?)),
             "frame" => Some(Line::Frame(rest.parse().ok()?)),
+            "reserve" => Some(Line::Reserve(rest.parse().ok()?)),
             "barred" => Some(Line::Barred(Thread(rest.parse().ok()?))),
             _ => Some(Line::Call(Thread(first.parse().ok()?), call_of(rest)?)),
         }

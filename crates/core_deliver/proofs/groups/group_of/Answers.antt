@@ -36,7 +36,6 @@ returns-in_default c = by c.args.call.now refl
     by calls.Snap is = absurd (c.in_default.not-Snap is)
     by (calls.SetTimer w id ms) is = absurd (c.in_default.not-SetTimer w id ms is)
     by (calls.KillTimer w id) is = absurd (c.in_default.not-KillTimer w id is)
-    by calls.EndThread is = absurd (c.in_default.not-EndThread is)
     by calls.Clock is = absurd (c.in_default.not-Clock is)
     by (calls.SleepUntil time) is = absurd (c.in_default.not-SleepUntil time is)
     by calls.Yield is = absurd (c.in_default.not-Yield is)

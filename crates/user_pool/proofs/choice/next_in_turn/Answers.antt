@@ -1,5 +1,4 @@
-use Rattle.std.proofs.Common.{◌≡◌, ◌≤◌, ◌<◌, ℕ, None, arith, ap, sym, ◌∙◌}
-use Rattle.std.proofs.lemmas.Bool.Decides.{nat_tests}
+use Rattle.std.proofs.Common.{◌≡◌, None, arith, ap, sym, ◌∙◌}
 use Rattle.user_pool.specs.Runs.{first_above, last_thread}
 use Rattle.user_pool.proofs.Choices.{turn_below}
 use Rattle.user_pool.proofs.choice.next_in_turn.Goals as goal

@@ -1,5 +1,4 @@
-use Rattle.std.proofs.Common.{get_or, sym, subst, arith}
-use Rattle.user_model.specs.Idle.{is_barred}
+use Rattle.std.proofs.Common.{get_or, subst, arith}
 use Rattle.log_text.specs.Ends.{setup_of}
 use Rattle.user_pool.specs.Teams.{AreIdle, IsOneBusy}
 use Rattle.user_pool.proofs.Handing.{one_before}

@@ -1,4 +1,4 @@
-use Rattle.std.proofs.Common.{◌≡◌, ◌+◌, ◌<◌, ◌%◌, suc, ◌∷◌, [], ◌++◌, length, length-set, add-one, sym, ap, ◌∙◌, subst, arith}
+use Rattle.std.proofs.Common.{◌≡◌, ◌+◌, ◌<◌, ◌%◌, ◌∷◌, [], ◌++◌, length, length-set, add-one, sym, ap, ◌∙◌, subst, arith}
 use Rattle.std.proofs.lemmas.Nat.{mod_below}
 use Rattle.script_proc.specs.Workers.{IsWorkerOf}
 use Rattle.user_pool.proofs.Filling.{each_set, worker_next, workers_added}

@@ -1,5 +1,5 @@
 use Rattle.std.proofs.lemmas.Grind.{common_steps}
-use Rattle.std.proofs.Common.{◌≡◌, drop, take, take_at, length, ◌++◌, sym, subst, arith, rules}
+use Rattle.std.proofs.Common.{◌≡◌, drop, take_at, length, sym, subst, arith, rules}
 use Rattle.std.specs.Prelude.{IsNone}
 use Rattle.user_pool.specs.Teams.{AreTeams, HaveNoSeats}
 use Rattle.user_pool.proofs.OneRun.{run_lawful}

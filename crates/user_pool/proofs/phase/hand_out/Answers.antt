@@ -1,5 +1,5 @@
 use Rattle.std.proofs.lemmas.Grind.{common_steps}
-use Rattle.std.proofs.Common.{◌≡◌, ◌+◌, ◌<◌, ◌%◌, suc, ◌∷◌, [], ◌++◌, length, get_or, length-set, add-one, refl, sym, ap, ◌∙◌, arith}
+use Rattle.std.proofs.Common.{◌≡◌, ◌+◌, ◌<◌, ◌%◌, suc, ◌∷◌, [], ◌++◌, length, get_or, length-set, add-one, refl, ap, ◌∙◌, arith}
 use Rattle.std.proofs.lemmas.Nat.{mod_below}
 use Rattle.turn_lock.specs.Seats.{new_seat, new_seats}
 use Rattle.user_pool.proofs.Handing.{new_seats_at}

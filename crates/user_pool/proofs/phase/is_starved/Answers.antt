@@ -1,4 +1,4 @@
-use Rattle.std.proofs.Common.{◌≡◌, false, ◌∙◌, sym, ap}
+use Rattle.std.proofs.Common.{◌≡◌, false}
 use Rattle.user_pool.proofs.Handing.{one_before}
 use Rattle.user_pool.proofs.phase.is_starved.Goals as goal
 

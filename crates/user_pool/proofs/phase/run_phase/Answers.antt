@@ -1,8 +1,7 @@
-use Rattle.std.proofs.Common.{◌≡◌, ◌+◌, ◌≤◌, ◌<◌, ℕ, false, List, length, get_or, sym, ap, ◌∙◌, subst, refl, arith}
+use Rattle.std.proofs.Common.{◌≡◌, ◌+◌, ◌≤◌, ◌<◌, false, length, sym, ap, ◌∙◌, subst, refl, arith}
 use Rattle.user_model.specs.Past.{Past}
 use Rattle.user_model.specs.Idle.{ends_stuck}
 use Rattle.user_model.specs.Legal.{IsLawful}
-use Rattle.log_text.specs.Ends.{setup_of}
 use Rattle.user_pool.specs.Runs.{IsRun}
 use Rattle.user_pool.specs.Teams.{AreTeams, HaveNewSeats}
 use Rattle.user_pool.proofs.NeverFull.{run_short}

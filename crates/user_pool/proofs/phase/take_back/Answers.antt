@@ -1,4 +1,4 @@
-use Rattle.std.proofs.Common.{◌≡◌, ◌+◌, ◌<◌, ◌≤◌, ◌++◌, length, get_or, refl, ap, arith}
+use Rattle.std.proofs.Common.{◌≡◌, ◌<◌, ◌++◌, length, get_or, refl, ap, arith}
 use Rattle.user_pool.proofs.Filling.{taken_next, emptied, left_behind, kept_set}
 use Rattle.user_pool.proofs.phase.take_back.Goals as goal
 

@@ -7,4 +7,4 @@ pub returns-clause-lawful : goal.returns-clause-lawful
 returns-clause-lawful g c = run_lawful c.args.script.now (g.M.Machine.past c.run_on.new.machine) c.in_ok-end.ensures.run.run
 
 pub returns-clause-over : goal.returns-clause-over
-returns-clause-over g c = λ cut. never_cut c.args.script.now (g.M.Machine.past c.run_on.new.machine) c.in_ok-end.ensures.run (sym c.in_ok-end.ensures.end ∙ cut)
+returns-clause-over g c = λ cut. never_cut c.args.script.now (g.M.Machine.past c.run_on.new.machine) c.in_ok-end.ensures.run.run c.in_ok-end.ensures.run.over (sym c.in_ok-end.ensures.end ∙ cut)

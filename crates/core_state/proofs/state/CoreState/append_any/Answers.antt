@@ -12,7 +12,7 @@ use Rattle.send_state.specs.Tallies.{first_cause, first_of}
 use Rattle.display_state.specs.Displays.{IsDisplayAt}
 use Rattle.pending_state.specs.Meanings.{IsMeantBy}
 use Rattle.pending_state.proofs.Needs.{fits_cursor}
-use Rattle.core_state.proofs.Appended.{growth_fits, injecting_fits, leaving_fits, moment_step, ranking_fits, sends_grow, sends_settle, sends_step, settling_fits, stands_step, tally_step}
+use Rattle.core_state.proofs.Appended.{growth_fits, injecting_fits, inputs_step, leaving_fits, moment_step, ranking_fits, sends_grow, sends_settle, sends_step, settling_fits, stands_step, tally_step}
 use Rattle.send_state.specs.Standing.{PartsStand}
 use Rattle.look_state.specs.Looks.{AreLooksAt, moment_at, seen_of}
 use Rattle.screen_state.specs.Screens.{Kept as Screen}
@@ -209,7 +209,8 @@ invariant_of-self-2 c =
     let marked = looks_stand s.setup past e c.len.result s.sends c.settle_sends-lost.new.sends c.note_look.new.sends right here c.self.invariant.marks kept_marks stay c.note_look.ensures in
     let after : c.moment-after.result ≡ moment_at (e ∷ past) = moment_step s.setup past kept e c.followed_by-self-inside.result c.moment-after.result c.self.invariant right c.followed_by-self-inside.ensures c.moment-after.ensures in
     let looked : AreLooksAt s.setup (e ∷ past) c.follow-2.new.self = looks_step s.setup past e s.tree s.order s.display.screen c.moment-after.result c.in_ok-seen.seen.items s.looks c.follow-2.new.self (c.self.invariant.lawful, right) c.self.invariant.tree c.self.invariant.order c.self.invariant.display.screen c.self.invariant.looks after (λ is. c.in_ok-seen.ensures is ∙ ap (seen_of s.tree.live e.who.0) (c.dirty.ensures.value ∙ ap (λ (k : Screen). k.dirty) c.screen.ensures)) c.follow-2.ensures in
-    let now = stands_step s.setup past kept c.shift_for.result c.meant_by-meant.result e c.add_change.new.classes c.take_effect.new.classes c.add_change.new.tree c.take_effect.new.tree c.add_change.new.order c.take_effect.new.order c.take_over.new.self c.add_change.new.threads.items c.take_effect.new.threads.items c.note_entry.new.threads.items c.mark_look.new.threads.items c.follow_timers.new.timers c.follow.new.self c.add_change.new.inputs c.follow_inputs.new.inputs c.followed_by-self-inside.result c.add_change.new.sends c.note_look.new.sends c.first_cause-first.result c.settle_sends-lost.result c.with-self-inside.result (with_begun e.answer c.make_room.new.stories.items) told.between c.settle_sends-lost.new.stories.items c.follow-2.new.self c.add_change.new.dialogs c.len.result room right c.self.invariant down meant grown.classes settled.classes grown.tree settled.tree grown.order settled.order seen grown.threads settled.threads c.note_entry.ensures c.mark_look.ensures timed grouped grown.inputs c.follow_inputs.ensures c.followed_by-self-inside.ensures grown.sends marked.0 marked.1 here first c.settle_sends-lost.ensures.lost c.with-self-inside.ensures begun told.before noted looked grown.dialogs in
+    let untaken = inputs_step s.setup past kept c.meant_by-meant.result e c.add_change.new.inputs c.follow_inputs.new.inputs c.self.invariant meant right grown.inputs c.follow_inputs.ensures in
+    let now = stands_step s.setup past kept c.shift_for.result e c.add_change.new.classes c.take_effect.new.classes c.add_change.new.tree c.take_effect.new.tree c.add_change.new.order c.take_effect.new.order c.take_over.new.self c.add_change.new.threads.items c.take_effect.new.threads.items c.note_entry.new.threads.items c.mark_look.new.threads.items c.follow_timers.new.timers c.follow.new.self c.follow_inputs.new.inputs c.followed_by-self-inside.result c.add_change.new.sends c.note_look.new.sends c.first_cause-first.result c.settle_sends-lost.result c.with-self-inside.result (with_begun e.answer c.make_room.new.stories.items) told.between c.settle_sends-lost.new.stories.items c.follow-2.new.self c.add_change.new.dialogs c.len.result room right c.self.invariant down grown.classes settled.classes grown.tree settled.tree grown.order settled.order seen grown.threads settled.threads c.note_entry.ensures c.mark_look.ensures timed grouped untaken c.followed_by-self-inside.ensures grown.sends marked.0 marked.1 here first c.settle_sends-lost.ensures.lost c.with-self-inside.ensures begun told.before noted looked grown.dialogs in
     subst (λ (h : Past). Stands s.setup h (parts c.take_effect.new.tree c.take_effect.new.order c.take_over.new.self c.take_effect.new.classes c.mark_look.new.threads.items c.follow_timers.new.timers c.follow.new.self c.follow_inputs.new.inputs c.followed_by-self-inside.result c.note_look.new.sends c.with-self-inside.result c.settle_sends-lost.new.stories.items c.follow-2.new.self c.add_change.new.dialogs)) newest (search (rules, now))
 
 pub with-self-inside-requires : goal.with-self-inside-requires

@@ -6,13 +6,14 @@ use Rattle.user_model.proofs.ClockLaws.{past_more}
 use Rattle.look_state.specs.Looks.{AreLooksAt, moment_at}
 use Rattle.look_state.proofs.LookSteps.{looks_step}
 use Rattle.send_state.proofs.Marks.{marks-other}
-use Rattle.thread_queues.specs.Changes.{Change, changed}
+use Rattle.thread_queues.specs.Changes.{Change, changed, count_kept}
 use Rattle.thread_queues.specs.Deliveries.{adding_in, change_of_post, posting}
 use Rattle.thread_queues.specs.Queues.{EachBy}
 use Rattle.core_state.specs.Needs.{FitsPosting}
 use Rattle.core_state.specs.States.{Parts, Seen, Stands, parts}
 use Rattle.core_state.proofs.Appended.{growth_fits}
-use Rattle.core_state.proofs.QuietEntries.{come, post_added, post_calm, post_fits, post_goes_on, post_idle, post_leaves, post_looks, post_is_no_look, post_no_look, post_unmarked, quiet_sends, quiet_step}
+use Rattle.core_state.proofs.QuietEntries.{post_added, post_fits, post_goes_on, post_leaves, post_looks, post_is_no_look, post_no_look, post_still, post_time, post_unmarked}
+use Rattle.core_state.proofs.StillEntries.{come, quiet_sends, quiet_step}
 use Rattle.core_state.proofs.state.CoreState.append_post.Goals as goal
 
 pub add_post-requires-clause-call : goal.add_post-requires-clause-call
@@ -56,7 +57,7 @@ invariant_of-self-2 c =
     ∙ post_added s.tree.live s.progress.time s.progress.cursor false shift e.who.0 s.progress.posts e.answer e.call posts in
     let first = subst (λ (h : Change). EachBy (λ t. changed t h) s.threads.items c.add_post.new.threads.items) change c.in_ok-add_post.ensures.ok in
     let second = post_leaves s.tree.live e.who.0 e.call e.answer c.add_post.new.threads.items posts in
-    let stay = quiet_sends s.setup past kept e (post_calm e.answer e.call posts) (post_idle e.answer e.call posts) room right st in
+    let stay = quiet_sends s.setup past kept e (post_still e.answer e.call posts) room right st in
     let looked : AreLooksAt s.setup (e ∷ past) s.looks = looks_step s.setup past e s.tree s.order s.display.screen (moment_at (e ∷ past)) [] s.looks s.looks (st.lawful, right) st.tree st.order st.display.screen st.looks refl (λ is. absurd (post_no_look e.answer e.call posts is)) (post_looks e s.looks (moment_at (e ∷ past)) posts) in
-    let now = quiet_step s.setup past kept e (post_calm e.answer e.call posts) (post_idle e.answer e.call posts) room right st c.add_post.new.threads.items c.add_post.new.threads.items c.note_running.new.threads.items c.note_running.new.threads.items (come number s.progress.inputs s.progress.time s.progress.cursor) s.sends s.looks first second c.note_running.ensures (post_unmarked e number c.note_running.new.threads.items posts) (ap (λ n. come n s.progress.inputs s.progress.time s.progress.cursor) c.count_after-number.ensures) stay (marks-other s.setup past e s.sends.marks (post_is_no_look e.answer e.call posts) st.marks) looked in
+    let now = quiet_step s.setup past kept e (post_still e.answer e.call posts) room right st c.add_post.new.threads.items c.add_post.new.threads.items c.note_running.new.threads.items c.note_running.new.threads.items (come number s.progress.inputs s.progress.time s.progress.cursor) s.sends s.looks first second c.note_running.ensures (post_unmarked e number c.note_running.new.threads.items posts) (ap (λ n. come n s.progress.inputs s.progress.time s.progress.cursor) c.count_after-number.ensures ∙ ap (λ n. come (count_kept e.answer s.progress.posts) s.progress.inputs n s.progress.cursor) (post_time e.who.0 s.progress.time e.answer e.call posts)) stay (marks-other s.setup past e s.sends.marks (post_is_no_look e.answer e.call posts) st.marks) looked in
     subst (λ (h : Past). Stands s.setup h (parts s.tree s.order s.display s.classes c.note_running.new.threads.items s.timers s.groups s.inputs (come number s.progress.inputs s.progress.time s.progress.cursor) s.sends s.tally s.stories.items s.looks s.dialogs)) newest now

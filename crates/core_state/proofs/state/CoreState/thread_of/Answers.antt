@@ -19,7 +19,7 @@ thread_runs setup past w lawful lives =
     ap (is_running setup past) (ap (λ (o : Option Window). unwrap_or (option_map (λ y. y.thread) o) 0) x.1) ∙ live_running setup past w x.0 lawful x.1
 
 -- the clause on the thread, once for both arms
-runs : (seen : Seen) (setup : Setup) (past : Past) (w n : ℕ) → IsLawful setup past → record { setup = setup; past = past } ≡ seen → n ≡ thread_of seen.past w → is_live seen.past w ≡ true → is_running seen.setup seen.past n ≡ true
+runs : (seen : Seen) (setup : Setup) (past : Past) (w n : ℕ) → IsLawful setup past → {spare : ℕ} → record { setup = setup; past = past; spare = spare } ≡ seen → n ≡ thread_of seen.past w → is_live seen.past w ≡ true → is_running seen.setup seen.past n ≡ true
 runs seen setup past w n lawful view is lives =
     let live_there : is_live past w ≡ true = subst (λ (v : Seen). is_live v.past w ≡ true) (sym view) lives in
     ap (is_running seen.setup seen.past) is ∙ subst (λ (v : Seen). is_running v.setup v.past (thread_of v.past w) ≡ true) view (thread_runs setup past w lawful live_there)

@@ -1,0 +1,6 @@
+mod Orders
+mod Moves
+mod Searching
+mod Stepping
+mod Backing
+mod Telling

@@ -1,0 +1,5 @@
+pub mod Orders
+pub mod Steps
+pub mod Searches
+pub mod Reports
+pub mod Texts
