@@ -118,7 +118,6 @@ fn both<M: Machine + Send + Sync, R: Threads + Wait + Sync>(
 }
 
 /// Publishes the status of a message that waits, and reads it while the turn is held.
-#[tactic(auto, using(crate::proofs::Owning::first_owner))]
 fn show<M: Machine + Send + Sync, R: Threads + Wait + Sync + Print>(
     rt: &R,
     alloc: Global,

@@ -202,15 +202,27 @@ fn tell_times<M: Machine + Drop, R: Wait + Print + Clock>(
     Ok(())
 }
 
+/// Reads by so many readers, and statuses by as many seats, each at a machine of its own for fifteen threads.
+fn tell_both<R: Threads + Wait + Sync + Print + Clock>(
+    rt: &R,
+    alloc: Global,
+    count: u32,
+) -> anyhow::Result<()>
+    requires { 0 < count }
+{
+    let setup = Setup::new(15, 8, 4);
+    tell_reads(rt, alloc, User::new(alloc, setup)?, count)?;
+    tell_statuses(rt, alloc, User::new(alloc, setup)?, count)
+}
+
 /// Measures, each time at a machine of its own for fifteen threads.
 pub fn run<R: Threads + Wait + Sync + Print + Clock>(rt: &R, alloc: Global) -> anyhow::Result<()> {
-    let setup = Setup::new(15, 8, 4);
-    for count in [1, 3, 15] {
-        tell_reads(rt, alloc, User::new(alloc, setup)?, count)?;
-        tell_statuses(rt, alloc, User::new(alloc, setup)?, count)?;
-    }
+    tell_both(rt, alloc, 1)?;
+    tell_both(rt, alloc, 3)?;
+    tell_both(rt, alloc, 15)?;
     for _ in 0..3 {
-        tell_times(rt, alloc, User::new(alloc, setup)?)?;
+        let machine = User::new(alloc, Setup::new(15, 8, 4))?;
+        tell_times(rt, alloc, machine)?;
     }
     Ok(())
 }

@@ -97,7 +97,6 @@ fn both<M: Machine + Send + Sync, R: Threads + Wait + Sync + Print>(
 }
 
 /// Posts the messages, publishes for the first time, and lets both go on.
-#[tactic(auto, using(crate::proofs::Owning::first_owner))]
 fn show<M: Machine + Send + Sync, R: Threads + Wait + Sync + Print>(
     rt: &R,
     alloc: Global,

@@ -65,7 +65,6 @@ fn tell_all<M: Machine, R: Wait + Print>(
 }
 
 /// A board of the seat's thread, with one reader.
-#[tactic(auto, using(crate::proofs::Owning::first_owner))]
 fn tell_board<M: Machine, R: Wait + Print>(
     rt: &R,
     alloc: Global,
