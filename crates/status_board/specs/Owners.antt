@@ -48,6 +48,10 @@ pub record HasCounted (opening mine : Past) (n : ℕ) : Type 0 where
   pub whole : mine ≡ since ++ opening
   pub count : length (values since) ≡ n
 
+-- since some moment so many were told as these
+abbrev pub IsCounted : Past → List Shown → Type 0
+IsCounted mine list = (start : Past) × HasCounted start mine (length list)
+
 -- since the opening the value of this number was told as the one of that number
 pub record IsPublished (opening mine : Past) (x : Shown) : Type 0 where
   pub since : Past
