@@ -67,7 +67,7 @@ pub record IsSized (report : Report) : Type 0 where
   pub stuck : report.stuck.count ≤ report.runs
   pub spent : report.spent.count ≤ report.runs
 
--- the first runs within the bound, so many at most, are told; it is told that these are all exactly where each run within the bound is among them, else there are as many as were asked for
+-- the first runs within the bound, so many at most, are told; where it is told that these are all, each run within the bound is among them; else there are as many as were asked for
 pub record Explored (s : Tree) (bound limit : ℕ) (report : Report) : Type 0 where
   pub runs : List Past
   pub first : AreFirst s bound runs
