@@ -8,7 +8,8 @@ import tempfile
 import time
 
 TOP = pathlib.Path(__file__).resolve().parent.parent
-TOOLS = ("answer-unproved", "build-program", "crate-seconds", "crate_graph.py", "launching.py", "play-examples", "script", "stored_runs.py", "trial.py", "unproved_run.py")
+TOOLS = ("answer-told", "answer-unproved", "build-program", "crate-seconds", "crate_graph.py", "launching.py", "log_json.py",
+         "play-examples", "run_story.py", "script", "stored_runs.py", "stuck_words.py", "told_answers.py", "trial.py", "unproved_run.py")
 FILES = {
     "crates.txt": "low: \nuser: low\nother: low\n",
     "HANDLES": "Handles allowed: none.\n",
@@ -150,6 +151,8 @@ ANSWERS = (
     ("run", b"stuck\n", 4, log("run", 6, "stuck")),
     ("run", b"refused\n", 3, b"refused 1 words\n"),
     ("run", b"", 0, log("run", 0)),
+    ("run --json", b"refused\n", 3, b'{"line":1,"refused":"words"}\n'),
+    ("threads 2 --json", b"refused\n", 3, b'{"line":1,"refused":"words"}\n'),
 )
 
 
@@ -157,7 +160,7 @@ def answers(trial, repository, name, first, own_lines):
     """Each form of words, answered with the program's output and status; beside the program's own line so many are said."""
     for words, text, status, output in ANSWERS:
         ran = repository.run(words, text)
-        trial.tell(f"{name}: {words}, {len(text)} bytes", run_fault(ran, status, output, first, count=own_lines + (status == 3)))
+        trial.tell(f"{name}: {words}, {len(text)} bytes", run_fault(ran, status, output, first, count=own_lines + (status in (3, 4))))
         trial.tell(f"{name}: what {words} leaves behind", repository.remains())
 
 

@@ -1,15 +1,18 @@
 """The log of a run as text and as lines of JSON: what the tools that read runs share.
 
-`json_of` makes of a log's text the lines that `./user run --json` writes. `read_run` reads such lines as the entries of a run with
-their frames; a line that can't stand there is told by its number and the reason (`BadLine`).
+`json_of` makes of a log's text the lines that `./user run --json` writes. `read_run` reads such lines, or the log itself, as
+the entries of a run with their frames; a line that can't stand there is told by its number and the reason (`BadLine`).
 """
 import json
 import re
-import sys
 from typing import NamedTuple
 
 WORDS = re.compile(r"[!-~]+(?: [!-~]+)*")
 ROW = re.compile(r"[0-9a-f]{1,128}")
+PLAIN_HEAD = b"log 1"
+PLAIN_ENTRY = re.compile(r"(?P<who>[0-9]{1,2}) (?P<call>.+?) = (?P<answer>.+)")
+PLAIN_END = re.compile(r"(?P<name>end|waits) (?P<text>.+)|spent (?P<thread>[0-9]{1,2})|sends (?P<counts>.+)")
+COUNTS = ("begun", "entered", "proc", "reply", "loss", "timeout", "open")
 ENTRY, FRAME = frozenset(("who", "call", "answer")), frozenset(("frame",))
 END, SENDS = frozenset(("end",)), frozenset(("sends",))
 EXTRAS = {frozenset(("waits",)), frozenset(("spent",))}
@@ -79,8 +82,7 @@ class Reader:
         self.snaps, self.size = 0, None
         self.is_over = False
 
-    def take(self, number, text):
-        members = members_of(number, text)
+    def take(self, number, members):
         keys = frozenset(members)
         if self.wants_frame() and keys != FRAME:
             raise BadLine(number, f"the frame of `{self.entries[-1].answer}` must stand here")
@@ -147,10 +149,60 @@ def members_of(number, text):
     try:
         value = json.loads(text.decode("utf-8"))
     except (ValueError, RecursionError):
-        raise BadLine(number, "no JSON; the lines of `./user run --json` are read") from None
+        raise BadLine(number, no_line(text)) from None
     if not isinstance(value, dict):
         raise BadLine(number, "no object of JSON")
     return value
+
+
+def no_line(text):
+    """Why a text is neither a line of JSON nor of a log."""
+    if text.startswith(b"refused "):
+        return "this is a refusal and no run: the script has a mistake, which `./user run` tells"
+    if text.startswith(b"user 1"):
+        return "this is a script and no run: `./user run` makes its log"
+    return "no JSON; a log of `./user run` is read, or the lines of `./user run --json`"
+
+
+def lines_of(data):
+    """The lines of a text, without an empty one behind the last."""
+    lines = data.split(b"\n")
+    return lines if lines[-1] else lines[:-1]
+
+
+def plain_members(data):
+    """What the lines of JSON would have for those of a plain log, each with the number of the log's line."""
+    rows, first = [], 0
+    for number, line in enumerate(lines_of(data)[1:], 2):
+        text = line.decode("ascii", errors="replace")
+        if ROW.fullmatch(text):
+            first = first if rows else number
+            rows.append(text)
+            continue
+        if rows:
+            yield first, {"frame": rows}
+            rows = []
+        yield number, plain_line(number, text)
+    if rows:
+        yield first, {"frame": rows}
+
+
+def plain_line(number, text):
+    """The members of a line that is no row of a frame."""
+    entry, end = PLAIN_ENTRY.fullmatch(text), PLAIN_END.fullmatch(text)
+    if entry:
+        return {"who": int(entry["who"]), "call": entry["call"], "answer": entry["answer"]}
+    if not end:
+        reason = "the line is empty" if not text.strip() else "no line of a log, as 'WHO CALL = ANSWER' or 'end ..'"
+        raise BadLine(number, reason)
+    if end["name"]:
+        return {end["name"]: end["text"]}
+    if end["thread"]:
+        return {"spent": int(end["thread"])}
+    words = end["counts"].split(" ")
+    if tuple(words[::2]) != COUNTS or not all(re.fullmatch("[0-9]+", word) for word in words[1::2]):
+        raise BadLine(number, "`sends` has no value of its form")
+    return {"sends": [int(word) for word in words[1::2]]}
 
 
 def ending_text(number, name, value):
@@ -160,8 +212,7 @@ def ending_text(number, name, value):
     if name == "spent" and is_count(value):
         return f"spent {value}"
     if name == "sends" and isinstance(value, list) and len(value) == 7 and all(map(is_count, value)):
-        names = ("begun", "entered", "proc", "reply", "loss", "timeout", "open")
-        return "sends " + " ".join(f"{word} {count}" for word, count in zip(names, value))
+        return "sends " + " ".join(f"{word} {count}" for word, count in zip(COUNTS, value))
     raise BadLine(number, f"`{name}` has no value of its form")
 
 
@@ -169,24 +220,20 @@ def is_count(value):
     return type(value) is int and value >= 0
 
 
+def members_of_all(data):
+    """The members of each line of a run, with its number, whichever form the run has."""
+    if data.split(b"\n", 1)[0] == PLAIN_HEAD:
+        return plain_members(data)
+    return ((number, members_of(number, text)) for number, text in enumerate(lines_of(data), 1))
+
+
 def read_run(data):
-    """The run whose lines of JSON these bytes are. A run may be broken off behind any entry."""
+    """The run whose log or whose lines of JSON these bytes are. A run may be broken off behind any entry."""
     reader = Reader()
-    lines = data.split(b"\n")
-    if not lines[-1]:
-        lines.pop()
-    for number, text in enumerate(lines, 1):
-        reader.take(number, text)
+    for number, members in members_of_all(data):
+        reader.take(number, members)
     if not reader.entries:
         raise BadLine(1, "there is no entry")
     if reader.wants_frame():
-        raise BadLine(len(lines) + 1, f"the frame of `{reader.entries[-1].answer}` must stand here")
+        raise BadLine(len(lines_of(data)) + 1, f"the frame of `{reader.entries[-1].answer}` must stand here")
     return Run(reader.entries, reader.ending)
-
-
-def read_input(path):
-    """The run in a file, or on standard input where none is named."""
-    if path is None:
-        return read_run(sys.stdin.buffer.read())
-    with open(path, "rb") as source:
-        return read_run(source.read())

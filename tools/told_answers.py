@@ -1,0 +1,93 @@
+"""What the launcher says to people beside an answer of the program, and the forms of answers that it makes of the program's own.
+
+A stuck run is told in words, the first bad place of `check` by the lines of the log and of the input, and by the number that
+charts give to its entry. With --json a refusal becomes an object, and so do the lines of a run by threads.
+"""
+import re
+
+from log_json import BadLine, compact, json_of, read_run
+from stuck_words import stuck_lines
+
+REFUSED, STUCK, ILLEGAL = 3, 4, 6
+REFUSAL = re.compile(rb"refused ([0-9]+) ([a-z_]+)\n")
+PLACE = re.compile(rb"illegal ([0-9]+) ([a-z]+)\nfound (.*)\nkept .*\n")
+# How much of an output is kept to be told of; a log that is longer is told by tools/stuck.
+MOST_KEPT = 64 << 20
+
+
+def program_words(words):
+    """The words that the program itself takes."""
+    return words[:2] if words[0] == "threads" else words
+
+
+def is_in_json(words):
+    return words[-1] == "--json"
+
+
+def is_made(words, output):
+    """Whether an output that begins so is written in another form than the program's."""
+    return is_in_json(words) and (words[0] == "threads" or output.startswith(b"refused "))
+
+
+def made(output):
+    """An output with --json: the object of a refusal, or the lines of a log."""
+    refusal = REFUSAL.fullmatch(output)
+    if refusal:
+        return compact(line=int(refusal[1]), refused=refusal[2].decode()).encode()
+    return json_of(output)
+
+
+def more_told(words, status, output, text):
+    """The lines that are said beside an answer. `text` is the input of `check`; an output that is None was too long to keep."""
+    if status == STUCK:
+        return stuck_told(output)
+    if words[0] == "check" and status == ILLEGAL:
+        return illegal_told(output, text)
+    if words[0] == "check" and status == REFUSED:
+        return refused_told(output, text)
+    return []
+
+
+def stuck_told(output):
+    if output is None:
+        return ["stuck: no thread can go on; tools/stuck < LOG tells what each of them waits for"]
+    try:
+        return stuck_lines(read_run(output))
+    except (BadLine, IndexError, KeyError, ValueError):
+        return ["stuck: no thread can go on; its last lines 'waits' have the call of each thread"]
+
+
+def lines_of_log(text):
+    """The lines of the log behind a script, each with its number in the input, and the number of the script's lines."""
+    lines = text.split(b"\n")
+    head = lines.index(b"log 1") if b"log 1" in lines else len(lines)
+    return list(enumerate(lines[head:], head + 1)), head
+
+
+def illegal_told(output, text):
+    """Where the first bad place of a log stands."""
+    place = PLACE.fullmatch(output)
+    if not place:
+        return []
+    number, reason, found = int(place[1]), place[2], place[3]
+    log, head = lines_of_log(text)
+    entries = [line for line, content in log if b" = " in content]
+    if reason == b"end":
+        behind = entries[-1] if entries else head + 1
+        line = next((line for line, content in log if line > behind and content == found), len(log) + head)
+        return [f"the first bad place is behind all entries: {both(line, head)}"]
+    if number >= len(entries):
+        return []
+    frame = ", in the frame behind it" if reason == b"frame" else ""
+    return [f"the first bad place is entry {number + 1}, as charts count{frame}: {both(entries[number], head)}"]
+
+
+def both(line, head):
+    return f"line {line - head} of the log, line {line} of the input"
+
+
+def refused_told(output, text):
+    """Which line of the log a refusal of `check` speaks of, where it isn't one of the script."""
+    refusal, head = REFUSAL.fullmatch(output), lines_of_log(text)[1]
+    line = int(refusal[1]) if refusal else 0
+    return [f"line {line} of the input is line {line - head} of the log"] if line > head else []
