@@ -8,7 +8,6 @@ from typing import NamedTuple
 from run_story import Story
 
 ALONE = str(2**64 - 1)
-BLOCKS = 1
 
 
 class Window(NamedTuple):
@@ -102,14 +101,7 @@ class Stuck:
         call = self.calls.get(thread, [""])
         if call[0] == "await_title":
             return f"{self.other(thread, who)}, which no window has, and serves no send meanwhile"
-        if call[0] == "await" and self.is_blocked(call[1]):
-            return f"{self.other(thread, who)} under SMTO_BLOCK, and serves no send meanwhile"
         return self.other(thread, who)
-
-    def is_blocked(self, number):
-        """Whether a send lets its sender serve nobody."""
-        call = self.entries[self.story.sends[int(number) - 1].begun - 1].call.split(" ")
-        return call[0] == "send_timeout" and bool(int(call[5]) & BLOCKS)
 
     def message(self, who, window, least, most):
         """A wait for a message, with the posts that aren't let through."""
@@ -120,7 +112,7 @@ class Stuck:
         if not kept:
             return f"{told}: none is there, and nobody is left who could post or send one"
         posts = ", ".join(f"'{it.call}' of entry {it.number}" for it in kept[:3])
-        more = f" and {len(kept) - 3} more posts" if len(kept) > 3 else ""
+        more = f" and {len(kept) - 3} more" if len(kept) > 3 else ""
         return f"{told}: none is there, since its filter passes over {posts}{more}, and nobody is left who could post or send one"
 
     def kept_posts(self, who):
