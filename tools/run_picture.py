@@ -14,6 +14,7 @@ PAD, TOP, EDGE = 6, 28, 8
 TRACK, MARGIN, MOST_TRACKS = 7, 9, 12
 MOST_LETTERS, LEAST_LETTERS, LEAST_ANSWER = 44, 12, 29
 LEAST_WIDTH = 480
+MARK = "≠"
 
 KINDS = {
     "post": "post post_thread post_quit translate",
@@ -73,15 +74,15 @@ def kind_of(entry):
 class Picture:
     """What is drawn, and where: the rows of the picked entries, the columns of the picked threads, the channels between them."""
 
-    def __init__(self, story, first, last, threads):
-        self.story, self.threads = story, threads
+    def __init__(self, story, first, last, threads, marks):
+        self.story, self.threads, self.marks = story, threads, marks
         self.rows = [it for it in story.entries[first - 1:last] if it.who in threads or it.who == 0]
         self.numbers = [it.number for it in self.rows]
         self.row_of = {number: row for row, number in enumerate(self.numbers)}
         self.column_of = {who: column for column, who in enumerate(threads)}
         deepest = max((story.depths[number - 1] for number in self.numbers), default=0)
         self.indent, self.inset = (8, 2) if deepest <= 12 else (max(2, 96 // deepest), 1)
-        self.labels = [label_of(it) for it in self.rows]
+        self.labels = [label_of(it) + (f" {MARK}" if it.number in marks else "") for it in self.rows]
         ranges = [(bar, *self.rows_of(bar.first, bar.last)) for bar in story.bars if bar.thread in self.column_of]
         self.boxes = [(bar, begin, end) for bar, begin, end in ranges if begin < end]
         self.place_arrows()
@@ -252,6 +253,7 @@ def entries(picture):
             width = len(picture.labels[row]) * LETTER + 4
             yield f'<rect class="refused" x="{left - 2}" y="{picture.tops[row] + 1}" width="{width}" height="{ROW - 2}"/>'
         title = f"entry {entry.number}, clock {clock}: {entry.who} {entry.call} = {entry.answer}"
+        title += "".join(f"\n{MARK} {point}" for point in picture.marks.get(entry.number, []))
         yield text(left, y, picture.labels[row], kind, title, f' data-entry="{entry.number}"')
         if entry.frame:
             yield image(entry.frame, picture.scales[row], left, picture.tops[row] + ROW)
@@ -294,12 +296,16 @@ def legend_items(picture):
                            '<path class="tip" d="M{tip} {middle}l-6 -3v6z"/></g>'), words
     if any("»" in label or "«" in label for label in picture.labels):
         yield "side", None, "»N to entry N, «N from entry N, which isn't drawn"
+    if any(number in picture.marks for number in picture.numbers):
+        yield "side", None, f"{MARK} may touch a point where Wine 8.0 does otherwise"
 
 
-def picture_of(story, first=1, last=None, threads=None):
-    """The SVG text of a run's entries from the first to the last, in the columns of these threads."""
+def picture_of(story, first=1, last=None, threads=None, marks=None):
+    """The SVG text of a run's entries from the first to the last, in the columns of these threads.
+
+    `marks` has, by the numbers of entries, the points where another system may do otherwise."""
     last = min(last or len(story.entries), len(story.entries))
-    picture = Picture(story, first, last, sorted(threads or story.threads()))
+    picture = Picture(story, first, last, sorted(threads or story.threads()), marks or {})
     y = picture.tops[-1] + ROW + 4
     foot = []
     if last == len(story.entries):

@@ -55,20 +55,23 @@ class Frame(NamedTuple):
 
 
 class Story:
-    """A run's entries with what belongs together. `clocks` and `depths` have a value for each entry: the clock after it, and in how
-    many procedures and waits its thread stood before it."""
+    """A run's entries with what belongs together.
+
+    `clocks`, `within` and `depths` have a value for each entry: the clock after it, the procedures and waits in which its thread
+    stood before it, and how many these are."""
 
     def __init__(self, run):
         self.entries, self.ending = run.entries, run.ending
-        self.bars, self.arrows, self.clocks, self.depths = [], [], [], []
+        self.bars, self.arrows, self.clocks, self.within = [], [], [], []
         self.windows, self.clock = {}, 0
         self.posts, self.standing, self.quits = 0, {}, {}
         self.inputs, self.untaken = 0, {}
         self.sends, self.stacks = [], {}
         for entry in run.entries:
-            self.depths.append(len(self.stack(entry)))
+            self.within.append(tuple(self.stack(entry)))
             self.take(entry)
             self.clocks.append(self.clock)
+        self.depths = [len(frames) for frames in self.within]
         for who, stack in self.stacks.items():
             for depth, frame in enumerate(stack):
                 self.bars.append(Bar(frame.kind, who, depth, frame.first, None, frame.text))
