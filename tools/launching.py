@@ -27,6 +27,14 @@ def tell(text):
         pass
 
 
+def asks_for_help(document):
+    """Whether the one word of the command is --help or -h; then the docstring is printed."""
+    if sys.argv[1:] not in (["--help"], ["-h"]):
+        return False
+    print(document.strip())
+    return True
+
+
 class Interrupts:
     """The first signal that asked this process to end. It is noted alone, so that no command is begun or forgotten half-way. What commands leave behind becomes this process's own, so that it can be ended."""
 

@@ -1,14 +1,13 @@
 """The kinder form of scripts, `tools/script`: what it is translated to, what is told of mistakes, the way back, and its table of statements against the manual's.
 
 `python3 tools/script_cases.py` tries these cases alone, without the built program."""
-import importlib.machinery
-import importlib.util
 import pathlib
 import re
 import subprocess
 import sys
 import tempfile
 
+from tool_modules import loaded
 from trial import Tally
 
 TOP = pathlib.Path(__file__).resolve().parent.parent
@@ -20,15 +19,6 @@ HEAD = "user 1\nscreen 8 4\nbudget 100\norder\n"
 KINDER = re.compile(r"^```us\n(.*?)^```\n((?:(?!```)[^\n]*\n)*)^```script\n(.*?)^```\n", re.MULTILINE | re.DOTALL)
 STATEMENT_ROW = re.compile(r"`([a-z_]+(?: [A-Z]+)*)`")
 VALUE = re.compile(r"\b([A-Z]+_[A-Z_]+)\s(-?[0-9]+)\b")
-
-
-def loaded(name):
-    """A tool of this folder as a module."""
-    loader = importlib.machinery.SourceFileLoader(f"tool_{name}", str(TOP / "tools" / name))
-    module = importlib.util.module_from_spec(importlib.util.spec_from_loader(loader.name, loader))
-    sys.modules[loader.name] = module
-    loader.exec_module(module)
-    return module
 
 
 tool, compare = loaded("script"), loaded("compare")

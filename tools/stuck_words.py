@@ -1,7 +1,7 @@
 """Why a run is stuck, in words: for each thread that waits, what it waits for and why that can't come.
 
-All of it is read from the log: the last call of each thread, the sends that have no answer, the posts that nobody has taken
-and the windows. Nothing is run again. Entries are counted from 1, as in charts.
+All of it is read from the log: the last call of each thread, the sends that have no answer, the posts that nobody has
+taken and the windows. Nothing is run again. Entries are counted from 1, as in charts.
 """
 from typing import NamedTuple
 

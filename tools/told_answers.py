@@ -1,7 +1,9 @@
-"""What the launcher says to people beside an answer of the program, and the forms of answers that it makes of the program's own.
+"""What the launcher says to people beside an answer of the program, and the forms of answers that it makes of the
+program's own.
 
-A stuck run is told in words, the first bad place of `check` by the lines of the log and of the input, and by the number that
-charts give to its entry. With --json a refusal becomes an object, and so do the lines of a run by threads.
+A stuck run is told in words, the first bad place of `check` by the lines of the log and of the input, and by the
+number that charts give to its entry. With --json a refusal becomes an object, and so do the lines of a run by
+threads.
 """
 import re
 

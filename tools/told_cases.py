@@ -1,12 +1,13 @@
-"""What is said to people beside an answer: of stuck runs, of first bad places, and the objects of --json; tried with a built program."""
+"""What is said to people beside an answer: of stuck runs, of first bad places, and the objects of --json; tried with a
+built program."""
 import json
 import subprocess
 import tempfile
 
 from launching import TOP
 from log_json import json_of, read_run
-from script_cases import loaded
 from stuck_words import stuck_lines
+from tool_modules import loaded
 
 TOOLS = TOP / "tools"
 SECONDS = 60

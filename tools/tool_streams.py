@@ -1,8 +1,10 @@
-"""What the tools share at their edges: standard input and output as bytes, and faults that end a tool with a sentence and status 2.
+"""What the tools share at their edges: standard input and output as bytes, and faults that end a tool with a sentence
+and status 2.
 
-Text that is written is UTF-8 whatever the locale. What is said on standard error has its control characters escaped, so that
-nothing of an input reaches a terminal as a command.
+Text that is written is UTF-8 whatever the locale. What is said on standard error has its control characters escaped,
+so that nothing of an input reaches a terminal as a command.
 """
+import argparse
 import os
 import sys
 
@@ -28,6 +30,21 @@ def say(name, text):
     except (OSError, AttributeError, ValueError):
         # nobody listens
         pass
+
+
+class Parser(argparse.ArgumentParser):
+    """The words of a tool's command. Its help is the tool's docstring."""
+
+    def __init__(self, name, document, **more):
+        super().__init__(prog=f"tools/{name}", description=document, formatter_class=argparse.RawDescriptionHelpFormatter, **more)
+
+    def print_help(self, file=None):
+        write_out(self.format_help().encode())
+
+    def error(self, message):
+        say(self.prog, message)
+        say(self.prog, "--help tells its words")
+        sys.exit(WRONG)
 
 
 def read_in(path=None):
