@@ -9,7 +9,7 @@ import time
 
 TOP = pathlib.Path(__file__).resolve().parent.parent
 TOOLS = ("answer-told", "answer-unproved", "build-program", "crate-seconds", "crate_graph.py", "launching.py", "log_json.py",
-         "play-examples", "run_story.py", "script", "stored_runs.py", "stuck_words.py", "told_answers.py", "trial.py", "unproved_run.py")
+         "mistake_words.py", "play-examples", "run_story.py", "script", "stored_runs.py", "stuck_words.py", "told_answers.py", "tool_modules.py", "trial.py", "unproved_run.py")
 FILES = {
     "crates.txt": "low: \nuser: low\nother: low\n",
     "HANDLES": "Handles allowed: none.\n",
@@ -137,7 +137,7 @@ def run_fault(ran, status, output, first=None, last=None, count=None):
     return None if count is None or len(ran[2]) == count else f"it said {ran[2]}"
 
 
-# The words, the input, and what comes of it: a status, an output.
+# The words, the input, and what comes of it: a status, an output. Beside the program's own line a line helps at a refusal.
 ANSWERS = (
     ("run", TEXT, 0, log("run", 10)),
     ("run --json", TEXT, 0, log("run --json", 10)),
@@ -160,7 +160,7 @@ def answers(trial, repository, name, first, own_lines):
     """Each form of words, answered with the program's output and status; beside the program's own line so many are said."""
     for words, text, status, output in ANSWERS:
         ran = repository.run(words, text)
-        trial.tell(f"{name}: {words}, {len(text)} bytes", run_fault(ran, status, output, first, count=own_lines + (status in (3, 4))))
+        trial.tell(f"{name}: {words}, {len(text)} bytes", run_fault(ran, status, output, first, count=own_lines + {3: 2, 4: 1}.get(status, 0)))
         trial.tell(f"{name}: what {words} leaves behind", repository.remains())
 
 

@@ -18,13 +18,18 @@ PAUSE = 0.05
 SET_CHILD_SUBREAPER = 36
 
 
-def tell(text):
+def say(line):
     """Says a line to people, on standard error."""
     try:
-        print(f"user: {text}", file=sys.stderr, flush=True)
+        print(line, file=sys.stderr, flush=True)
     except OSError:
         # nobody listens any more
         pass
+
+
+def tell(text):
+    """Says a line to people in the name of the launcher."""
+    say(f"user: {text}")
 
 
 def asks_for_help(document):

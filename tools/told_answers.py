@@ -8,9 +8,10 @@ threads.
 import re
 
 from log_json import BadLine, compact, json_of, read_run
+from mistake_words import mistake_lines
 from stuck_words import stuck_lines
 
-REFUSED, STUCK, ILLEGAL = 3, 4, 6
+REFUSED, STUCK, SPENT, ILLEGAL = 3, 4, 5, 6
 REFUSAL = re.compile(rb"refused ([0-9]+) ([a-z_]+)\n")
 PLACE = re.compile(rb"illegal ([0-9]+) ([a-z]+)\nfound (.*)\nkept .*\n")
 # How much of an output is kept to be told of; a log that is longer is told by tools/stuck.
@@ -40,14 +41,26 @@ def made(output):
 
 
 def more_told(words, status, output, text):
-    """The lines that are said beside an answer. `text` is the input of `check`; an output that is None was too long to keep."""
+    """The lines that are said beside an answer to an input; an output that is None was too long to keep."""
+    if status == REFUSED:
+        return refused_told(words[0] == "check", output, text)
     if status == STUCK:
-        return stuck_told(output)
-    if words[0] == "check" and status == ILLEGAL:
-        return illegal_told(output, text)
-    if words[0] == "check" and status == REFUSED:
-        return refused_told(output, text)
-    return []
+        return in_our_name(stuck_told(output))
+    if status == SPENT:
+        return in_our_name(spent_told(output or b""))
+    return in_our_name(illegal_told(output, text)) if status == ILLEGAL else []
+
+
+def in_our_name(lines):
+    return [f"user: {line}" for line in lines]
+
+
+def spent_told(output):
+    """Which threads have used their budget."""
+    threads = re.findall(r"^spent ([0-9]+)$|^\{\"spent\":([0-9]+)\}$", output.decode(), re.MULTILINE)
+    who = ", ".join(plain or other for plain, other in threads)
+    many = len(threads) != 1
+    return [f"spent: thread{'s' if many else ''} {who or '?'} {'have' if many else 'has'} used the budget of entries, which the script's third line tells"]
 
 
 def stuck_told(output):
@@ -88,8 +101,20 @@ def both(line, head):
     return f"line {line - head} of the log, line {line} of the input"
 
 
-def refused_told(output, text):
-    """Which line of the log a refusal of `check` speaks of, where it isn't one of the script."""
-    refusal, head = REFUSAL.fullmatch(output), lines_of_log(text)[1]
-    line = int(refusal[1]) if refusal else 0
-    return [f"line {line} of the input is line {line - head} of the log"] if line > head else []
+def refused_told(is_check, output, text):
+    """What helps at a refusal, and which line of the log it speaks of where it isn't one of the script."""
+    refusal = REFUSAL.fullmatch(output)
+    if not refusal:
+        return []
+    line, reason = int(refusal[1]), refusal[2].decode()
+    lines, head = lines_of_log(text)
+    if not is_check or line <= head and head:
+        script = text if not is_check else b"\n".join(text.split(b"\n")[:head]) + b"\n"
+        return mistake_lines(script, line, reason) + no_log(is_check and not lines)
+    if not head:
+        return in_our_name(["the log stands where the script has to: `check SCRIPT LOG`, or the script before the log"])
+    return in_our_name([f"line {line} of the input is line {line - head} of the log"])
+
+
+def no_log(is_missing):
+    return in_our_name(["no log stands behind the script; a log begins with the line 'log 1'"] if is_missing else [])
