@@ -90,7 +90,8 @@ def pattern_of(block):
     """The pattern that some lines of the data file have."""
     lines = [line.partition(": ")[::2] for line in block.splitlines() if not line.startswith("#")]
     if [word for word, _ in lines[:2]] != ["point", "entry"] or any(word not in WORDS for word, _ in lines[2:]):
-        raise ValueError(f"tools/differences.txt: a pattern has 'point', 'entry' and then {', '.join(WORDS)}: {block!r}")
+        words = ", ".join(WORDS)
+        raise ValueError(f"tools/differences.txt: a pattern has 'point', 'entry' and then {words}: {block!r}")
     return Pattern(lines[0][1], re.compile(lines[1][1]), [(word, condition(word, text)) for word, text in lines[2:]])
 
 
@@ -123,7 +124,8 @@ class Touched:
 
     def fits(self, pattern, entry, text):
         match = pattern.entry.fullmatch(text)
-        if not match or not all(is_met(name, int(value)) for name, value in match.groupdict().items() if is_bound(name)):
+        bounds = ((name, value) for name, value in match.groupdict().items() if is_bound(name)) if match else ()
+        if not match or not all(is_met(name, int(value)) for name, value in bounds):
             return False
         return self.holds(pattern.more, entry, {**match.groupdict(), "who": str(entry.who)})
 

@@ -1,5 +1,7 @@
-"""The tools at their edges: closed standard input and output, a full device, files that aren't there, another locale, control characters,
-links, errors half-way. Each answers with a sentence and status 2, and never with a traceback. No built program is needed."""
+"""The tools at their edges: closed streams, a full device, files that aren't there, another locale, control characters,
+links, errors half-way. Each answers with a sentence and status 2, and never with a traceback.
+
+No built program is needed."""
 import ast
 import os
 import pathlib
@@ -14,22 +16,30 @@ STUCK = TOP / "examples/rules/stuck_run.log"
 FRAMES = 3
 SECONDS = 60
 # The tools that read a run, each with words and a run that it takes.
-READERS = (("chart", [], LOG), ("chart", ["--differences"], LOG), ("frames", ["--to", "FOLDER"], LOG), ("stuck", [], STUCK),
-           ("order", [], LOG), ("differences", [], LOG), ("fields", [], LOG))
+READERS = (
+    ("chart", [], LOG), ("chart", ["--differences"], LOG), ("frames", ["--to", "FOLDER"], LOG), ("stuck", [], STUCK),
+    ("order", [], LOG), ("differences", [], LOG), ("fields", [], LOG),
+)
 # All tools that people call.
-ALL = ("all-edits", "answer-told", "answer-unproved", "build-program", "chart", "compare", "compare-dde", "compare-explored",
-       "differences", "fields", "frames", "gate-times", "on-windows", "order", "play-examples", "proof-times", "script", "stuck",
-       "try-memory", "try-on-windows", "try-pictures", "try-program")
+ALL = """
+all-edits answer-told answer-unproved build-program chart compare compare-dde compare-explored differences fields frames
+gate-times on-windows order play-examples proof-times script stuck try-memory try-on-windows try-pictures try-program
+""".split()
 # Words with files that aren't there and with empty ranges.
-NOTHING = (("compare", "/nowhere", "1", "2"), ("compare", "/bin/true", "2", "1"), ("compare", "1"), ("compare-dde", "/nowhere"),
-           ("compare-dde", "--lists", "0", "/bin/true"), ("compare-explored", "2", "1"), ("compare-explored", "1", "2", "--program", "/nowhere"),
-           ("gate-times", "/nowhere"), ("on-windows", "--random", "5..1", "--runner", "/nowhere"), ("on-windows", "/nowhere"),
-           ("play-examples", "walk"), ("try-memory", "/nowhere"), ("try-on-windows", "/nowhere"), ("try-program", "/nowhere"),
-           ("build-program", "0"), ("all-edits", "nowhere"), ("chart", "--from", "99", LOG), ("chart", "--threads", "9", LOG),
-           ("chart", "--from", "3", "--to", "2", LOG), ("frames", TOP / "examples/first.log"), ("frames", "--to", "/dev/null/x", LOG),
-           ("order", "--script", "/nowhere", LOG), ("stuck", TOP / "examples/first.log"), ("answer-told", "run"))
+NOTHING = (
+    ("compare", "/nowhere", "1", "2"), ("compare", "/bin/true", "2", "1"), ("compare", "1"), ("compare-dde", "/nowhere"),
+    ("compare-dde", "--lists", "0", "/bin/true"), ("compare-explored", "2", "1"),
+    ("compare-explored", "1", "2", "--program", "/nowhere"), ("gate-times", "/nowhere"),
+    ("on-windows", "--random", "5..1", "--runner", "/nowhere"), ("on-windows", "/nowhere"), ("play-examples", "walk"),
+    ("try-memory", "/nowhere"), ("try-on-windows", "/nowhere"), ("try-program", "/nowhere"), ("build-program", "0"),
+    ("all-edits", "nowhere"), ("chart", "--from", "99", LOG), ("chart", "--threads", "9", LOG),
+    ("chart", "--from", "3", "--to", "2", LOG), ("frames", TOP / "examples/first.log"),
+    ("frames", "--to", "/dev/null/x", LOG), ("order", "--script", "/nowhere", LOG),
+    ("stuck", TOP / "examples/first.log"), ("answer-told", "run"),
+)
 ASCII = {**os.environ, "PYTHONUTF8": "0", "PYTHONCOERCECLOCALE": "0", "LC_ALL": "C"}
-BAD = "log 1\n1 \x1b[31m\u00e9 = ok\n".encode()
+BAD_RUNS = ("log 1\n1 \x1b[31m\u00e9 = ok\n".encode(), b"\x1b]0;x\x07\n", b"refused 3 \x1b[2J\n", b"\xff\xfe\n", b"", b"log 1\n",
+            b"log 1\n1 yield = ok\n\n")
 
 
 def run(words, redirection="", text=b"", folder=".", **how):
@@ -56,15 +66,18 @@ def streams(trial):
             folder = pathlib.Path(place, "new")
             good = run([name, *words], text=data, folder=folder)
             told = f"{name} {' '.join(words)}"
-            trial.tell(f"{told} on standard input", None if good.returncode == 0 and good.stdout and not good.stderr else f"{good}")
+            right = good.returncode == 0 and good.stdout and not good.stderr
+            trial.tell(f"{told} on standard input", None if right else f"{good}")
             for closed, given in (("<&-", b""), (">&-", data), (">/dev/full", data)):
-                trial.tell(f"{told} with {closed}", fault(run([name, *words], closed, given, pathlib.Path(place, "other"))))
+                ran = run([name, *words], closed, given, pathlib.Path(place, "other"))
+                trial.tell(f"{told} with {closed}", fault(ran))
             left = [it.name for it in pathlib.Path(place, "other").glob("*")]
             trial.tell(f"what {told} leaves behind", f"{left} are left" if left else None)
             ran = run([name, *words], "2>&-", b"?", folder)
             trial.tell(f"{told} that nobody hears", None if ran.returncode == 2 and not ran.stdout else f"{ran}")
             ran = run([name, *words], text=data, folder=folder, env=ASCII)
-            trial.tell(f"{told} in an ASCII locale", None if (ran.returncode, ran.stdout) == (0, good.stdout) else f"{ran.stderr[-200:]}")
+            right = (ran.returncode, ran.stdout) == (0, good.stdout)
+            trial.tell(f"{told} in an ASCII locale", None if right else f"{ran.stderr[-200:]}")
 
 
 def texts(trial):
@@ -72,7 +85,7 @@ def texts(trial):
     for name, words, _ in READERS:
         for path, why in (("/nowhere/\x1b[31m", "a file that isn't there"), (TOP / "examples", "a folder")):
             trial.tell(f"{name} on {why}", fault(run([name, *words, path])))
-        for text in (BAD, b"\x1b]0;x\x07\n", b"refused 3 \x1b[2J\n", b"\xff\xfe\n", b"", b"log 1\n", b"log 1\n1 yield = ok\n\n"):
+        for text in BAD_RUNS:
             trial.tell(f"{name} on {text!r}", fault(run([name, *words], text=text)))
         trial.tell(f"{name} with a word of control characters", fault(run([name, "--\x1b[31m"])))
     for source in ("thread\n\x1b[31m\nend\n", "thread\n\u009b31m\nend\n", "\x07"):
@@ -89,8 +102,9 @@ def pictures(trial):
         (folder / "frame-002.png").symlink_to(kept)
         (folder / "frame-003.png").symlink_to(pathlib.Path(place, "nowhere"))
         ran = run(["frames", LOG, "--to", folder])
-        whole = sorted(it.name for it in folder.iterdir() if it.read_bytes().startswith(b"\x89PNG") and not it.is_symlink())
-        right = ran.returncode == 0 and len(whole) == FRAMES and kept.read_text() == "kept" and not pathlib.Path(place, "nowhere").exists()
+        whole = [it.name for it in folder.iterdir() if it.read_bytes().startswith(b"\x89PNG") and not it.is_symlink()]
+        is_kept = kept.read_text() == "kept" and not pathlib.Path(place, "nowhere").exists()
+        right = ran.returncode == 0 and len(whole) == FRAMES and is_kept
         trial.tell("frames where links have the names", None if right else f"{ran}, {whole}")
         other = pathlib.Path(place, "other")
         (other / "frame-002.png/below").mkdir(parents=True)

@@ -151,8 +151,8 @@ def entry_line(entry):
     """An entry as a line of JSON with its parts."""
     name, arguments = parts(entry.line, entry.call, CALL_PARTS)
     kind, fields = parts(entry.line, entry.answer, ANSWER_PARTS)
-    return compact(answer=entry.answer, call=entry.call, who=entry.who, entry=entry.number, name=name, arguments=arguments, kind=kind,
-                   fields=fields)
+    texts = {"answer": entry.answer, "call": entry.call, "who": entry.who}
+    return compact(**texts, entry=entry.number, name=name, arguments=arguments, kind=kind, fields=fields)
 
 
 def ending_line(text):

@@ -1,21 +1,25 @@
-"""What helps at a script that was refused, beside the program's own line: a form, a word that is meant, where a block was opened.
+"""What helps at a script that was refused, beside the program's own line: a form, a word that is meant, an open block.
 
-The knowledge is that of tools/script, which reads the same text in its kinder form. Lines begin with 'line N: ' where they speak of one.
+The knowledge is that of tools/script, which reads the same text in its kinder form. Lines begin with 'line N: ' where
+they speak of one.
 """
 import re
 
 from tool_modules import loaded
 
 NO_COMMENTS = "there are no comments in this form; a file whose name ends in .us may have them, behind '#'"
-HEADS = "a script begins with the lines 'user 1', 'screen W H', 'budget N' and 'order'; a file whose name ends in .us may leave them out"
+HEADS = ("a script begins with the lines 'user 1', 'screen W H', 'budget N' and 'order';"
+         " a file whose name ends in .us may leave them out")
 KINDER = "the kinder form takes this text: let the file's name end in .us, or translate it by tools/script"
 MARKS = ((b"\xef\xbb\xbf", "a byte order mark of UTF-8, which an editor has put there: save the text without it"),
-         (b"\xff\xfe", "a byte order mark of UTF-16: save the text as ASCII"), (b"\xfe\xff", "a byte order mark of UTF-16: save the text as ASCII"))
+         (b"\xff\xfe", "a byte order mark of UTF-16: save the text as ASCII"),
+         (b"\xfe\xff", "a byte order mark of UTF-16: save the text as ASCII"))
 COMMENT = re.compile(rb"(^| )(#|;|//)")
 WRITTEN = re.compile(r" is written '([a-z_]+ [^']*)'$")
 # What the program's own line says already.
-TOLD = re.compile(r"behind '(?:user|screen|budget|order)'|stands in procedures alone|a comment begins|behind this nothing more|no block is open|a script has at most|is no name: |no procedure '.*' begins above$|"
-                  r"can't stand here|stands before all threads$|^no statement begins with '[^']*'$")
+TOLD = re.compile(r"behind '(?:user|screen|budget|order)'|stands in procedures alone|a comment begins|"
+                  r"behind this nothing more|no block is open|a script has at most|is no name: |"
+                  r"no procedure '.*' begins above$|can't stand here|stands before all threads$|^no statement begins with '[^']*'$")
 
 
 def mistake_lines(text, number, reason):
@@ -47,7 +51,8 @@ def told_by_kinder(text, number, line, reason):
     strict, mistakes = tool.translated(tool.decoded(text))
     if reason == "end":
         return [f"line {it.place[0]}: {it.text}" for it in mistakes if "isn't closed" in it.text][:1]
-    told = [f"line {number}: {strictly(it.text)}" for it in mistakes if it.place[0] == number and not TOLD.search(it.text)][:1]
+    here = [it.text for it in mistakes if it.place[0] == number and not TOLD.search(it.text)]
+    told = [f"line {number}: {strictly(text)}" for text in here[:1]]
     word, *words = line.split(" ")
     names = tool.STATEMENTS.get(word)
     if reason == "words" and names is not None and len(words) != len(names):

@@ -11,7 +11,7 @@ ALONE = str(2**64 - 1)
 
 
 class Window(NamedTuple):
-    """A window of the run: its title, the thread that made it, whether it is a child, and the entry that took it away."""
+    """A window of the run: its title, its maker, whether it is a child, and the entry that took it away."""
     title: str
     maker: int
     is_child: bool
@@ -105,7 +105,7 @@ class Stuck:
 
     def message(self, who, window, least, most):
         """A wait for a message, with the posts that aren't let through."""
-        asked = [] if window == "0" else ["without a window"] if window == ALONE else [f"for {self.window_told(window)}"]
+        asked = ["without a window"] if window == ALONE else [f"for {self.window_told(window)}"] if window != "0" else []
         asked += [] if (least, most) == ("0", "0") else [f"of a number from {least} to {most}"]
         told = f"waits for a message{' ' if asked else ''}{' and '.join(asked)}"
         kept = [self.entries[number - 1] for number in self.kept_posts(who)]
@@ -113,7 +113,8 @@ class Stuck:
             return f"{told}: none is there, and nobody is left who could post or send one"
         posts = ", ".join(f"'{it.call}' of entry {it.number}" for it in kept[:3])
         more = f" and {len(kept) - 3} more" if len(kept) > 3 else ""
-        return f"{told}: none is there, since its filter passes over {posts}{more}, and nobody is left who could post or send one"
+        passed = f"none is there, since its filter passes over {posts}{more}"
+        return f"{told}: {passed}, and nobody is left who could post or send one"
 
     def kept_posts(self, who):
         """The entries whose posts to a thread nobody has taken, those to windows that are gone left out."""

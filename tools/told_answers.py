@@ -60,7 +60,8 @@ def spent_told(output):
     threads = re.findall(r"^spent ([0-9]+)$|^\{\"spent\":([0-9]+)\}$", output.decode(), re.MULTILINE)
     who = ", ".join(plain or other for plain, other in threads)
     many = len(threads) != 1
-    return [f"spent: thread{'s' if many else ''} {who or '?'} {'have' if many else 'has'} used the budget of entries, which the script's third line tells"]
+    told = f"threads {who} have" if many else f"thread {who} has"
+    return [f"spent: {told} used the budget of entries, which the script's third line tells"]
 
 
 def stuck_told(output):

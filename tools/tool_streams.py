@@ -11,6 +11,7 @@ import sys
 from log_json import BadLine, read_run
 
 WELL, WRONG = 0, 2
+CONTROLS = {number: f"\\x{number:02x}" for number in (*range(32), 127)}
 
 
 class ToolError(Exception):
@@ -19,7 +20,7 @@ class ToolError(Exception):
 
 def printable(text):
     """A text whose control characters, and whatever isn't ASCII, are escaped."""
-    return text.encode("ascii", errors="backslashreplace").decode().translate({k: f"\\x{k:02x}" for k in (*range(32), 127)})
+    return text.encode("ascii", errors="backslashreplace").decode().translate(CONTROLS)
 
 
 def say(name, text):
@@ -36,7 +37,8 @@ class Parser(argparse.ArgumentParser):
     """The words of a tool's command. Its help is the tool's docstring."""
 
     def __init__(self, name, document, **more):
-        super().__init__(prog=f"tools/{name}", description=document, formatter_class=argparse.RawDescriptionHelpFormatter, **more)
+        form = argparse.RawDescriptionHelpFormatter
+        super().__init__(prog=f"tools/{name}", description=document, formatter_class=form, **more)
 
     def print_help(self, file=None):
         write_out(self.format_help().encode())
@@ -55,7 +57,8 @@ def read_in(path=None):
                 return source.read()
         return sys.stdin.buffer.read()
     except (OSError, ValueError) as error:
-        raise ToolError(f"{path or 'standard input'} can't be read: {getattr(error, 'strerror', None) or error}") from None
+        reason = getattr(error, "strerror", None) or error
+        raise ToolError(f"{path or 'standard input'} can't be read: {reason}") from None
     except AttributeError:
         raise ToolError("standard input can't be read: it is closed") from None
 
