@@ -1,4 +1,4 @@
-"""The points where Wine 8.0 does otherwise: the rows of docs/WINDOWS.md, their scripts, the patterns of tools/differences.txt and the tool.
+"""The points where Wine 8.0 does otherwise: the rows of docs/WINDOWS.md, their patterns and the tool that tells them.
 
 The scripts themselves are played by tools/try-program.
 """
@@ -104,15 +104,18 @@ def command(trial):
     for text in (log, json_of(log)):
         ran = run([TOOL], text)
         told = [int(number) for number in re.findall(rb"^entry (\d+), line ", ran.stdout, re.MULTILINE)]
-        right = ran.returncode == 0 and told == marked and marked and b"\n  ! a second ReplyMessage to one send: here 0; " in ran.stdout
+        is_told = b"\n  ! a second ReplyMessage to one send: here 0; " in ran.stdout
+        right = ran.returncode == 0 and told == marked and marked and is_told
         trial.tell("tools/differences on reply_twice", None if right else f"{ran}")
         ran = run([CHART, "--differences"], text)
         titles = re.findall("<title>entry (\\d+),[^<]*\n≠ ", ran.stdout.decode())
-        trial.tell("chart --differences", None if [*map(int, titles)] == marked else f"it marks {titles}, and {marked} was expected")
+        why = None if [*map(int, titles)] == marked else f"it marks {titles}, and {marked} was expected"
+        trial.tell("chart --differences", why)
         trial.tell("chart without marks", None if "≠" not in run([CHART], text).stdout.decode() else "it has marks")
     ran = run([TOOL], b"log 1\n1 yield = ok\n")
     last = f"{len(rows())} of {len(rows())} points have a pattern\n".encode()
-    trial.tell("tools/differences on a plain run", None if (ran.returncode, ran.stdout, ran.stderr) == (0, last, b"") else f"{ran}")
+    right = (ran.returncode, ran.stdout, ran.stderr) == (0, last, b"")
+    trial.tell("tools/differences on a plain run", None if right else f"{ran}")
 
 
 def told_differences(trial):

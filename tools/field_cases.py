@@ -1,5 +1,5 @@
-"""The parts of calls and answers that `tools/fields` tells: every stored log is read by its parts and put together again, and the words
-are those of the code's tables."""
+"""The parts of calls and answers that `tools/fields` tells: every stored log is read by its parts and put together again,
+and the words are those of the code's tables."""
 import json
 import re
 import subprocess

@@ -1,6 +1,7 @@
-"""What a new user does wrong, and what is said: scripts as one would write them, and words of the command. Each was looked at on both
-streams. A script is in one line, with / for a line feed and HEAD for the four first lines; then come the status and how the last line on
-standard error begins. The words are those of the launcher, none of which reaches the program.
+"""What a new user does wrong, and what is said: scripts as one would write them, and words of the command.
+
+Each was looked at on both streams. A script is in one line, with / for a line feed and HEAD for the four first lines; then
+come the status and how the last line on standard error begins. The words are the launcher's; none reaches the program.
 """
 import subprocess
 
@@ -148,7 +149,9 @@ def new_user(trial):
         source = text.replace("HEAD/", HEAD, 1).replace("/", "\n").encode()
         trial.tell(f"a new user's {name}", told_fault(answered(trial.program, ["run"], source), status, told))
     for words, told in WORDS:
-        ran = subprocess.run([TOP / "user", *words.split()], cwd=TOP, input=b"", capture_output=True, timeout=SECONDS, check=False)
+        command = [TOP / "user", *words.split()]
+        ran = subprocess.run(command, cwd=TOP, input=b"", capture_output=True, timeout=SECONDS, check=False)
         said = ran.stderr.decode().split("\n")
-        fault = None if (ran.returncode, ran.stdout, said[0]) == (2, b"", told) else f"status {ran.returncode}, it said {said}"
+        right = (ran.returncode, ran.stdout, said[0]) == (2, b"", told)
+        fault = None if right else f"status {ran.returncode}, it said {said}"
         trial.tell(f"a new user's words '{words}'", fault)

@@ -18,7 +18,8 @@ STUCK = (
     ("a message that nobody posts", "thread\nget\nend\n", (
         "stuck: no thread can go on, and none waits for a time",
         f"thread 1 waits for a message: {NOBODY} (its last call: entry 1, line 2 of the log)")),
-    ("a filter that passes over posts", QUIET + "get r 1024 1025\nend\nthread\nawait_title shop\npost r WM_APP\npost_thread 1 WM_COMMAND\nend\n", (
+    ("a filter that passes over posts",
+     QUIET + "get r 1024 1025\nend\nthread\nawait_title shop\npost r WM_APP\npost_thread 1 WM_COMMAND\nend\n", (
         "stuck: no thread can go on, and none waits for a time (thread 2 has ended)",
         "thread 1 waits for a message for window 16 'shop' of thread 1 and of a number from 1024 to 1025: none is there, since its"
         " filter passes over 'post 16 WM_APP 0 0' of entry 6, 'post_thread 1 WM_COMMAND 0 0' of entry 8, and nobody is left who"
@@ -26,7 +27,9 @@ STUCK = (
     ("messages without a window", "thread\nget -1\nend\nthread\nend\nthread\nend\n", (
         "stuck: no thread can go on, and none waits for a time (threads 2 and 3 have ended)",
         f"thread 1 waits for a message without a window: {NOBODY} (its last call: entry 1, line 2 of the log)")),
-    ("a procedure that waits for a title", QUIET.replace("return", "if msg = WM_USER\nawait_title nowhere\nend\nreturn") + "get\nend\nthread\nawait_title shop\nsend r WM_USER\nend\n", (
+    ("a procedure that waits for a title",
+     QUIET.replace("return", "if msg = WM_USER\nawait_title nowhere\nend\nreturn")
+     + "get\nend\nthread\nawait_title shop\nsend r WM_USER\nend\n", (
         "stuck: no thread can go on, and none waits for a time",
         "thread 1 waits for a top-level window with the title 'nowhere', and no window was made with it"
         " (its last call: entry 12, line 13 of the log)",
@@ -109,7 +112,8 @@ def illegal(trial):
     for name, place, line, frame, told, number in damages:
         text = script + b"\n".join([*lines[:place], line, *lines[place + 1 :]])
         ran = answered(trial.program, ["check"], text)
-        wanted = f"the first bad place is entry {number}, as charts count{frame}: line {told} of the log, line {head + told} of the input"
+        wanted = f"the first bad place is entry {number}, as charts count{frame}: line {told} of the log"
+        wanted += f", line {head + told} of the input"
         trial.tell(f"illegal: {name}", fault(ran, 6, None, said([wanted])))
     end = log.replace(b"\nsends begun ", b"\nsends begun 1")
     ran = answered(trial.program, ["check"], script + end)
@@ -126,12 +130,14 @@ def objects(trial):
     script = (TOP / "examples/posts.script").read_bytes()
     ran = answered(trial.program, ["threads", "2", "--json"], script)
     lines = [json.loads(line) for line in ran.stdout.splitlines()]
-    trial.tell("threads --json", None if ran.returncode == 0 and lines[-2] == {"end": "done"} and not ran.stderr else f"{ran}")
-    trial.tell("threads --json as a run", None if len(read_run(ran.stdout).entries) == len(lines) - 2 else "it is another one")
+    right = ran.returncode == 0 and lines[-2] == {"end": "done"} and not ran.stderr
+    trial.tell("threads --json", None if right else f"{ran}")
+    right = len(read_run(ran.stdout).entries) == len(lines) - 2
+    trial.tell("threads --json as a run", None if right else "it is another one")
     for words in (["run", "--json"], ["threads", "2", "--json"]):
         ran = answered(trial.program, words, b"user 1\n")
-        why = None if (ran.returncode, ran.stdout) == (3, b'{"line":2,"refused":"end"}\n') and ran.stderr.startswith(b"line 2: ") else f"{ran}"
-        trial.tell(f"no script for {' '.join(words)}", why)
+        right = (ran.returncode, ran.stdout) == (3, b'{"line":2,"refused":"end"}\n') and ran.stderr.startswith(b"line 2: ")
+        trial.tell(f"no script for {' '.join(words)}", None if right else f"{ran}")
 
 
 def streams(trial):
