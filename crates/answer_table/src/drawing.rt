@@ -8,7 +8,7 @@ ghost use Rattle.answer_table.specs.Splits.{read_split};
 use crate::answers::AnswerName;
 use crate::answers::AnswerName::Drawing;
 use crate::split::{SplitAnswer, split_of};
-use call_fields::{Field, Form, Value, count_at, flag_at, pixel_at, region_kind_at, row_of};
+use call_fields::{Field, Form, Value, byte_at, count_at, pixel_at, row_of};
 use user_model::Answer;
 
 /// The forms of these answers.
@@ -34,7 +34,7 @@ pub fn drawing_form(name: DrawingAnswer) -> Form
         DrawingAnswer::Update => row_of(
             b"update",
             &[
-                Field::RegionKind,
+                Field::Byte,
                 Field::Pixel,
                 Field::Pixel,
                 Field::Pixel,
@@ -44,7 +44,7 @@ pub fn drawing_form(name: DrawingAnswer) -> Form
         DrawingAnswer::Painting => row_of(
             b"painting",
             &[
-                Field::Flag,
+                Field::Byte,
                 Field::Pixel,
                 Field::Pixel,
                 Field::Pixel,
@@ -63,17 +63,17 @@ pub fn split_drawing(answer: Answer) -> Option<SplitAnswer>
         Answer::Update { kind, l, t, r, b } => split_of(
             Drawing(DrawingAnswer::Update),
             &[
-                Value::RegionKind(kind),
+                Value::Byte(kind),
                 Value::Pixel(l),
                 Value::Pixel(t),
                 Value::Pixel(r),
                 Value::Pixel(b),
             ],
         ),
-        Answer::Painting { erases, l, t, r, b } => split_of(
+        Answer::Painting { erase, l, t, r, b } => split_of(
             Drawing(DrawingAnswer::Painting),
             &[
-                Value::Flag(erases),
+                Value::Byte(erase),
                 Value::Pixel(l),
                 Value::Pixel(t),
                 Value::Pixel(r),
@@ -91,14 +91,14 @@ pub fn made_drawing(name: DrawingAnswer, values: &[Value]) -> Answer
 {
     match name {
         DrawingAnswer::Update => Answer::Update {
-            kind: region_kind_at(values, 0),
+            kind: byte_at(values, 0),
             l: pixel_at(values, 1),
             t: pixel_at(values, 2),
             r: pixel_at(values, 3),
             b: pixel_at(values, 4),
         },
         DrawingAnswer::Painting => Answer::Painting {
-            erases: flag_at(values, 0),
+            erase: byte_at(values, 0),
             l: pixel_at(values, 1),
             t: pixel_at(values, 2),
             r: pixel_at(values, 3),

@@ -15,7 +15,6 @@ pub fn open<M: Machine + Drop>(
     machine: M,
     threads: u8,
 ) -> anyhow::Result<(Desk<M>, Vec<DeskSeat<M>>)>
-    requires few { threads < 255 }
     requires legal { (length (M.past machine) ≤ 2097152) × IsLawful (M.setup machine) (M.past machine) }
     ensures count { IfOk result (λ r. r.0.seats ≡ threads + 1) }
     ensures seats { IfOk result (λ r. r.1.items ≡ new_seats r.0 (threads + 1)) }

@@ -1,5 +1,5 @@
 -- The values of fields.
-use Rattle.std.specs.Prelude.{ℕ, Bool, true, false, ℤ, pos, List, Option, Some, slice_get}
+use Rattle.std.specs.Prelude.{ℕ, ℤ, pos, List, Option, Some, slice_get}
 use Rattle.win_num.specs.declared.code.Code.{Code}
 use Rattle.win_num.specs.declared.code.Code.TheVariants as codes_of
 use Rattle.win_num.specs.declared.message.Hwnd.{Hwnd}
@@ -14,11 +14,6 @@ use Rattle.call_fields.specs.declared.form.Field.TheVariants as fields
 use Rattle.call_fields.specs.declared.value.Value.{Value}
 use Rattle.call_fields.specs.declared.value.Value.TheVariants as values
 
--- a flag as it is written
-abbrev pub flag_number : Bool → ℕ
-flag_number true = 1
-flag_number false = 0
-
 -- the kind of the field in which a value stands
 abbrev pub field_of : Value → Field
 field_of (values.Number x) = fields.Number
@@ -32,8 +27,7 @@ field_of (values.Thread x) = fields.Thread
 field_of (values.Count x) = fields.Count
 field_of (values.ShortMessage x) = fields.ShortMessage
 field_of (values.Pixel x) = fields.Pixel
-field_of (values.Flag x) = fields.Flag
-field_of (values.RegionKind x) = fields.RegionKind
+field_of (values.Byte x) = fields.Byte
 field_of (values.Source x) = fields.Source
 field_of (values.Cause x) = fields.Cause
 field_of (values.Code x) = fields.Code
@@ -83,13 +77,9 @@ abbrev pub as_pixel : Option Value → ℤ
 as_pixel (Some (values.Pixel x)) = x
 as_pixel v = pos 0
 
-abbrev pub as_flag : Option Value → Bool
-as_flag (Some (values.Flag x)) = x
-as_flag v = false
-
-abbrev pub as_region_kind : Option Value → ℕ
-as_region_kind (Some (values.RegionKind x)) = x
-as_region_kind v = 0
+abbrev pub as_byte : Option Value → ℕ
+as_byte (Some (values.Byte x)) = x
+as_byte v = 0
 
 abbrev pub as_source : Option Value → Origin
 as_source (Some (values.Source x)) = x
@@ -137,11 +127,8 @@ short_message_at vs k = as_short_message (slice_get vs k)
 abbrev pub pixel_at : List Value → ℕ → ℤ
 pixel_at vs k = as_pixel (slice_get vs k)
 
-abbrev pub flag_at : List Value → ℕ → Bool
-flag_at vs k = as_flag (slice_get vs k)
-
-abbrev pub region_kind_at : List Value → ℕ → ℕ
-region_kind_at vs k = as_region_kind (slice_get vs k)
+abbrev pub byte_at : List Value → ℕ → ℕ
+byte_at vs k = as_byte (slice_get vs k)
 
 abbrev pub source_at : List Value → ℕ → Origin
 source_at vs k = as_source (slice_get vs k)

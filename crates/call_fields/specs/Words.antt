@@ -21,6 +21,7 @@ cause_word causes.Proc = codes "proc"
 cause_word causes.Reply = codes "reply"
 cause_word causes.Loss = codes "loss"
 cause_word causes.Timeout = codes "timeout"
+cause_word causes.Hung = codes "hung"
 
 -- the word of a code that is no number of Windows
 abbrev pub code_word : Code → Option (List ℕ)

@@ -28,10 +28,8 @@ pub enum Field {
     ShortMessage,
     /// A place on the screen in pixels, of 32 bits with its sign.
     Pixel,
-    /// Yes or no, written as 1 or 0.
-    Flag,
-    /// Which kind of region, of 8 bits.
-    RegionKind,
+    /// A number of 8 bits: which kind of region, or whether the background is to be erased.
+    Byte,
     /// Where a message came from.
     Source,
     /// How a send came to its answer.

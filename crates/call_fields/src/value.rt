@@ -1,7 +1,7 @@
 //! The values of fields.
 
 ghost use Rattle.std.specs.Prelude.{◌≡◌, ◌≤◌, length};
-ghost use Rattle.call_fields.specs.Values.{field_of, number_at, message_at, signed_at, name_at, procedure_at, window_at, send_at, thread_at, count_at, short_message_at, pixel_at, flag_at, region_kind_at, source_at, cause_at, code_at};
+ghost use Rattle.call_fields.specs.Values.{field_of, number_at, message_at, signed_at, name_at, procedure_at, window_at, send_at, thread_at, count_at, short_message_at, pixel_at, byte_at, source_at, cause_at, code_at};
 
 use crate::form::Field;
 use arrayvec::ArrayVec;
@@ -36,10 +36,8 @@ pub enum Value {
     ShortMessage(u32),
     /// A place on the screen in pixels, of 32 bits with its sign.
     Pixel(i32),
-    /// Yes or no, written as 1 or 0.
-    Flag(bool),
-    /// Which kind of region, of 8 bits.
-    RegionKind(u8),
+    /// A number of 8 bits: which kind of region, or whether the background is to be erased.
+    Byte(u8),
     /// Where a message came from.
     Source(Origin),
     /// How a send came to its answer.
@@ -73,8 +71,7 @@ pub fn field_of(value: Value) -> Field
         Value::Count(_) => Field::Count,
         Value::ShortMessage(_) => Field::ShortMessage,
         Value::Pixel(_) => Field::Pixel,
-        Value::Flag(_) => Field::Flag,
-        Value::RegionKind(_) => Field::RegionKind,
+        Value::Byte(_) => Field::Byte,
         Value::Source(_) => Field::Source,
         Value::Cause(_) => Field::Cause,
         Value::Code(_) => Field::Code,
@@ -201,22 +198,12 @@ pub fn pixel_at(values: &[Value], place: usize) -> i32
     }
 }
 
-/// The value at a place, from 0, where it is of this kind; else false.
-pub fn flag_at(values: &[Value], place: usize) -> bool
-    ensures { result ≡ flag_at values.now place }
-{
-    match values.get(place) {
-        Some(Value::Flag(value)) => *value,
-        _ => false,
-    }
-}
-
 /// The value at a place, from 0, where it is of this kind; else 0.
-pub fn region_kind_at(values: &[Value], place: usize) -> u8
-    ensures { result ≡ region_kind_at values.now place }
+pub fn byte_at(values: &[Value], place: usize) -> u8
+    ensures { result ≡ byte_at values.now place }
 {
     match values.get(place) {
-        Some(Value::RegionKind(value)) => *value,
+        Some(Value::Byte(value)) => *value,
         _ => 0,
     }
 }

@@ -28,6 +28,7 @@ pub fn cause_word(cause: Cause) -> &'static [u8]
         Cause::Reply => b"reply",
         Cause::Loss => b"loss",
         Cause::Timeout => b"timeout",
+        Cause::Hung => b"hung",
     }
 }
 

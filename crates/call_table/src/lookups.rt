@@ -18,16 +18,20 @@ pub enum LookupCall {
     Find,
     AwaitTitle,
     NextTop,
+    ChildAfter,
+    StyleOf,
     WindowAt,
     IsWindow,
     Parent,
 }
 
 /// These calls.
-pub static LOOKUP_CALLS: [CallName; 6] = [
+pub static LOOKUP_CALLS: [CallName; 8] = [
     Lookup(LookupCall::Find),
     Lookup(LookupCall::AwaitTitle),
     Lookup(LookupCall::NextTop),
+    Lookup(LookupCall::ChildAfter),
+    Lookup(LookupCall::StyleOf),
     Lookup(LookupCall::WindowAt),
     Lookup(LookupCall::IsWindow),
     Lookup(LookupCall::Parent),
@@ -41,6 +45,8 @@ pub fn lookup_form(name: LookupCall) -> Form
         LookupCall::Find => row_of(b"find", &[Name]),
         LookupCall::AwaitTitle => row_of(b"await_title", &[Name]),
         LookupCall::NextTop => row_of(b"next_top", &[Number]),
+        LookupCall::ChildAfter => row_of(b"child_after", &[Number, Number]),
+        LookupCall::StyleOf => row_of(b"style_of", &[Number]),
         LookupCall::WindowAt => row_of(b"window_at", &[Signed, Signed]),
         LookupCall::IsWindow => row_of(b"is_window", &[Number]),
         LookupCall::Parent => row_of(b"parent", &[Number]),
@@ -55,6 +61,10 @@ pub fn split_lookup(call: Call) -> Option<SplitCall>
         Call::Find(title) => split_of(Lookup(LookupCall::Find), &[Value::Name(title)]),
         Call::AwaitTitle(title) => split_of(Lookup(LookupCall::AwaitTitle), &[Value::Name(title)]),
         Call::NextTop(window) => split_numbers(Lookup(LookupCall::NextTop), &[window]),
+        Call::ChildAfter(window, child) => {
+            split_numbers(Lookup(LookupCall::ChildAfter), &[window, child])
+        }
+        Call::StyleOf(window) => split_numbers(Lookup(LookupCall::StyleOf), &[window]),
         Call::WindowAt(x, y) => split_of(
             Lookup(LookupCall::WindowAt),
             &[Value::Signed(x), Value::Signed(y)],
@@ -74,6 +84,8 @@ pub fn made_lookup(name: LookupCall, values: &[Value]) -> Call
         LookupCall::Find => Call::Find(name_at(values, 0)),
         LookupCall::AwaitTitle => Call::AwaitTitle(name_at(values, 0)),
         LookupCall::NextTop => Call::NextTop(numbers[0]),
+        LookupCall::ChildAfter => Call::ChildAfter(numbers[0], numbers[1]),
+        LookupCall::StyleOf => Call::StyleOf(numbers[0]),
         LookupCall::WindowAt => Call::WindowAt(signed_at(values, 0), signed_at(values, 1)),
         LookupCall::IsWindow => Call::IsWindow(numbers[0]),
         LookupCall::Parent => Call::Parent(numbers[0]),

@@ -550,7 +550,7 @@ static PAINTS: [Case; 5] = [
         &[
             (
                 Answered(Answer::Painting {
-                    erases: true,
+                    erase: 1,
                     l: 0,
                     t: 0,
                     r: 0,
@@ -566,7 +566,7 @@ static PAINTS: [Case; 5] = [
         Make(Call::BeginPaint(16)),
         &[(
             Answered(Answer::Painting {
-                erases: false,
+                erase: 0,
                 l: 0,
                 t: 0,
                 r: 0,

@@ -1,7 +1,7 @@
 -- Which layer answers a call.
 use Rattle.std.specs.Prelude.{Bool, true, false}
 use Rattle.user_model.specs.declared.call.Call.{Call}
-use Rattle.user_model.specs.declared.call.Call.TheVariants.{Peek, Get, Status as StatusCall, Post, PostThread, PostQuit, Dispatch, Send, SendTimeout, SendNotify, SendCallback, Await, Leave, Reply, InSend, Message, Translate, Register, Unregister, NewWindow, Doom, Unmake, Drop, Place, Show, Enable, Find, AwaitTitle, NextTop, WindowAt, IsWindow, Parent, SetFocus, SetActive, SetCapture, ReleaseCapture, GetFocus, GetActive, GetCapture, Attach, Detach, Mouse, Key, KeyState, BeginDialog, DialogState, EndDialog, Invalidate, Validate, UpdateRect, BeginPaint, EndPaint, Fill, Erase, Snap, SetTimer, KillTimer, EndThread, Clock, SleepUntil, Yield, Tick, Advance}
+use Rattle.user_model.specs.declared.call.Call.TheVariants.{Peek, Get, Status as StatusCall, Post, PostThread, PostQuit, Dispatch, Send, SendTimeout, SendNotify, SendCallback, Await, Leave, Reply, InSend, Message, Translate, Register, Unregister, NewWindow, Doom, Unmake, Drop, Place, Show, Enable, Find, AwaitTitle, NextTop, ChildAfter, StyleOf, WindowAt, IsWindow, Parent, SetFocus, SetActive, SetCapture, ReleaseCapture, GetFocus, GetActive, GetCapture, Attach, Detach, Mouse, Key, KeyState, BeginDialog, DialogState, EndDialog, Invalidate, Validate, UpdateRect, BeginPaint, EndPaint, Fill, Erase, Snap, SetTimer, KillTimer, EndThread, Clock, SleepUntil, Yield, Tick, Advance}
 use Rattle.core_deliver.specs.declared.groups.Group.{Group}
 use Rattle.core_deliver.specs.declared.groups.Group.TheVariants.{Retrieval, Status, Delivery, Window, Drawing, Other}
 
@@ -37,6 +37,8 @@ group_of (Enable w on) = Window
 group_of (Find title) = Window
 group_of (AwaitTitle title) = Window
 group_of (NextTop w) = Window
+group_of (ChildAfter w v) = Window
+group_of (StyleOf w) = Window
 group_of (WindowAt x y) = Window
 group_of (IsWindow w) = Window
 group_of (Parent w) = Window

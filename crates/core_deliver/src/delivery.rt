@@ -20,7 +20,7 @@ use crate::codes::{INVALID_PARAMETER, INVALID_THREAD_ID, INVALID_WINDOW_HANDLE, 
 use core_state::CoreState;
 use post_queue::Steps;
 use std::sync::ledger::Ledger;
-use user_model::{Answer, Call, Origin, QUEUE_LIMIT};
+use user_model::{Answer, Call, Origin};
 use win_num::{Code, Filter, Hwnd, Msg, names};
 
 /// The greatest number of a message.
@@ -274,9 +274,9 @@ fn post_to(state: &CoreState, to: u64) -> Answer
     requires room { is_full state.now.past ≡ false }
     requires some { 0 < to }
     requires known { to ≤ state.now.setup.threads }
-    ensures { result ≡ post_to state.now.past to }
+    ensures { result ≡ post_to state.now.setup state.now.past to }
 {
-    if state.queue_len(to) as usize >= QUEUE_LIMIT {
+    if state.queue_len(to) as usize >= state.post_limit(to) {
         return Answer::Refused(NOT_ENOUGH_QUOTA);
     }
     Answer::Posted(state.next_post_number())
@@ -287,7 +287,7 @@ pub fn post_answer(state: &CoreState, who: u8, w: u64, number: u64) -> Answer
     requires room { is_full state.now.past ≡ false }
     requires some { 0 < who }
     requires known { who ≤ state.now.setup.threads }
-    ensures { result ≡ post_reply state.now.past who w number }
+    ensures { result ≡ post_reply state.now.setup state.now.past who w number }
 {
     if number > LAST_MESSAGE {
         return Answer::Refused(INVALID_PARAMETER);
@@ -300,7 +300,7 @@ fn post_to_window(state: &CoreState, who: u8, w: u64) -> Answer
     requires room { is_full state.now.past ≡ false }
     requires some { 0 < who }
     requires known { who ≤ state.now.setup.threads }
-    ensures { result ≡ refuse (is_no_post_window state.now.past w) invalid_window_handle (post_to state.now.past (queue_of state.now.past who w)) }
+    ensures { result ≡ refuse (is_no_post_window state.now.past w) invalid_window_handle (post_to state.now.setup state.now.past (queue_of state.now.past who w)) }
 {
     if w == 0 {
         return post_to(state, u64::from(who));
@@ -323,7 +323,7 @@ pub fn translate_answer(state: &CoreState, who: u8, w: u64, number: u64, key: u6
     requires room { is_full state.now.past ≡ false }
     requires some { 0 < who }
     requires known { who ≤ state.now.setup.threads }
-    ensures { result ≡ translate_reply state.now.past who w number key }
+    ensures { result ≡ translate_reply state.now.setup state.now.past who w number key }
 {
     if number == u64::from(names::WM_KEYDOWN) && has_character(key) {
         return post_to_window(state, who, w);

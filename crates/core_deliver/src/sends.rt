@@ -4,6 +4,7 @@ ghost use Rattle.std.specs.Prelude.{◌≡◌, ◌<◌, ◌≤◌, Some, false};
 ghost use Rattle.core_state.specs.Frames.{IsOnTop};
 ghost use Rattle.user_model.specs.Past.{is_full};
 ghost use Rattle.user_model.specs.ReplySends.{await_reply, dispatch_reply, has_come, in_send_reply, kind_number, leave_reply, other_send, reply_reply, send_if_room, send_other_reply, send_reply, send_timeout_reply, served, waiting_send};
+ghost use Rattle.user_model.specs.Refusals.{has_beyond};
 ghost use Rattle.user_model.specs.Replies.{is_barred_by};
 ghost use Rattle.user_model.specs.Stacks.{top};
 ghost use Rattle.user_model.specs.declared.call.Call.TheVariants.{Await as AwaitCall};
@@ -18,9 +19,6 @@ const LAST_MESSAGE: u64 = 65535;
 
 /// The greatest time in milliseconds.
 const LAST_TIME: u64 = 4294967295;
-
-/// The bits of a timeout send's flags.
-const LAST_FLAG: u64 = 1;
 
 /// What `in_send` adds where the send has an answer (Microsoft, InSendMessageEx function, ISMEX_REPLIED).
 const REPLIED: u64 = 8;
@@ -94,6 +92,13 @@ pub fn send_answer(state: &CoreState, who: u8, w: u64, number: u64) -> Answer
     waiting_send(state, who, w)
 }
 
+/// Whether a flag is none of these.
+fn has_beyond(flags: u64, allowed: u8) -> bool
+    ensures { result ≡ has_beyond flags allowed }
+{
+    flags & u64::from(allowed) != flags
+}
+
 /// The answer of a send that waits for a time.
 pub fn send_timeout_answer(
     state: &CoreState,
@@ -106,9 +111,9 @@ pub fn send_timeout_answer(
     requires room { is_full state.now.past ≡ false }
     requires some { 0 < who }
     requires known { who ≤ state.now.setup.threads }
-    ensures { result ≡ send_timeout_reply state.now.past who w number flags ms }
+    ensures { result ≡ send_timeout_reply state.now.setup state.now.past who w number flags ms }
 {
-    if number > LAST_MESSAGE || flags > LAST_FLAG || ms > LAST_TIME {
+    if number > LAST_MESSAGE || has_beyond(flags, state.timeout_flags()) || ms > LAST_TIME {
         return Answer::Refused(INVALID_PARAMETER);
     }
     waiting_send(state, who, w)

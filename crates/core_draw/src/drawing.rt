@@ -60,7 +60,7 @@ pub fn begin_paint_answer(state: &CoreState, who: u8, w: u64) -> Answer
     }
     let update = state.update_box(w);
     Answer::Painting {
-        erases: state.erases(w),
+        erase: u8::from(state.erases(w)),
         l: update.l,
         t: update.t,
         r: update.r,

@@ -99,6 +99,13 @@ fn tell_posts(rt: &impl Print, state: &CoreState) -> anyhow::Result<()>
 {
     pair(
         rt,
+        "post_limit",
+        &state.post_limit(2),
+        "timeout_flags",
+        &state.timeout_flags(),
+    )?;
+    pair(
+        rt,
         "queue_len",
         &state.queue_len(2),
         "first_post",

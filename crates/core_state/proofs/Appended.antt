@@ -82,7 +82,7 @@ adding_by : (setup : Setup) (past : Past) (p : Parts) (shift : Bool) (who : Thre
 adding_by setup past p shift who (answers.Posted k) call st down right =
     let row = by_row setup past who.0 call (answers.Posted k) (sym right) refl in
     let post = post_told setup past who.0 call k row.is_row in
-    (fits_post setup past p.tree.live shift who.0 k call post st.tree.windows (down row.running), fits_posting setup past p.threads p.tree.live p.time p.cursor shift who.0 k call post st.lawful st.count st.each row.running st.tree.windows st.clock st.cursor (down row.running))
+    (fits_post setup past p.tree.live shift who.0 k call post st.tree.windows (down row.running), fits_posting setup past p.threads p.tree.live p.time p.cursor shift who.0 k call post st.ready st.lawful st.count st.each row.running st.tree.windows st.clock st.cursor (down row.running))
 adding_by setup past p shift who (answers.Value n) call st down right = subst (λ (t : ClassTable). FitsNaming t call) (sym st.classes) (fits_naming setup past who.0 n call (sym right))
 adding_by setup past p shift who (answers.Window w) call st down right = fits_making setup past p.tree who w call st.lawful st.tree (sym right)
 adding_by setup past p shift who _ call st down right = tt
@@ -179,7 +179,7 @@ sends_now setup past p e place lawful st here =
 pub sends_grow : (setup : Setup) (past : Past) (p : Parts) (e : Entry) (place : ℕ) → is_full past ≡ false → Stands setup past p → e.answer ≡ reply setup past e.who.0 e.call → place ≡ place_after past → FitsAddedSends p.tree.live p.time place e.who e.answer e.call p.sends
 sends_grow setup past p e place room st right here =
     subst (λ n. FitsAddedSends p.tree.live p.time n e.who e.answer e.call p.sends) (sym here)
-    (subst (λ c. FitsAddedSends p.tree.live c (place_after past) e.who e.answer e.call p.sends) (sym st.clock) (grown_fits setup past e p.sends p.tree.live st.lawful room right st.sends st.tree.windows))
+    (subst (λ c. FitsAddedSends p.tree.live c (place_after past) e.who e.answer e.call p.sends) (sym st.clock) (grown_fits setup past e p.sends p.tree.live st.ready st.lawful room right st.sends st.tree.windows))
 
 same_needs : (old new : Windows) (place who : ℕ) (a : Answer) (call : Call) (q : SendParts) → IsAddedBy who a call old new → FitsSendEffect old.live place who a call q → FitsSendEffect new.live place who a call q
 same_needs old new place who (answers.Window w) call q made fits = fits

@@ -30,6 +30,8 @@ use Rattle.user_model.specs.Posts.{PostedMsg, message, posted, passes, first_pos
 use Rattle.user_model.proofs.AnswerFacts.{IsPost}
 use Rattle.user_model.specs.ReplyDelivery.{is_no_post_window}
 use Rattle.user_model.specs.Legal.{IsLawful}
+use Rattle.user_model.specs.Setups.{IsSetup, post_limit}
+use Rattle.user_model.proofs.SetupLaws.{few_posts}
 use Rattle.user_model.proofs.ReplyLaws.{not_false}
 use Rattle.user_model.proofs.PostOwners.{message_of, post_runs}
 use Rattle.window_state.specs.Trees.{as_made}
@@ -147,13 +149,14 @@ pub running_is_one : (setup : Setup) (past : Past) (threads : List ThreadView) (
 running_is_one setup past threads t count e = record { some = grind (arith, nat_tests, e); known = grind (arith, nat_tests, e, count) }
 
 -- the queue of the thread has room, and its numbers are below the next
-pub post_has_room : (setup : Setup) (past : Past) (threads : List ThreadView) (who k : ℕ) (call : Call) (p : IsPost setup past who call k) → IsLawful setup past → length threads ≡ setup.threads → EachThread past threads → is_running setup past who ≡ true → HasRoom threads p.to k
-post_has_room setup past threads who k call p lawful count each running =
+pub post_has_room : (setup : Setup) (past : Past) (threads : List ThreadView) (who k : ℕ) (call : Call) (p : IsPost setup past who call k) → IsSetup setup → IsLawful setup past → length threads ≡ setup.threads → EachThread past threads → is_running setup past who ≡ true → HasRoom threads p.to k
+post_has_room setup past threads who k call p ready lawful count each running =
     let one = running_is_one setup past threads p.to count (post_runs setup past who call k p lawful running) in
     let within : p.to - 1 < length threads = omega (arith, one.some, one.known) in
     let place : p.to - 1 + 1 ≡ p.to = omega (arith, one.some) in
     let is : (d : ThreadView) → slice_index_or threads (p.to - 1) d ≡ thread_at past p.to = λ d. each.at (p.to - 1) d within ∙ ap (thread_at past) place in
-    let few : length (posted past p.to) < 10000 = grind (arith, nat_tests, p.short) in
+    let limit : post_limit setup p.to ≤ 10000 = few_posts setup p.to ready in
+    let few : length (posted past p.to) < 10000 = grind (arith, nat_tests, p.short, limit) in
     let short : length (queue_at past p.to).posted < 10000 = omega (arith, few, queue_length past p.to) in
     record {
       is_one = one;
@@ -162,9 +165,9 @@ post_has_room setup past threads who k call p lawful count each running =
     }
 
 -- the change of a post can be made
-pub fits_posting : (setup : Setup) (past : Past) (threads : List ThreadView) (ws : List KeptWindow) (time : ℕ) (point : Point) (shift : Bool) (who k : ℕ) (call : Call) (p : IsPost setup past who call k) → IsLawful setup past → length threads ≡ setup.threads → EachThread past threads → is_running setup past who ≡ true → map as_made ws ≡ live past → time ≡ clock past → point ≡ cursor past → posting_of shift call ≡ posting_of (is_shift_down past who) call → FitsPosting threads k (posting ws time point shift who call)
-fits_posting setup past threads ws time point shift who k call p lawful count each running e now at down =
-    subst (FitsPosting threads k) (sym (posting-is setup past ws time point shift who k call p e now at down)) (post_has_room setup past threads who k call p lawful count each running)
+pub fits_posting : (setup : Setup) (past : Past) (threads : List ThreadView) (ws : List KeptWindow) (time : ℕ) (point : Point) (shift : Bool) (who k : ℕ) (call : Call) (p : IsPost setup past who call k) → IsSetup setup → IsLawful setup past → length threads ≡ setup.threads → EachThread past threads → is_running setup past who ≡ true → map as_made ws ≡ live past → time ≡ clock past → point ≡ cursor past → posting_of shift call ≡ posting_of (is_shift_down past who) call → FitsPosting threads k (posting ws time point shift who call)
+fits_posting setup past threads ws time point shift who k call p ready lawful count each running e now at down =
+    subst (FitsPosting threads k) (sym (posting-is setup past ws time point shift who k call p e now at down)) (post_has_room setup past threads who k call p ready lawful count each running)
 
 small_number : (m : ℕ) → is_no_message m ≡ false → m ≤ 65535
 small_number m h = grind (arith, nat_tests, h)

@@ -33,12 +33,12 @@ display_step setup past t z c e old drawn new o lawful tree order classes right 
     pick false h = follows h past new (subst (λ (k : Shown). IsShown o k new) (same h) shown) lawful tree order right at
 
 -- a call that draws is answered by ok, that painting was begun, or the number of a frame
-pub no_draws : (call : Call) (a : Answer) → (a ≡ answers.Okay → ⊥) → ((erases : Bool) (l t r b : ℤ) → a ≡ answers.Painting erases l t r b → ⊥) → ((k : ℕ) → a ≡ answers.Snap k → ⊥) → draws call a ≡ true → ⊥
+pub no_draws : (call : Call) (a : Answer) → (a ≡ answers.Okay → ⊥) → ((erase : ℕ) (l t r b : ℤ) → a ≡ answers.Painting erase l t r b → ⊥) → ((k : ℕ) → a ≡ answers.Snap k → ⊥) → draws call a ≡ true → ⊥
 no_draws (Invalidate w l t r b erase) answers.Okay okay painting snap drawn = okay refl
 no_draws (Validate w l t r b) answers.Okay okay painting snap drawn = okay refl
 no_draws (EndPaint w) answers.Okay okay painting snap drawn = okay refl
 no_draws (Fill w l t r b colour) answers.Okay okay painting snap drawn = okay refl
 no_draws (Erase w) answers.Okay okay painting snap drawn = okay refl
-no_draws (BeginPaint w) (answers.Painting erases l t r b) okay painting snap drawn = painting erases l t r b refl
+no_draws (BeginPaint w) (answers.Painting erase l t r b) okay painting snap drawn = painting erase l t r b refl
 no_draws Snap (answers.Snap k) okay painting snap drawn = snap k refl
 no_draws _ _ okay painting snap drawn = false≢true drawn

@@ -42,7 +42,7 @@ no_parts_stand setup is = record {
     threads = length-replicate setup.threads [];
     ready = λ t ours. ap (each item) (no_items setup.threads (t - 1));
     below = λ t. subst (AreBelow (rank 0 0)) (sym (no_items setup.threads (t - 1))) tt;
-    sound = sound-new setup.threads is.some_thread is.few_threads;
+    sound = sound-new setup.threads is.size.some_thread is.size.few_threads;
   };
 }
 

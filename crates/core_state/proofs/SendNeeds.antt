@@ -1,10 +1,11 @@
 -- What the change of an entry needs of the sends holds where the entry is the reply.
 use Rattle.std.proofs.Common.{◌≡◌, ◌≢◌, ℕ, suc, ◌+◌, ◌<◌, ◌≤◌, Bool, true, false, not, cond, eqb, List, [], ◌∷◌, length, map, Option, Some, None, refl, ap, ◌∙◌, sym, subst, inl, inr, arith}
-use Rattle.std.specs.Prelude.{◌||◌, ◌&&◌, find, is_none, is_some, IsSome, nat_lt, nat_le, option_map, unwrap_or}
+use Rattle.std.specs.Prelude.{◌||◌, ◌&&◌, bit_and, find, is_none, is_some, IsSome, nat_lt, nat_le, option_map, unwrap_or}
 use Rattle.std.specs.List.{AllByRecursion}
 use Rattle.std.specs.FinMap as finite
 use Rattle.std.proofs.lemmas.Bool.{false≢true, eqb-true, ne_eqb, or_parts}
 use Rattle.std.proofs.lemmas.Bool.Decides.{nat_tests}
+use Rattle.std.proofs.lemmas.Nat.{and_le_r}
 use Rattle.win_num.specs.declared.code.Code.TheVariants.{Win, Full}
 use Rattle.win_num.specs.declared.message.Hwnd.{Hwnd}
 use Rattle.win_num.specs.declared.message.Thread.{Thread}
@@ -26,14 +27,15 @@ use Rattle.user_model.specs.Windows.{Window, is_live, live, thread_of}
 use Rattle.user_model.specs.Stacks.{has_room, stack, top, waits}
 use Rattle.user_model.specs.Sends.{SentMsg, Outcome, answer, is_answered, is_callback_kind, is_entered, is_owed, is_unfinished, names_send, send, sends, was_called_back}
 use Rattle.user_model.specs.Ready.{ReadyMsg, to_enter, to_call_back, ready, ready_head}
-use Rattle.user_model.specs.Refusals.{invalid_parameter, is_no_message}
+use Rattle.user_model.specs.Refusals.{has_beyond, invalid_parameter, is_no_message}
+use Rattle.user_model.specs.Setups.{IsSetup}
 use Rattle.user_model.specs.ReplySends.{other_send, waiting_send}
 use Rattle.user_model.specs.Replies.{row}
 use Rattle.user_model.specs.Threads.{is_running}
 use Rattle.user_model.specs.Idle.{reply}
 use Rattle.user_model.specs.Legal.{IsLawful}
 use Rattle.user_model.proofs.ListLaws.{all_weaker}
-use Rattle.user_model.proofs.ReplyLaws.{ByRow, by_call, not_refused}
+use Rattle.user_model.proofs.ReplyLaws.{ByRow, by_call, not_false, not_refused}
 use Rattle.user_model.proofs.SendReplies.{Tells, entry_told, is_of_sends}
 use Rattle.user_model.specs.Deeds.{SendParts as CallParts, parts, parts_of}
 use Rattle.user_model.proofs.AnswerFacts.{IsCalled, IsEntry, IsInside, IsMade}
@@ -70,19 +72,28 @@ small m h = grind (arith, nat_tests, h)
 at_most : (n m : ℕ) → nat_lt n m ≡ false → m ≤ n
 at_most n m h = grind (arith, nat_tests, h)
 
+-- flags that the setup has
+flags_fit : (setup : Setup) (flags : ℕ) → IsSetup setup → has_beyond flags setup.smto ≡ false → flags ≤ 11
+flags_fit setup flags ready h =
+    let same : bit_and flags setup.smto ≡ flags = eqb-true (bit_and flags setup.smto) flags (not_false (eqb (bit_and flags setup.smto) flags) h) in
+    let within = and_le_r flags setup.smto in
+    let one = ready.flags in
+    omega (arith, same, within, one)
+
 -- the window of a send that is made is live, and its numbers fit
-fits_call : (setup : Setup) (past : Past) (ws : List KeptWindow) (who : ℕ) (a : Answer) (call : Call) → map as_made ws ≡ live past → is_refusal a ≡ false → row setup past who call ≡ a → ((of : CallParts) → parts_of call ≡ Some of → is_live past of.hwnd ≡ true) → FitsSending ws call
-fits_call setup past ws who a (calls.Send w m p q) at fine is lives =
+fits_call : (setup : Setup) → IsSetup setup → (past : Past) (ws : List KeptWindow) (who : ℕ) (a : Answer) (call : Call) → map as_made ws ≡ live past → is_refusal a ≡ false → row setup past who call ≡ a → ((of : CallParts) → parts_of call ≡ Some of → is_live past of.hwnd ≡ true) → FitsSending ws call
+fits_call setup ready past ws who a (calls.Send w m p q) at fine is lives =
     (is_live-is past ws w at ∙ lives (parts w m p q WaitKind) refl, small m (not_refused (is_no_message m) invalid_parameter (waiting_send past who w) a fine is).0)
-fits_call setup past ws who a (calls.SendTimeout w m p q flags ms) at fine is lives =
-    let both = or_parts (is_no_message m) (nat_lt 1 flags || nat_lt 4294967295 ms) (not_refused (is_no_message m || (nat_lt 1 flags || nat_lt 4294967295 ms)) invalid_parameter (waiting_send past who w) a fine is).0 in
-    let two = or_parts (nat_lt 1 flags) (nat_lt 4294967295 ms) both.1 in
-    (is_live-is past ws w at ∙ lives (parts w m p q (WithTimeout flags ms)) refl, small m both.0, at_most 1 flags two.0, at_most 4294967295 ms two.1)
-fits_call setup past ws who a (calls.SendNotify w m p q) at fine is lives =
+fits_call setup ready past ws who a (calls.SendTimeout w m p q flags ms) at fine is lives =
+    let beyond = has_beyond flags setup.smto in
+    let both = or_parts (is_no_message m) (beyond || nat_lt 4294967295 ms) (not_refused (is_no_message m || (beyond || nat_lt 4294967295 ms)) invalid_parameter (waiting_send past who w) a fine is).0 in
+    let two = or_parts beyond (nat_lt 4294967295 ms) both.1 in
+    (is_live-is past ws w at ∙ lives (parts w m p q (WithTimeout flags ms)) refl, small m both.0, flags_fit setup flags ready two.0, at_most 4294967295 ms two.1)
+fits_call setup ready past ws who a (calls.SendNotify w m p q) at fine is lives =
     (is_live-is past ws w at ∙ lives (parts w m p q Notify) refl, small m (not_refused (is_no_message m) invalid_parameter (other_send past who w) a fine is).0)
-fits_call setup past ws who a (calls.SendCallback w m p q n extra) at fine is lives =
+fits_call setup ready past ws who a (calls.SendCallback w m p q n extra) at fine is lives =
     (is_live-is past ws w at ∙ lives (parts w m p q (WithCallback n extra)) refl, small m (not_refused (is_no_message m) invalid_parameter (other_send past who w) a fine is).0)
-fits_call setup past ws who a _ at fine is lives = tt
+fits_call setup ready past ws who a _ at fine is lives = tt
 
 waits_by_kind : (call : Call) (of : CallParts) → parts_of call ≡ Some of → waits call ≡ is_waiting of.kind
 waits_by_kind (calls.Send w m p q) of h = let k : parts w m p q WaitKind ≡ of = cc in ap (λ (o : CallParts). is_waiting o.kind) k
@@ -164,24 +175,24 @@ module _ (setup : Setup) (past : Past) (p : SendParts) (ws : List KeptWindow) (w
       let same : m.of ≡ of = cc in
       ap (λ (o : CallParts). is_live past o.hwnd) (sym same) ∙ m.lives
 
-  grown_by : (a : Answer) (call : Call) → a ≡ reply setup past who.0 call → FitsAddedSends ws (clock past) (place_after past) who a call p
-  grown_by (answers.Begun s) call right =
+  grown_by : IsSetup setup → (a : Answer) (call : Call) → a ≡ reply setup past who.0 call → FitsAddedSends ws (clock past) (place_after past) who a call p
+  grown_by ready (answers.Begun s) call right =
       let told = entry_told setup past who.0 call (answers.Begun s) (sym right) refl in
       let m : IsMade past who.0 call s.0 false = told.1 in (
-        fits_call setup past ws who.0 (answers.Begun s) call at refl told.0.is_row (made_live call s.0 false m),
+        fits_call setup ready past ws who.0 (answers.Begun s) call at refl told.0.is_row (made_live call s.0 false m),
         subst (FitsOption p (place_after past)) (sym (sending_is past ws who s.0 false call m.of at m.is_call)) (fits_row call s.0 false told.0.running m),
       )
-  grown_by (answers.Inside s n) call right =
+  grown_by ready (answers.Inside s n) call right =
       let told = entry_told setup past who.0 call (answers.Inside s n) (sym right) refl in
       let i : IsInside past who.0 call s.0 n = told.1 in (
-        fits_call setup past ws who.0 (answers.Inside s n) call at refl told.0.is_row (made_live call s.0 true i.made),
+        fits_call setup ready past ws who.0 (answers.Inside s n) call at refl told.0.is_row (made_live call s.0 true i.made),
         subst (FitsOption p (place_after past)) (sym (sending_is past ws who s.0 true call i.made.of at i.made.is_call)) (fits_row call s.0 true told.0.running i.made),
       )
-  grown_by _ call right = tt
+  grown_by ready _ call right = tt
 
 -- what a send that is made needs
-pub grown_fits : (setup : Setup) (past : Past) (e : Entry) (p : SendParts) (ws : List KeptWindow) → IsLawful setup past → is_full past ≡ false → e.answer ≡ reply setup past e.who.0 e.call → PartsStand setup past p → map as_made ws ≡ live past → FitsAddedSends ws (clock past) (place_after past) e.who e.answer e.call p
-grown_fits setup past e p ws lawful room right h at = grown_by setup past p ws e.who lawful room h at e.answer e.call right
+pub grown_fits : (setup : Setup) (past : Past) (e : Entry) (p : SendParts) (ws : List KeptWindow) → IsSetup setup → IsLawful setup past → is_full past ≡ false → e.answer ≡ reply setup past e.who.0 e.call → PartsStand setup past p → map as_made ws ≡ live past → FitsAddedSends ws (clock past) (place_after past) e.who e.answer e.call p
+grown_fits setup past e p ws ready lawful room right h at = grown_by setup past p ws e.who lawful room h at ready e.answer e.call right
 
 -- ---- what is run, left and replied to
 

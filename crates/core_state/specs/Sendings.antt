@@ -40,7 +40,7 @@ sending ws time who call = row_with ws time who (parts_of call)
 -- the window is live, and its message's number is one
 abbrev pub FitsSending : List Window → Call → Type 0
 FitsSending ws (Send w number wparam lparam) = (is_live ws w ≡ true) × (number ≤ 65535)
-FitsSending ws (SendTimeout w number wparam lparam flags ms) = (is_live ws w ≡ true) × (number ≤ 65535) × (flags ≤ 1) × (ms ≤ 4294967295)
+FitsSending ws (SendTimeout w number wparam lparam flags ms) = (is_live ws w ≡ true) × (number ≤ 65535) × (flags ≤ 11) × (ms ≤ 4294967295)
 FitsSending ws (SendNotify w number wparam lparam) = (is_live ws w ≡ true) × (number ≤ 65535)
 FitsSending ws (SendCallback w number wparam lparam proc_no extra) = (is_live ws w ≡ true) × (number ≤ 65535)
 FitsSending ws _ = Unit {0}

@@ -7,8 +7,8 @@ ghost use Rattle.user_model.specs.Past.{is_full};
 ghost use Rattle.user_model.specs.Places.{clock, cursor, has_ended};
 ghost use Rattle.user_model.specs.Posts.{first_post, passes, posted, quit};
 ghost use Rattle.user_model.specs.ReplyDelivery.{next_post_number};
-ghost use Rattle.user_model.specs.ReplyWindows.{changes_told, next_window, next_top_reply};
-ghost use Rattle.user_model.specs.Setups.{IsSetup};
+ghost use Rattle.user_model.specs.ReplyWindows.{changes_told, child_told, next_window, next_top_reply};
+ghost use Rattle.user_model.specs.Setups.{IsSetup, post_limit};
 ghost use Rattle.user_model.specs.Threads.{is_running, is_thread};
 ghost use Rattle.user_model.specs.Stacks.{has_room, top};
 ghost use Rattle.user_model.specs.Sends.{SentMsg, answer, send, unfinished};
@@ -19,8 +19,8 @@ ghost use Rattle.send_state.specs.Standing.{as_told, row_of};
 ghost use Rattle.user_model.specs.Stories.{send_story};
 ghost use Rattle.core_state.specs.Frames.{IsOnTop, wait_end};
 ghost use Rattle.core_state.specs.OnePlace.{takes_one_place};
-ghost use Rattle.user_model.specs.Windows.{live, window, is_live, parent_in, thread_of, up, next_top};
-ghost use Rattle.user_model.specs.Looks.{look, placed, is_disabled, is_shown};
+ghost use Rattle.user_model.specs.Windows.{live, window, is_live, parent_in, thread_of, up};
+ghost use Rattle.user_model.specs.Looks.{look, placed, style_of, is_disabled, is_shown};
 ghost use Rattle.user_model.specs.Focus.{foreground, value_of};
 ghost use Rattle.user_model.specs.Groups.{are_attached, is_in_group};
 ghost use Rattle.group_state.specs.GroupTables.{named};
@@ -74,8 +74,8 @@ use win_num::{Cause, Filter, Frame, Hwnd, Msg, Point, SendId, Thread};
 use win_order::Order;
 use win_tree::Tree;
 use window_state::{
-    Placing, is_disabled, is_shown, owner_at, parent_of, placing_changes, step_told, thread_of,
-    titled, up, window_or_none,
+    Placing, is_disabled, is_shown, owner_at, parent_of, placing_changes, step_told, style_of,
+    thread_of, titled, up, window_or_none,
 };
 
 mod inputs;
@@ -237,6 +237,22 @@ impl CoreState {
         ensures { result ≡ waiting_call (last_entry self.now.past thread) }
     {
         self.threads[usize::from(thread - 1)].waiting()
+    }
+
+    /// How many messages may be posted to a thread and not taken yet.
+    pub fn post_limit(&self, thread: u64) -> usize
+        requires some { 0 < thread }
+        requires known { thread ≤ self.now.setup.threads }
+        ensures { result ≡ post_limit self.now.setup thread }
+    {
+        self.setup.post_limit(thread as u8)
+    }
+
+    /// The flags that a send with a time may have (Microsoft, SendMessageTimeout function).
+    pub fn timeout_flags(&self) -> u8
+        ensures { result ≡ self.now.setup.smto }
+    {
+        self.setup.smto
     }
 
     /// How many messages are posted to a thread and not taken yet.
@@ -646,11 +662,34 @@ impl CoreState {
     pub fn next_top(&self, w: u64) -> Hwnd
         ensures { Answer.Window result ≡ next_top_reply self.now.past w }
     {
+        self.next_child(Hwnd(0), w)
+    }
+
+    /// The child of a live window of least number above another number, or 0.
+    pub fn child_after(&self, w: u64, above: u64) -> Hwnd
+        requires { is_live self.now.past w ≡ true }
+        ensures { Answer.Window result ≡ child_told self.now.past w above }
+    {
+        self.next_child(window_or_none(&self.tree, w), above)
+    }
+
+    /// The child of a window, or for 0 the top-level window, of least number above a number, or 0.
+    fn next_child(&self, parent: Hwnd, above: u64) -> Hwnd
+        ensures { Answer.Window result ≡ child_told self.now.past parent.0 above }
+    {
         let tree = &self.tree;
-        if w > u64::from(u32::MAX) {
+        if above > u64::from(u32::MAX) {
             return Hwnd(0);
         }
-        tree.next_top(Hwnd(w as u32))
+        tree.next_child(parent, Hwnd(above as u32))
+    }
+
+    /// The style bits of a live window.
+    pub fn style_of(&self, w: u64) -> u64
+        requires { is_live self.now.past w ≡ true }
+        ensures { result ≡ style_of self.now.past w }
+    {
+        u64::from(style_of(&self.tree, window_or_none(&self.tree, w)))
     }
 
     /// The highest top-level window of a title, a place in the list of names. None comes exactly where no

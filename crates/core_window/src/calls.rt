@@ -17,9 +17,10 @@ use crate::groups::{
 };
 use crate::inputs::{key_answer, key_state_answer, mouse_answer};
 use crate::windows::{
-    NewWindow, await_title_answer, doom_answer, drop_answer, enable_answer, find_answer,
-    is_window_answer, new_window_answer, next_top_answer, parent_answer, place_answer,
-    register_answer, show_answer, unmake_answer, unregister_answer, window_at_answer,
+    NewWindow, await_title_answer, child_after_answer, doom_answer, drop_answer, enable_answer,
+    find_answer, is_window_answer, new_window_answer, next_top_answer, parent_answer, place_answer,
+    register_answer, show_answer, style_of_answer, unmake_answer, unregister_answer,
+    window_at_answer,
 };
 use core_deliver::{admit, enter};
 use core_state::{CoreState, Edges, Placing};
@@ -83,6 +84,8 @@ fn lookup_row(state: &CoreState, thread: u8, call: &Call) -> Answer
         Call::Find(title) => find_answer(state, title),
         Call::AwaitTitle(title) => await_title_answer(state, title),
         Call::NextTop(w) => next_top_answer(state, w),
+        Call::ChildAfter(w, above) => child_after_answer(state, w, above),
+        Call::StyleOf(w) => style_of_answer(state, w),
         Call::WindowAt(x, y) => window_at_answer(state, x, y),
         Call::IsWindow(w) => is_window_answer(state, w),
         Call::Parent(w) => parent_answer(state, w),

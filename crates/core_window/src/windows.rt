@@ -2,7 +2,7 @@
 
 ghost use Rattle.std.specs.Prelude.{◌≡◌, false};
 ghost use Rattle.user_model.specs.Past.{is_full};
-ghost use Rattle.user_model.specs.ReplyWindows.{await_title_reply, doom_reply, drop_reply, enable_reply, find_reply, is_no_parent, is_no_placing, is_no_style, is_order, is_sibling, is_window_reply, new_window_reply, next_top_reply, parent_reply, place_reply, register_reply, show_reply, unmake_reply, unregister_reply, window_at_reply, window_if_room};
+ghost use Rattle.user_model.specs.ReplyWindows.{await_title_reply, child_after_reply, doom_reply, drop_reply, enable_reply, find_reply, is_no_parent, is_no_placing, is_no_style, is_order, is_sibling, is_window_reply, new_window_reply, next_top_reply, parent_reply, place_reply, register_reply, show_reply, style_of_reply, unmake_reply, unregister_reply, window_at_reply, window_if_room};
 ghost use Rattle.user_model.specs.Windows.{has_flag};
 
 use crate::codes::{
@@ -280,6 +280,26 @@ pub fn next_top_answer(state: &CoreState, w: u64) -> Answer
     ensures { result ≡ next_top_reply state.now.past w }
 {
     Answer::Window(state.next_top(w))
+}
+
+/// The child of a window of least number above another number, or 0.
+pub fn child_after_answer(state: &CoreState, w: u64, above: u64) -> Answer
+    ensures { result ≡ child_after_reply state.now.past w above }
+{
+    if !state.is_live(w) {
+        return Answer::Refused(INVALID_WINDOW_HANDLE);
+    }
+    Answer::Window(state.child_after(w, above))
+}
+
+/// The style bits of a window.
+pub fn style_of_answer(state: &CoreState, w: u64) -> Answer
+    ensures { result ≡ style_of_reply state.now.past w }
+{
+    if !state.is_live(w) {
+        return Answer::Refused(INVALID_WINDOW_HANDLE);
+    }
+    Answer::Value(state.style_of(w))
 }
 
 /// 1 for a live window, else 0.

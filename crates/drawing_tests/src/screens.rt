@@ -29,3 +29,24 @@ fn region_reaches_past_every_edge(rt: HostRuntime) {
     assert!(rt; frame.as_slice() == [0, 5, 5, 5, 0, 5].as_slice());
     assert!(rt; screen.row(1) == [5, 5].as_slice());
 }
+
+/// A row of three pixels with the colours 1, 2 and 0, after its last two pixels were given the colours of the first two.
+fn moved_right(alloc: Global) -> Result<Vec<u8>, AllocError> {
+    let first = of(alloc, 0, 0, 1, 1)?;
+    let second = of(alloc, 1, 0, 2, 1)?;
+    let Ok(part) = rect(1, 0, 3, 1) else {
+        return Err(AllocError);
+    };
+    let last_two = Region::of_rect(alloc, part)?;
+    let mut screen = Screen::new(alloc, 3, 1)?;
+    screen.fill(&first, 1);
+    screen.fill(&second, 2);
+    screen.carry(&last_two, 1, 0);
+    screen.frame(alloc)
+}
+
+#[test]
+fn pixels_move_over_themselves(rt: HostRuntime) {
+    let frame = moved_right(rt.alloc()).expect(&rt, "memory");
+    assert!(rt; frame.as_slice() == [1, 1, 2].as_slice());
+}

@@ -28,6 +28,18 @@ fn kept(alloc: Global, update: &mut Update) -> Result<(), AllocError> {
     update.keep(alloc, &owned)
 }
 
+/// The first of the dirty pixels is carried, and then the other one.
+fn carried(rt: &impl Abort, alloc: Global, update: &mut Update) -> Result<(), AllocError> {
+    let first = of(alloc, 2, 0, 3, 1)?;
+    let second = of(alloc, 3, 0, 4, 1)?;
+    update.carry(&first)?;
+    let around = update.dirty().bounds();
+    let one = (around.l(), around.t(), around.r(), around.b()) == (3, 0, 4, 1);
+    update.carry(&second)?;
+    hold(rt, &[one, update.is_empty(), update.erase()]);
+    Ok(())
+}
+
 /// What is dirty, and the flag, are taken.
 fn taken(rt: &impl Abort, update: &mut Update) {
     let (region, erase) = update.take();
@@ -52,5 +64,15 @@ fn one_pixel_stays_dirty(rt: HostRuntime) -> Result<(), Fail> {
     let mut again = update.copy(alloc)?;
     hold(&rt, &[update.erase(), update.dirty().kind() == 2]);
     taken(&rt, &mut again);
+    Ok(())
+}
+
+#[test]
+fn carried_pixels_leave_the_flag(rt: HostRuntime) -> Result<(), Fail> {
+    let alloc = rt.alloc();
+    let mut update = Update::new(alloc);
+    invalidated(alloc, &mut update)?;
+    validated(alloc, &mut update)?;
+    carried(&rt, alloc, &mut update)?;
     Ok(())
 }

@@ -15,7 +15,7 @@ use Rattle.group_state.proofs.SettingSteps.{cell_low, row_low}
 pub empty_groups : (setup : Setup) (threads : ℕ) (groups : List ℕ) → IsSetup setup → setup.threads ≡ threads → IsGroupsAt setup [] (record { inputs = fresh threads groups; foreground = 0 })
 empty_groups setup threads groups ready same = record {
   threads = sym same;
-  few = ready.few_threads;
+  few = ready.size.few_threads;
   links = λ t u lt lu. ap (λ m. bit_at m u) (get_or-replicate 16 t 0 0 lt) ∙ bit_at-zero u;
   windows = length-replicate 48 (hwnd 0);
   orders = length-replicate {A = ℕ} 48 0;

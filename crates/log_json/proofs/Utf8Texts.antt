@@ -26,7 +26,6 @@ use Rattle.answer_table.specs.Answers.{answer_row, answer_name, answer_parts}
 use Rattle.call_table.specs.Calls.{call_row, call_name, call_parts}
 use Rattle.call_table.proofs.CallLaws.{each_call_word}
 use Rattle.answer_table.proofs.AnswerLaws.{each_answer_word}
-use Rattle.call_fields.specs.Values.{flag_number}
 use Rattle.call_fields.specs.Words.{source_word, cause_word}
 use Rattle.script_tree.specs.Tree.{Tree, ProcedureTree}
 use Rattle.log_text.specs.Entries.{procedure_name, code_text, value_text, call_text, answer_text}
@@ -120,6 +119,7 @@ cause_utf8 causes.Proc = plain (codes "proc") refl
 cause_utf8 causes.Reply = plain (codes "reply") refl
 cause_utf8 causes.Loss = plain (codes "loss") refl
 cause_utf8 causes.Timeout = plain (codes "timeout") refl
+cause_utf8 causes.Hung = plain (codes "hung") refl
 
 code_utf8 : (c : Code) → IsUtf8 (code_text c)
 code_utf8 (codes_of.Win n) = blank_utf8 (decimal n) (number_utf8 n)
@@ -139,8 +139,7 @@ value_utf8 s h (values.Thread t) = blank_utf8 (decimal t.0) (number_utf8 t.0)
 value_utf8 s h (values.Count k) = blank_utf8 (decimal k) (number_utf8 k)
 value_utf8 s h (values.ShortMessage m) = blank_utf8 _ (message_utf8 m)
 value_utf8 s h (values.Pixel x) = blank_utf8 _ (signed_utf8 x)
-value_utf8 s h (values.Flag b) = blank_utf8 (decimal (flag_number b)) (number_utf8 (flag_number b))
-value_utf8 s h (values.RegionKind n) = blank_utf8 (decimal n) (number_utf8 n)
+value_utf8 s h (values.Byte n) = blank_utf8 (decimal n) (number_utf8 n)
 value_utf8 s h (values.Source o) = blank_utf8 _ (source_utf8 o)
 value_utf8 s h (values.Cause c) = blank_utf8 _ (cause_utf8 c)
 value_utf8 s h (values.Code c) = code_utf8 c

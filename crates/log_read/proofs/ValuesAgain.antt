@@ -133,6 +133,7 @@ cause_again causes.Proc = refl
 cause_again causes.Reply = refl
 cause_again causes.Loss = refl
 cause_again causes.Timeout = refl
+cause_again causes.Hung = refl
 
 pub end_again : (e : End) → end_at (end_word e) ≡ Some e
 unfolding end_at
@@ -231,9 +232,7 @@ value_again s (values.Thread t) h fits = ap (λ x. some (values.Thread (record {
 value_again s (values.Count k) h fits = ap (λ x. some (values.Count x)) (small_number 32 k (omega (arith, fits)) fits)
 value_again s (values.ShortMessage m) h fits = ap (λ x. some (values.ShortMessage x)) (small_again 32 m (message_at (message_word m)) (message_again m (omega (arith, fits))) fits)
 value_again s (values.Pixel x) h fits = ap (option_map (λ y. values.Pixel y)) (pixel_again x fits)
-value_again s (values.Flag true) h fits = ap (λ x. some (values.Flag (not (x == 0)))) (number_again 1 (omega arith))
-value_again s (values.Flag false) h fits = ap (λ x. some (values.Flag (not (x == 0)))) (number_again 0 (omega arith))
-value_again s (values.RegionKind n) h fits = ap (λ x. some (values.RegionKind x)) (small_number 8 n (omega (arith, fits)) fits)
+value_again s (values.Byte n) h fits = ap (λ x. some (values.Byte x)) (small_number 8 n (omega (arith, fits)) fits)
 value_again s (values.Source o) h fits = ap (option_map (λ y. values.Source y)) (source_again o)
 value_again s (values.Cause c) h fits = ap (option_map (λ y. values.Cause y)) (cause_again c)
 value_again s (values.Code c) h fits = ap (λ y. some (values.Code y)) (code_again c fits)

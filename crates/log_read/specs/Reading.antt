@@ -38,10 +38,6 @@ signed_at (c ∷ cs) = if c == 45 then negsuc (min (number_at cs - 1) (2 ^ 63 - 
 unfoldable pub pixel_at : List ℕ → Option ℤ
 pixel_at word = if int_le (negsuc 2147483647) (signed_at word) && int_le (signed_at word) (pos 2147483647) then Some (signed_at word) else None
 
--- yes or no: 0 is no
-abbrev pub flag_at : List ℕ → Bool
-flag_at word = not (number_at word == 0)
-
 abbrev pub number_or : ℕ → Option ℕ → ℕ
 number_or n None = n
 number_or n (Some m) = m
@@ -61,7 +57,7 @@ unfoldable pub source_at : List ℕ → Option Origin
 source_at word = find (λ o. bytes_eq (source_word o) word) all_sources
 
 abbrev pub all_causes : List Cause
-all_causes = causes.Proc ∷ causes.Reply ∷ causes.Loss ∷ causes.Timeout ∷ []
+all_causes = causes.Proc ∷ causes.Reply ∷ causes.Loss ∷ causes.Timeout ∷ causes.Hung ∷ []
 
 unfoldable pub cause_at : List ℕ → Option Cause
 cause_at word = find (λ c. bytes_eq (cause_word c) word) all_causes
@@ -95,8 +91,7 @@ value_at s fields.Thread word = Some (values.Thread (record { 0 = small_at 8 wor
 value_at s fields.Count word = Some (values.Count (small_at 32 word))
 value_at s fields.ShortMessage word = Some (values.ShortMessage (short_message_at word))
 value_at s fields.Pixel word = option_map (λ x. values.Pixel x) (pixel_at word)
-value_at s fields.Flag word = Some (values.Flag (flag_at word))
-value_at s fields.RegionKind word = Some (values.RegionKind (small_at 8 word))
+value_at s fields.Byte word = Some (values.Byte (small_at 8 word))
 value_at s fields.Source word = option_map (λ o. values.Source o) (source_at word)
 value_at s fields.Cause word = option_map (λ c. values.Cause c) (cause_at word)
 value_at s fields.Code word = Some (values.Code (code_at word))

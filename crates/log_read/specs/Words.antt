@@ -13,7 +13,6 @@ use Rattle.call_fields.specs.declared.value.Value.{Value}
 use Rattle.call_fields.specs.declared.value.Value.TheVariants as values
 use Rattle.call_table.specs.Calls.{call_row, call_name, call_parts}
 use Rattle.answer_table.specs.Answers.{answer_row, answer_name, answer_parts}
-use Rattle.call_fields.specs.Values.{flag_number}
 use Rattle.call_fields.specs.Words.{source_word, cause_word, code_word}
 use Rattle.script_tree.specs.Tree.{Tree}
 use Rattle.log_text.specs.declared.end.End.{End}
@@ -41,8 +40,7 @@ value_word s (values.Thread t) = decimal t.0
 value_word s (values.Count k) = decimal k
 value_word s (values.ShortMessage m) = message_word m
 value_word s (values.Pixel x) = signed_decimal x
-value_word s (values.Flag b) = decimal (flag_number b)
-value_word s (values.RegionKind n) = decimal n
+value_word s (values.Byte n) = decimal n
 value_word s (values.Source o) = source_word o
 value_word s (values.Cause c) = cause_word c
 value_word s (values.Code c) = unwrap_or (code_word c) (decimal (number_of c))

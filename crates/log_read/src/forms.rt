@@ -107,13 +107,8 @@ fn has_form(words: &Words, field: Field, word: &[u8]) -> bool
         Field::Source => source_at(word).is_some(),
         Field::Cause => cause_at(word).is_some(),
         Field::Code => is_code_word(word),
-        Field::Number
-        | Field::Window
-        | Field::Send
-        | Field::Thread
-        | Field::Count
-        | Field::Flag
-        | Field::RegionKind => is_decimal(word),
+        Field::Number | Field::Window | Field::Send | Field::Thread | Field::Count | Field::Byte =>
+            is_decimal(word),
     }
 }
 

@@ -7,7 +7,7 @@ ghost use Rattle.call_fields.specs.Words.{source_word, cause_word};
 ghost use Rattle.script_lines.specs.Known.{known_of};
 ghost use Rattle.script_lines.specs.NameLimits.{AreKnown};
 ghost use Rattle.log_read.specs.Limits.{IsValue};
-ghost use Rattle.log_read.specs.Reading.{small_at, signed_at, pixel_at, flag_at, message_at, short_message_at, source_at, cause_at, code_at, name_at, procedure_at, value_at, values_from};
+ghost use Rattle.log_read.specs.Reading.{small_at, signed_at, pixel_at, message_at, short_message_at, source_at, cause_at, code_at, name_at, procedure_at, value_at, values_from};
 
 use arrayvec::ArrayVec;
 use call_fields::{Field, Value, Values, cause_word, source_word};
@@ -25,7 +25,13 @@ static SOURCES: [Origin; 5] = [
     Origin::Timer,
 ];
 
-static CAUSES: [Cause; 4] = [Cause::Proc, Cause::Reply, Cause::Loss, Cause::Timeout];
+static CAUSES: [Cause; 5] = [
+    Cause::Proc,
+    Cause::Reply,
+    Cause::Loss,
+    Cause::Timeout,
+    Cause::Hung,
+];
 
 /// A number of 8 bits.
 fn byte_at(word: &[u8]) -> u8
@@ -66,13 +72,6 @@ pub fn pixel_at(word: &[u8]) -> Option<i32>
     } else {
         None
     }
-}
-
-/// Yes or no: 0 is no.
-fn flag_at(word: &[u8]) -> bool
-    ensures { result ≡ flag_at word.now }
-{
-    number_at(word) != 0
 }
 
 /// A message by its name, or its number.
@@ -219,8 +218,7 @@ fn value_at(words: &Words, field: Field, word: &[u8]) -> Option<Value>
         Field::Count => Some(Value::Count(small_at(word))),
         Field::ShortMessage => Some(Value::ShortMessage(short_message_at(words, word))),
         Field::Pixel => pixel_at(word).map(Value::Pixel),
-        Field::Flag => Some(Value::Flag(flag_at(word))),
-        Field::RegionKind => Some(Value::RegionKind(byte_at(word))),
+        Field::Byte => Some(Value::Byte(byte_at(word))),
         Field::Source => source_at(word).map(Value::Source),
         Field::Cause => cause_at(word).map(Value::Cause),
         Field::Code => Some(Value::Code(code_at(word))),

@@ -56,7 +56,7 @@ static ENDS: [(&[u8], bool); 21] = [
 ];
 
 /// Lines on both sides of each limit.
-static LINES: [(&[u8], bool); 51] = [
+static LINES: [(&[u8], bool); 54] = [
     (b"1 yield = ok\nend done\n", true),
     (b"15 yield = ok\nend done\n", true),
     (b"16 yield = ok\nend done\n", false),
@@ -95,6 +95,11 @@ static LINES: [(&[u8], bool); 51] = [
     (b"0 advance = busy 256\nend done\n", false),
     (b"1 await 1 = done 3 replies\nend done\n", false),
     (b"1 await 1 = done 3 reply\nend done\n", true),
+    (b"1 await 1 = done 0 hung\nend done\n", true),
+    (
+        b"1 child_after 16 0 = window 17\n1 style_of 17 = value 0\nend done\n",
+        true,
+    ),
     (b"1 await 1 = done 3\nend done\n", false),
     (
         b"1 get 0 0 0 = got paint 0 16 WM_PAINT 0 0 0 0 0\nend done\n",
@@ -114,7 +119,11 @@ static LINES: [(&[u8], bool); 51] = [
         b"1 begin_paint 16 = painting 0 0 0 2 3\n1 end_paint 16 = ok\nend done\n",
         true,
     ),
-    (b"1 begin_paint 16 = painting 2 0 0 2 3\nend done\n", false),
+    (b"1 begin_paint 16 = painting 255 0 0 2 3\nend done\n", true),
+    (
+        b"1 begin_paint 16 = painting 256 0 0 2 3\nend done\n",
+        false,
+    ),
     (b"1 begin_paint 16 = painting 01 0 0 2 3\nend done\n", false),
     (
         b"1 get 0 0 0 = got posted 1 16 WM_USER 5 6 0 -1 2147483648\nend done\n",

@@ -14,7 +14,6 @@ use Rattle.call_fields.specs.declared.value.Value.{Value}
 use Rattle.call_fields.specs.declared.value.Value.TheVariants as values
 use Rattle.call_table.specs.Calls.{call_row, call_name, call_parts}
 use Rattle.answer_table.specs.Answers.{answer_row, answer_name, answer_parts}
-use Rattle.call_fields.specs.Values.{flag_number}
 use Rattle.call_fields.specs.Words.{source_word, cause_word, code_word}
 use Rattle.user_io.specs.Text.{operand}
 use Rattle.script_tree.specs.Tree.{Tree, ProcedureTree}
@@ -62,8 +61,7 @@ value_text s (values.Thread t) = operand t.0
 value_text s (values.Count k) = operand k
 value_text s (values.ShortMessage m) = message_text m
 value_text s (values.Pixel x) = signed_text x
-value_text s (values.Flag b) = operand (flag_number b)
-value_text s (values.RegionKind n) = operand n
+value_text s (values.Byte n) = operand n
 value_text s (values.Source o) = 32 ∷ source_word o
 value_text s (values.Cause c) = 32 ∷ cause_word c
 value_text s (values.Code c) = code_text c

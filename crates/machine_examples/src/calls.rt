@@ -1,43 +1,96 @@
-//! Calls of a text at a machine. The text has calls, one a line, each with the actor that makes it; each is written again
-//! with the machine's answer, in the words of a log. A line `machine N` begins a new machine with N threads, and `barred T`
-//! asks whether an actor has no call to make now, `frame K` for the colours of a frame, `reserve N` takes the places of N entries more. A line `from A to B: T CALL .. = ANSWER; ..` makes its calls for each number of a
-//! range, and each must have that answer. Names and procedures are their numbers. Empty lines and comments are written as they are.
+//! Calls of a text at a machine. The text has calls, one a line, each with the actor that makes it; each is written
+//! again with the machine's answer, in the words of a log. A line `machine N` begins a new machine with N threads,
+//! `machine N smto F posts P ..` one with these flags of sends with a time and these limits of posted messages, and
+//! `barred T` asks whether an actor has no call to make now, `frame K` for the colours of a frame, `reserve N` takes
+//! the places of N entries more. A line `from A to B: T CALL .. = ANSWER; ..` makes its calls for each number of a
+//! range, and each must have that answer. A call that finds no memory is made once more. Names and procedures are their
+//! numbers. Empty lines and comments are written as they are.
 
-ghost use Rattle.std.specs.Prelude.{◌≡◌, ◌≤◌, ◌&&◌, nat_le};
+ghost use Rattle.std.specs.Prelude.{◌≡◌, ◌==◌, ◌&&◌, nat_le, IfSome};
+ghost use Rattle.std.specs.List.{list_all};
+ghost use Rattle.user_model.specs.Setups.{IsSetup};
 
 mod lines;
 mod told;
 
-use lines::{Line, range_of};
+use lines::{Limits, Line, range_of};
 use std::alloc::{AllocError, Global};
 use std::io::{BufRead, BufReader, Input, Print};
 use std::mem;
 use told::Told;
 use user_core::User;
-use user_model::{Machine, Setup};
+use user_model::{Answer, Call, Machine, Setup};
+use win_num::Thread;
 
-/// Whether there are machines with so many threads.
-fn is_count(threads: u8) -> bool
-    ensures { result ≡ nat_le 1 threads && nat_le threads 15 }
+/// Whether there are machines with so many threads, and with these flags of sends with a time.
+fn is_known(threads: u8, smto: u8) -> bool
+    ensures { result ≡ (nat_le 1 threads && nat_le threads 15) && (smto == 1) }
 {
-    1 <= threads && threads <= 15
+    1 <= threads && threads <= 15 && smto == 1
 }
 
-/// Puts a new machine for so many threads in the place of the old one.
-fn renew(alloc: Global, machine: &mut User, threads: u8) -> Result<(), AllocError>
-    requires { (1 ≤ threads) × (threads ≤ 15) }
+/// Whether each is a limit of posted messages.
+fn are_limits(posts: &[u32]) -> bool
+    ensures { result ≡ list_all (λ n. nat_le 1 n && nat_le n 10000) posts.now }
 {
-    let new = User::new(alloc, Setup::new(threads, 8, 4))?;
+    posts.iter().all(|post| 1 <= *post && *post <= 10000)
+}
+
+/// The setup of these limits, with a screen of 8 by 4 pixels. None comes where there is no such machine.
+fn setup_of(limits: Limits) -> Option<Setup>
+    ensures { IfSome result (λ setup. IsSetup setup) }
+{
+    let Limits {
+        threads,
+        smto,
+        posts,
+    } = limits;
+    if !is_known(threads, smto) {
+        return None;
+    }
+    if !are_limits(&posts) {
+        return None;
+    }
+    Some(Setup::with_limits(threads, 8, 4, smto, posts))
+}
+
+/// Puts a new machine of this setup in the place of the old one.
+fn renew(alloc: Global, machine: &mut User, setup: Setup) -> Result<(), AllocError>
+    requires { IsSetup setup }
+{
+    let new = User::new(alloc, setup)?;
     drop(mem::replace(machine, new));
     Ok(())
+}
+
+/// Makes a call, and once more where it finds no memory, which a line tells. An error comes where a call that finds none adds an entry, or
+/// finds none again.
+fn step_again(
+    rt: &impl Print,
+    machine: &mut User,
+    actor: Thread,
+    call: Call,
+) -> anyhow::Result<Answer> {
+    let entries = machine.history().len();
+    if let Ok(answer) = machine.step(actor, call) {
+        return Ok(answer);
+    }
+    if machine.history().len() != entries {
+        anyhow::bail!("an entry without memory for it");
+    }
+    println!(rt; "# no memory at first")?;
+    Ok(machine.step(actor, call)?)
 }
 
 /// Does what a line asks for, and writes it again with the answer.
 fn run_line(rt: &impl Print, alloc: Global, machine: &mut User, line: &str) -> anyhow::Result<()> {
     match Line::parse(line) {
         Some(Line::Comment) => println!(rt; "{line}")?,
-        Some(Line::Machine(threads)) if is_count(threads) => {
-            renew(alloc, machine, threads)?;
+        Some(Line::Machine(limits)) => {
+            let Some(setup) = setup_of(limits) else {
+                anyhow::bail!("no machine: {line}");
+            };
+            renew(alloc, machine, setup)?;
             println!(rt; "{line}")?;
         }
         Some(Line::Barred(actor)) => println!(rt; "{line} = {}", machine.barred(actor))?,
@@ -53,10 +106,10 @@ fn run_line(rt: &impl Print, alloc: Global, machine: &mut User, line: &str) -> a
             println!(rt; "{line} = ok")?;
         }
         Some(Line::Call(actor, call)) => {
-            let answer = machine.step(actor, call)?;
+            let answer = step_again(rt, machine, actor, call)?;
             println!(rt; "{line} = {}", Told(answer))?;
         }
-        Some(Line::Machine(_)) | None => anyhow::bail!("no call: {line}"),
+        None => anyhow::bail!("no call: {line}"),
     }
     Ok(())
 }

@@ -41,6 +41,7 @@ enum Ask {
     Kin(u32, u32),
     Class(u32),
     NextTop(u32),
+    NextChild(u32, u32),
     Find(u64),
     Owner(u32),
     Style(u32),
@@ -152,6 +153,7 @@ fn seen(tree: &Tree, asked: Ask) -> Result<Told, Fail> {
         Ask::Kin(above, w) => Told::Is(tree.is_kin(Hwnd(above), Hwnd(w))),
         Ask::Class(class) => Told::Is(tree.has_class(class)),
         Ask::NextTop(w) => Told::Window(Some(tree.next_top(Hwnd(w)))),
+        Ask::NextChild(w, above) => Told::Window(Some(tree.next_child(Hwnd(w), Hwnd(above)))),
         Ask::Find(w) => Told::Window(tree.find(w)),
         Ask::Owner(w) => Told::Window(tree.row(Hwnd(w)).map(|r| r.owner)),
         Ask::Style(w) => Told::Value(tree.row(Hwnd(w)).map(|r| r.style)),
@@ -278,7 +280,7 @@ fn other_windows_come_and_go_meanwhile(rt: HostRuntime) -> Result<(), Fail> {
     all_go(&rt, &mut tree, &[&FAMILY, &MEANWHILE])
 }
 
-static WALKS: [(Step, Told); 9] = [
+static WALKS: [(Step, Told); 12] = [
     (Step::Restyle(17), Told::Nothing),
     (Step::Ask(Ask::Child(16, 18)), Told::Is(true)),
     (Step::Ask(Ask::Child(16, 19)), Told::Is(false)),
@@ -286,6 +288,18 @@ static WALKS: [(Step, Told); 9] = [
     (Step::Ask(Ask::NextTop(0)), Told::Window(Some(Hwnd(16)))),
     (Step::Ask(Ask::NextTop(16)), Told::Window(Some(Hwnd(19)))),
     (Step::Ask(Ask::NextTop(20)), Told::Window(Some(Hwnd(0)))),
+    (
+        Step::Ask(Ask::NextChild(16, 0)),
+        Told::Window(Some(Hwnd(17))),
+    ),
+    (
+        Step::Ask(Ask::NextChild(16, 17)),
+        Told::Window(Some(Hwnd(0))),
+    ),
+    (
+        Step::Ask(Ask::NextChild(17, 9)),
+        Told::Window(Some(Hwnd(18))),
+    ),
     (Step::Ask(Ask::Style(17)), Told::Value(Some(5))),
     (Step::Ask(Ask::Style(9)), Told::Value(None)),
 ];

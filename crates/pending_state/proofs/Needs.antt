@@ -86,7 +86,7 @@ pixel_fits setup x y s h =
     let last = and_parts _ _ h in
     let top = and_parts _ _ last.0 in
     let across = and_parts _ _ top.0 in
-    (coordinate x setup.width across.0 across.1 (omega (arith, s.narrow)), coordinate y setup.height top.1 last.1 (omega (arith, s.low)))
+    (coordinate x setup.width across.0 across.1 (omega (arith, s.size.narrow)), coordinate y setup.height top.1 last.1 (omega (arith, s.size.low)))
 
 key_fits : (key : ℕ) → is_no_key key ≡ false → key ≤ 255
 key_fits key h = let parts = or_parts (eqb key 0) (nat_lt 254 key) h in grind (arith, nat_tests, parts.1)

@@ -37,7 +37,7 @@ pub low_home : (setup : Setup) (past : Past) (t : ℕ) → IsSetup setup → is_
 low_home setup past t s runs =
     let parts = and_parts (nat_le 1 t) (nat_le t setup.threads) (running_is_thread setup past t runs) in
     let high : t ≤ setup.threads = leb-true t setup.threads parts.1 in
-    omega (arith, high, s.few_threads)
+    omega (arith, high, s.size.few_threads)
 
 pub low_homes : (setup : Setup) (past : Past) → IsSetup setup → IsLawful setup past → AllByRecursion (λ x. x.home < 16) (untaken setup past)
 low_homes setup past s lawful = all_weaker (IsKept setup past) (λ x. x.home < 16) (λ x k. low_home setup past x.home s k.runs) (untaken setup past) (untaken_kept setup past lawful)

@@ -26,7 +26,7 @@ span_step old mid new from place colour h k e s = record {
     one i g f n = rw e (grind (arith, common_steps))
 
 -- one row ends where or before a lower one begins
-row_below : (a b w : ℕ) → a < b → a * w + w ≤ b * w
+pub row_below : (a b w : ℕ) → a < b → a * w + w ≤ b * w
 row_below a b w h = let k : (a + 1) * w ≤ b * w = mul-le (a + 1) w b w (omega arith) (omega arith) in omega (arith, k)
 
 -- a pixel's place is within the rows
@@ -118,7 +118,7 @@ coat_step old mid new width height colour parts r i h e b s = record {
     join false true u o m n e f g = rw g f
     join false false u o m n e f g = rw g (f ∙ e)
 
-take_whole : (xs : List Rect) (i : ℕ) → length xs ≤ i → take i xs ≡ xs
+pub take_whole : (xs : List Rect) (i : ℕ) → length xs ≤ i → take i xs ≡ xs
 take_whole xs i h = grind (arith, common_steps)
 
 pub coat_done : (old new : List ℕ) (width height colour : ℕ) (parts : List Rect) (i : ℕ) → length parts ≤ i →

@@ -1,6 +1,7 @@
 //! The colour of each pixel of a screen.
 #![tactic(auto)]
 
+mod carry;
 mod paint;
 mod screen;
 

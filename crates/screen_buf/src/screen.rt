@@ -2,19 +2,21 @@
 
 ghost use Rattle.std.specs.Prelude.{◌≡◌, ℕ, ◌*◌, ◌<◌, get_or, length, IfOk};
 ghost use Rattle.band_region.specs.Regions.{region_has};
-ghost use Rattle.screen_buf.specs.Pictures.{colour_at, blank, IsPainted};
+ghost use Rattle.screen_buf.specs.Pictures.{colour_at, blank, IsCarried, IsPainted, LiesOn};
 
+use crate::carry::carry_rects;
 use crate::paint::paint_rects;
 use band_region::Region;
 use std::alloc::{AllocError, Global};
 use std::marker::Model;
 
-/// A colour, 0 to 255, for each pixel of a screen.
+/// A colour, 0 to 255, for each pixel of a screen. Beside them is room for as many, which a move of pixels goes through.
 #[derive(Drop)]
 pub struct Screen {
     width: u16,
     height: u16,
     pixels: Vec<u8>,
+    room: Vec<u8>,
 }
 
 impl Model for Screen {
@@ -25,7 +27,7 @@ impl Model for Screen {
 
     ghost view = { λ a. record { width = a.width; height = a.height; colours = a.pixels.items } };
 
-    ghost invariant = { λ a. length a.pixels.items ≡ a.height * a.width };
+    ghost invariant = { λ a. (length a.pixels.items ≡ a.height * a.width) × (length a.room.items ≡ a.height * a.width) };
 }
 
 impl Screen {
@@ -34,10 +36,12 @@ impl Screen {
         ensures { IfOk result (λ s. s ≡ blank w h) }
     {
         let pixels = vec![in alloc; 0u8; h as usize * w as usize]?;
+        let room = vec![in alloc; 0u8; h as usize * w as usize]?;
         Ok(Screen {
             width: w,
             height: h,
             pixels,
+            room,
         })
     }
 
@@ -51,6 +55,35 @@ impl Screen {
             self.height,
             r.rects(),
             colour,
+        );
+    }
+
+    /// Gives each pixel p of the region the colour that p - (dx, dy) had before, all at once, in pixels (Microsoft,
+    /// BitBlt function, from a screen to itself). The region and its pixels moved back lie on the screen.
+    pub fn carry(&mut self, to: &Region, dx: i32, dy: i32)
+        requires { LiesOn self.old.width self.old.height (λ p. region_has to.now p) dx dy }
+        ensures { IsCarried self.old (λ p. region_has to.now p) dx dy self.new }
+    {
+        let (width, height) = (self.width, self.height);
+        let room = self.room.as_mut_slice();
+        carry_rects(
+            room,
+            self.pixels.as_slice(),
+            width,
+            height,
+            to.rects(),
+            dx,
+            dy,
+        );
+        let pixels = self.pixels.as_mut_slice();
+        carry_rects(
+            pixels,
+            self.room.as_slice(),
+            width,
+            height,
+            to.rects(),
+            0,
+            0,
         );
     }
 

@@ -260,7 +260,7 @@ none_and : (c : Bool) → false ≡ (c && false)
 none_and true = refl
 none_and false = refl
 
-pub begin_draws : (t : Windows) (e : Entry) (w : ℕ) (erases : Bool) (l top r b : ℤ) (old new : Kept) → e.call ≡ calls.BeginPaint w → e.answer ≡ answers.Painting erases l top r b → IsTaken w old new → DrawsScreen t e old new
+pub begin_draws : (t : Windows) (e : Entry) (w : ℕ) (erase : ℕ) (l top r b : ℤ) (old new : Kept) → e.call ≡ calls.BeginPaint w → e.answer ≡ answers.Painting erase l top r b → IsTaken w old new → DrawsScreen t e old new
 begin_draws t e w to_erase l top r b old new is_call is_begun_so taken setup past lawful tree right was =
     record { owners = subst (AreOwnersAt setup (e ∷ past)) (sym taken.owners) (same_owners setup past t e lawful tree right fine leaves old.owners was.owners); dirty = dirty; erases = erases; gone = gone; painting = painting; clips = clips }
   where
@@ -452,11 +452,11 @@ validated (Ok x) t e w u l top r b old new d is_call is_okay same done = λ can.
     subst (DrawsScreen t e old) (remade new old.owners new.dirty old.sessions (sym x.owners) refl (sym x.sessions))
     (validate_draws t e w l top r b x.part old new.dirty is_call is_okay client x.area x.cleared x.kept x.others)
 
-pub begun : {E : Type 0} (q : Result (Unit {0}) E) (t : Windows) (e : Entry) (w u : ℕ) (erases : Bool) (l top r b : ℤ) (old new : Kept)
-    → e.call ≡ calls.BeginPaint w → e.answer ≡ answers.Painting erases l top r b → u ≡ w → OnOk q (IsTaken u old new)
+pub begun : {E : Type 0} (q : Result (Unit {0}) E) (t : Windows) (e : Entry) (w u : ℕ) (erase : ℕ) (l top r b : ℤ) (old new : Kept)
+    → e.call ≡ calls.BeginPaint w → e.answer ≡ answers.Painting erase l top r b → u ≡ w → OnOk q (IsTaken u old new)
     → OnOk q (draws e.call e.answer ≡ true → DrawsScreen t e old new)
-begun (Err x) t e w u erases l top r b old new is_call is same done = tt
-begun (Ok x) t e w u erases l top r b old new is_call is same done = λ can. begin_draws t e w erases l top r b old new is_call is (subst (λ n. IsTaken n old new) same done)
+begun (Err x) t e w u erase l top r b old new is_call is same done = tt
+begun (Ok x) t e w u erase l top r b old new is_call is same done = λ can. begin_draws t e w erase l top r b old new is_call is (subst (λ n. IsTaken n old new) same done)
 
 pub finished : (t : Windows) (e : Entry) (w u : ℕ) (old new : Kept) → e.call ≡ calls.EndPaint w → e.answer ≡ answers.Okay → u ≡ w → IsEnded u old new → DrawsScreen t e old new
 finished t e w u old new is_call is_okay same done =

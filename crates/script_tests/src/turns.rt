@@ -74,7 +74,7 @@ const DIRTY: Answer = Answer::Update {
 
 /// What is dirty as it is painted.
 const PAINTING: Answer = Answer::Painting {
-    erases: true,
+    erase: 1,
     l: 0,
     t: 0,
     r: 6,

@@ -18,7 +18,7 @@ number_in (Value n) = n
 number_in (WindowAnswer w) = w.0
 number_in (Was w) = w.0
 number_in (Update kind l t r b) = kind
-number_in (Painting erases l t r b) = if erases then 1 else 0
+number_in (Painting erase l t r b) = erase
 number_in a = 0
 
 -- a message

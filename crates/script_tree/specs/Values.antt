@@ -9,7 +9,7 @@ use Rattle.user_model.specs.declared.call.Call.TheVariants.{BeginDialog, EndDial
 use Rattle.user_model.specs.declared.entry.Answer.{Answer}
 use Rattle.user_model.specs.declared.entry.Answer.TheVariants.{Okay, Ended, Nothing, Wait, Stuck, Gone, Running, Finished, Value, Window as WindowAnswer, Was, Posted, Input, Called, Inside, Begun, Left, Tell, Last, Advanced, Busy, Update, Painting, Snap as SnapAnswer, Enter, Callback, Done, Got, Refused}
 use Rattle.win_num.specs.declared.send.Cause.{Cause}
-use Rattle.win_num.specs.declared.send.Cause.TheVariants.{Loss, Timeout}
+use Rattle.win_num.specs.declared.send.Cause.TheVariants.{Loss, Timeout, Hung}
 use Rattle.script_tree.specs.declared.operand.Letter.{Letter}
 use Rattle.script_tree.specs.declared.operand.Letter.TheVariants.{A, B, C, D, E, F, G, H}
 use Rattle.script_tree.specs.declared.operand.Variable.{Variable}
@@ -272,6 +272,7 @@ okay_result _ = 1
 -- what err is where a send was answered so
 abbrev pub cause_number : Cause → ℕ
 cause_number Timeout = 1460
+cause_number Hung = 1460
 cause_number Loss = 1400
 cause_number _ = 0
 
@@ -302,7 +303,7 @@ settled v call (Tell w) x = resulting v 1 0
 settled v call (Last w) x = resulting v 1 0
 settled v call (Advanced time) x = resulting v 1 0
 settled v call (Busy thread) x = resulting v 1 0
-settled v call (Painting erases l t r b) x = resulting v 1 0
+settled v call (Painting erase l t r b) x = resulting v 1 0
 settled v call (SnapAnswer k) x = resulting v 1 0
 settled v call (Enter s proc_no w number p q) x = resulting v 1 0
 settled v call (Callback s proc_no w number extra result) x = resulting v 1 0

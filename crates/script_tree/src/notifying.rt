@@ -22,7 +22,7 @@ pub fn told_number(answer: &Answer) -> u64
         Answer::Window(window) => u64::from(window.0),
         Answer::Was(window) => u64::from(window.0),
         Answer::Update { kind, .. } => u64::from(*kind),
-        Answer::Painting { erases, .. } => one_where(*erases),
+        Answer::Painting { erase, .. } => u64::from(*erase),
         _ => 0,
     }
 }

@@ -216,6 +216,7 @@ fn error_of(cause: Cause) -> u16
 {
     match cause {
         Cause::Timeout => 1460,
+        Cause::Hung => 1460,
         Cause::Loss => 1400,
         _ => 0,
     }

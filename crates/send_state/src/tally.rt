@@ -70,7 +70,7 @@ fn count_by(first: Option<Cause>, cause: Cause) -> u32
         (Some(Cause::Proc), Cause::Proc)
         | (Some(Cause::Reply), Cause::Reply)
         | (Some(Cause::Loss), Cause::Loss)
-        | (Some(Cause::Timeout), Cause::Timeout) => 1,
+        | (Some(Cause::Timeout | Cause::Hung), Cause::Timeout) => 1,
         _ => 0,
     }
 }

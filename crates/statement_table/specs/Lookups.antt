@@ -20,7 +20,7 @@ split_lookup (calls.IsWindow window) = split (groups.Lookup names.IsWindow) (par
 split_lookup (calls.Parent window) = split (groups.Lookup names.Parent) (parts.Operand window ∷ [])
 split_lookup c = None
 
--- the statement that makes this call, of the parts in their places; none makes the machine's own steps
+-- the statement that makes this call, of the parts in their places; none makes the machine's own steps, and none asks for a child or a style
 abbrev pub made_lookup : LookupCall → List Part → Option CallStatement
 made_lookup names.Find ps = Some (calls.Find (name_in ps 0))
 made_lookup names.AwaitTitle ps = Some (calls.AwaitTitle (name_in ps 0))
@@ -28,3 +28,5 @@ made_lookup names.NextTop ps = Some (calls.NextTop (operand_in ps 0))
 made_lookup names.WindowAt ps = Some (calls.WindowAt (operand_in ps 0) (operand_in ps 1))
 made_lookup names.IsWindow ps = Some (calls.IsWindow (operand_in ps 0))
 made_lookup names.Parent ps = Some (calls.Parent (operand_in ps 0))
+made_lookup names.ChildAfter ps = None
+made_lookup names.StyleOf ps = None

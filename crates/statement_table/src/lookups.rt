@@ -42,5 +42,6 @@ pub fn made_lookup(name: LookupCall, parts: &[Part]) -> Option<CallStatement>
         LookupCall::WindowAt => Some(CallStatement::WindowAt(operands[0], operands[1])),
         LookupCall::IsWindow => Some(CallStatement::IsWindow(operands[0])),
         LookupCall::Parent => Some(CallStatement::Parent(operands[0])),
+        LookupCall::ChildAfter | LookupCall::StyleOf => None,
     }
 }

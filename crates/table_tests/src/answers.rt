@@ -51,7 +51,7 @@ fn answers_again(rt: HostRuntime) {
         ),
         (
             Answer::Painting {
-                erases: true,
+                erase: 1,
                 l: -1,
                 t: 2,
                 r: 3,

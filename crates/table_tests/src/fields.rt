@@ -60,8 +60,7 @@ fn others() -> Values {
         Value::Source(Origin::Quit),
         Value::Cause(Cause::Loss),
         Value::Code(Code::Full),
-        Value::Flag(true),
-        Value::RegionKind(3),
+        Value::Byte(3),
     ])
 }
 
@@ -74,9 +73,7 @@ fn other_values_at_places(rt: HostRuntime) {
         source_at(&values, 2) == Origin::Quit,
         cause_at(&values, 3) == Cause::Loss,
         code_at(&values, 4) == Code::Full,
-        flag_at(&values, 5),
-        region_kind_at(&values, 6) == 3,
-        !flag_at(&values, 6),
+        byte_at(&values, 5) == 3,
     ];
     hold(&rt, &facts);
 }

@@ -63,6 +63,18 @@ impl Update {
         Ok(())
     }
 
+    /// Takes the pixels out that a move brings along as they were, and leaves the flag as it is (Microsoft,
+    /// SetWindowPos function: valid contents are copied back after a move). Want of memory is the only error.
+    pub fn carry(&mut self, less: &Region) -> Result<(), AllocError>
+        ensures area { OnOk result ((p : Point) → region_has self.new.area p ≡ (region_has self.old.area p && not (region_has less.now p))) }
+        ensures erases { self.new.erases ≡ self.old.erases }
+        ensures err { OnErr result (self.new ≡ self.old) }
+    {
+        let region = self.region.diff(self.alloc, less)?;
+        self.region = region;
+        Ok(())
+    }
+
     /// Leaves the common pixels, and the flag as it is.
     pub fn keep(&mut self, alloc: Global, owned: &Region) -> Result<(), AllocError>
         ensures area { OnOk result ((p : Point) → region_has self.new.area p ≡ (region_has self.old.area p && region_has owned.now p)) }

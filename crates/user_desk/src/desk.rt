@@ -62,7 +62,6 @@ impl<M: Machine> Desk<M> {
         machine: M,
         threads: u8,
     ) -> Result<(Desk<M>, Vec<DeskSeat<M>>), (AllocError, M)>
-        requires few { threads < 255 }
         requires legal { (length (M.past machine) ≤ 2097152) × IsLawful (M.setup machine) (M.past machine) }
         ensures desk { IfOk result (λ r. (r.0.opening.machine ≡ machine) × (r.0.seats ≡ threads + 1)) }
         ensures seats { IfOk result (λ r. r.1.items ≡ new_seats r.0 (threads + 1)) }

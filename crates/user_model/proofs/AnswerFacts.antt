@@ -19,6 +19,7 @@ use Rattle.user_model.specs.declared.entry.Answer.{Answer}
 use Rattle.user_model.specs.declared.entry.Answer.TheVariants as answers
 use Rattle.user_model.specs.declared.entry.Origin.TheVariants as origins
 use Rattle.user_model.specs.declared.entry.Setup.{Setup}
+use Rattle.user_model.specs.Setups.{post_limit}
 use Rattle.user_model.specs.Past.{Past}
 use Rattle.user_model.specs.Places.{clock, cursor}
 use Rattle.user_model.specs.Threads.{is_running}
@@ -52,7 +53,7 @@ pub record IsPost (setup : Setup) (past : Past) (who : ℕ) (call : Call) (k : �
   pub wparam : ℕ
   pub lparam : ℕ
   pub is_call : (posting_of (is_shift_down past who) call ≡ Some (to_window hwnd number wparam lparam)) × (to ≡ queue_of past who hwnd) × (is_no_post_window past hwnd ≡ false) ⊎ (posting_of (is_shift_down past who) call ≡ Some (to_thread to number wparam lparam)) × (hwnd ≡ 0) × (is_running setup past to ≡ true)
-  pub short : nat_le 10000 (length (posted past to)) ≡ false
+  pub short : nat_le (post_limit setup to) (length (posted past to)) ≡ false
   pub fits : is_no_message number ≡ false
   pub is_next : k ≡ next_post_number past
 
@@ -257,7 +258,7 @@ Says setup past who call (answers.Last v) = IsUnmaking call
 Says setup past who call (answers.Advanced time) = ⊥
 Says setup past who call (answers.Busy t) = ⊥
 Says setup past who call (answers.Update kind l t r b) = Unit {0}
-Says setup past who call (answers.Painting erases l t r b) = Unit {0}
+Says setup past who call (answers.Painting erase l t r b) = Unit {0}
 Says setup past who call (answers.Snap k) = IsSnap past call k
 Says setup past who call (answers.Enter s proc_no w message wparam lparam) = IsEntry past who call s.0 proc_no w.0 message wparam lparam
 Says setup past who call (answers.Callback s proc_no w message extra result) = IsResult past who call s.0 proc_no w.0 message extra result ⊎ IsInsideResult past who call s.0 proc_no w.0 message extra result

@@ -38,6 +38,7 @@ pub mod SendReplies
 pub mod SendStanding
 pub mod SendSteps
 pub mod SendStories
+pub mod SetupLaws
 pub mod StatusPosts
 pub mod StatusTimers
 pub mod StepReplies

@@ -14,12 +14,13 @@ use Rattle.win_num.specs.declared.code.Code.{Code}
 use Rattle.win_num.specs.declared.code.Code.TheVariants.{Full, NoTarget}
 use Rattle.win_num.specs.declared.names.TheConstants.{WM_CHAR, WM_KEYDOWN}
 use Rattle.user_model.specs.declared.call.Call.{Call}
-use Rattle.user_model.specs.declared.call.Call.TheVariants.{Peek, Get, Post, PostThread, PostQuit, Status, Dispatch, Send, SendTimeout, SendNotify, SendCallback, Await, Leave, Reply, InSend, Message, Translate, Register, Unregister, NewWindow, Doom, Unmake, Drop, Place, Show, Enable, Find, AwaitTitle, NextTop, WindowAt, IsWindow, Parent, SetFocus, SetActive, SetCapture, ReleaseCapture, GetFocus, GetActive, GetCapture, Attach, Detach, Mouse, Key, KeyState, BeginDialog, DialogState, EndDialog, Invalidate, Validate, UpdateRect, BeginPaint, EndPaint, Fill, Erase, Snap, SetTimer, KillTimer, EndThread, Clock, SleepUntil, Yield, Tick, Advance}
+use Rattle.user_model.specs.declared.call.Call.TheVariants.{Peek, Get, Post, PostThread, PostQuit, Status, Dispatch, Send, SendTimeout, SendNotify, SendCallback, Await, Leave, Reply, InSend, Message, Translate, Register, Unregister, NewWindow, Doom, Unmake, Drop, Place, Show, Enable, Find, AwaitTitle, NextTop, ChildAfter, StyleOf, WindowAt, IsWindow, Parent, SetFocus, SetActive, SetCapture, ReleaseCapture, GetFocus, GetActive, GetCapture, Attach, Detach, Mouse, Key, KeyState, BeginDialog, DialogState, EndDialog, Invalidate, Validate, UpdateRect, BeginPaint, EndPaint, Fill, Erase, Snap, SetTimer, KillTimer, EndThread, Clock, SleepUntil, Yield, Tick, Advance}
 use Rattle.user_model.specs.declared.dialog.Dialog.{Dialog}
 use Rattle.user_model.specs.declared.dialog.Dialog.TheVariants as dialogs
 use Rattle.user_model.specs.declared.entry.Answer.{Answer}
 use Rattle.user_model.specs.declared.entry.Answer.TheVariants as answers
 use Rattle.user_model.specs.declared.entry.Setup.{Setup}
+use Rattle.user_model.specs.Setups.{post_limit}
 use Rattle.user_model.specs.Past.{Past, or_else}
 use Rattle.user_model.specs.Places.{clock}
 use Rattle.user_model.specs.Deeds.{SendParts, parts, parts_of, retrieves, is_serving}
@@ -65,7 +66,7 @@ is_plain answers.Gone = true
 is_plain answers.Running = true
 is_plain (answers.Finished v) = true
 is_plain (answers.Update kind l t r b) = true
-is_plain (answers.Painting erases l t r b) = true
+is_plain (answers.Painting erase l t r b) = true
 is_plain (answers.Refused code) = not (is_not_now code)
 is_plain _ = false
 
@@ -141,7 +142,7 @@ module _ (setup : Setup) (past : Past) (who : ℕ) (call : Call) where
       by answers.Running h = tt
       by (answers.Finished v) h = tt
       by (answers.Update kind l t r b) h = tt
-      by (answers.Painting erases l t r b) h = tt
+      by (answers.Painting erase l t r b) h = tt
       by (answers.Refused code) h = inl (properly (is_not_now code) h)
       by _ h = absurd (false≢true h)
 
@@ -291,7 +292,7 @@ module _ (setup : Setup) (past : Past) (who : ℕ) where
       let call = Post w m p q in
       behind setup past who call (is_no_message m) invalid_parameter _ refl (λ fits.
       behind setup past who call (is_no_post_window past w) invalid_window_handle _ refl (λ window.
-      behind setup past who call (nat_le 10000 (length (posted past (queue_of past who w)))) not_enough_quota (answers.Posted (next_post_number past)) refl (λ short.
+      behind setup past who call (nat_le (post_limit setup (queue_of past who w)) (length (posted past (queue_of past who w)))) not_enough_quota (answers.Posted (next_post_number past)) refl (λ short.
       record { says = record { to = queue_of past who w; hwnd = w; number = m; wparam = p; lparam = q; is_call = inl (refl, refl, window); short = short; fits = fits; is_next = refl } })))
 
   posted_to_thread : (to m p q : ℕ) → Said setup past who (PostThread to m p q) (row setup past who (PostThread to m p q))
@@ -299,15 +300,15 @@ module _ (setup : Setup) (past : Past) (who : ℕ) where
       let call = PostThread to m p q in
       behind setup past who call (is_no_message m) invalid_parameter _ refl (λ fits.
       behind setup past who call (not (is_running setup past to)) invalid_thread_id _ refl (λ runs.
-      behind setup past who call (nat_le 10000 (length (posted past to))) not_enough_quota (answers.Posted (next_post_number past)) refl (λ short.
+      behind setup past who call (nat_le (post_limit setup to) (length (posted past to))) not_enough_quota (answers.Posted (next_post_number past)) refl (λ short.
       record { says = record { to = to; hwnd = 0; number = m; wparam = p; lparam = q; is_call = inr (refl, refl, not_false (is_running setup past to) runs); short = short; fits = fits; is_next = refl } })))
 
   translated : (w m key q : ℕ) → Said setup past who (Translate w m key q) (row setup past who (Translate w m key q))
   translated w m key q =
       let call = Translate w m key q in
-      either setup past who call (eqb m WM_KEYDOWN && has_character key) (refuse (is_no_post_window past w) invalid_window_handle (post_to past (queue_of past who w))) (answers.Value 0)
+      either setup past who call (eqb m WM_KEYDOWN && has_character key) (refuse (is_no_post_window past w) invalid_window_handle (post_to setup past (queue_of past who w))) (answers.Value 0)
       (λ typed. behind setup past who call (is_no_post_window past w) invalid_window_handle _ refl (λ window.
-      behind setup past who call (nat_le 10000 (length (posted past (queue_of past who w)))) not_enough_quota (answers.Posted (next_post_number past)) refl (λ short.
+      behind setup past who call (nat_le (post_limit setup (queue_of past who w)) (length (posted past (queue_of past who w)))) not_enough_quota (answers.Posted (next_post_number past)) refl (λ short.
       record { says = record { to = queue_of past who w; hwnd = w; number = WM_CHAR; wparam = character (is_shift_down past who) key; lparam = q; is_call = inl (refl, refl, window); short = short; fits = refl; is_next = refl } })))
       (λ plain. record { says = tt })
 
@@ -360,6 +361,8 @@ row_said setup past who (Enable w on) = plainly setup past who (Enable w on) (ro
 row_said setup past who (Find title) = record { says = tt }
 row_said setup past who (AwaitTitle title) = title_awaited setup past who title (titled past title)
 row_said setup past who (NextTop w) = record { says = tt }
+row_said setup past who (ChildAfter w v) = plainly setup past who (ChildAfter w v) (row setup past who (ChildAfter w v)) (search (plain_behind, plain))
+row_said setup past who (StyleOf w) = plainly setup past who (StyleOf w) (row setup past who (StyleOf w)) (search (plain_behind, plain))
 row_said setup past who (WindowAt x y) = record { says = tt }
 row_said setup past who (IsWindow w) = record { says = tt }
 row_said setup past who (Parent w) = plainly setup past who (Parent w) (row setup past who (Parent w)) (plain_parent (window past w))

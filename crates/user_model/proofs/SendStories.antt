@@ -8,7 +8,7 @@ use Rattle.std.proofs.lemmas.List.{append-nil}
 use Rattle.std.proofs.lemmas.List.Sums.{sum_by-cons}
 use Rattle.win_num.specs.declared.message.Thread.{Thread}
 use Rattle.win_num.specs.declared.send.Cause.{Cause}
-use Rattle.win_num.specs.declared.send.Cause.TheVariants.{Proc, Reply as ByReply, Loss, Timeout as ByTimeout}
+use Rattle.win_num.specs.declared.send.Cause.TheVariants.{Proc, Reply as ByReply, Loss, Timeout as ByTimeout, Hung as ByHung}
 use Rattle.win_num.specs.declared.send.Kind.{Kind}
 use Rattle.win_num.specs.declared.send.Kind.TheVariants.{Wait as WaitKind, Timeout as WithTimeout, Notify, Callback as WithCallback}
 use Rattle.win_num.specs.declared.send.SendId.{SendId}
@@ -511,6 +511,7 @@ one_cause (Some o) h = by o.cause
     by ByReply = refl
     by Loss = refl
     by ByTimeout = refl
+    by ByHung = refl
 
 count_first : (given : SentMsg → Option Outcome) (c : Cause) (x : SentMsg) (xs : List SentMsg) → count_by (λ x. has_cause c (given x)) (x ∷ xs) ≡ cond (has_cause c (given x)) 1 0 + count_by (λ x. has_cause c (given x)) xs
 count_first given c x xs = sum_by-cons (λ x. cond (has_cause c (given x)) 1 0) x xs

@@ -1,13 +1,13 @@
 -- Which due timers came after the last look is told by the clock of the look.
-use Rattle.std.proofs.Common.{◌≡◌, ℕ, suc, ◌+◌, ◌<◌, ◌≤◌, Bool, true, false, not, cond, eqb, List, [], ◌∷◌, ◌++◌, length, Option, Some, None, refl, ap, ◌∙◌, sym, subst, arith}
+use Rattle.std.proofs.Common.{◌≡◌, ℕ, ◌+◌, ◌<◌, ◌≤◌, Bool, true, false, not, cond, eqb, List, [], ◌∷◌, length, Option, Some, None, refl, ap, ◌∙◌, sym, subst, arith}
 use Rattle.std.specs.Prelude.{◌&&◌, ◌||◌, filter, max, min, nat_le, nat_lt, option_map, unwrap_or}
-use Rattle.std.specs.List.{AllByRecursion, list_any}
+use Rattle.std.specs.List.{AllByRecursion}
 use Rattle.std.proofs.lemmas.Bool.{and_parts, eqb-true, false≢true}
 use Rattle.std.proofs.lemmas.Bool.Decides.{nat_tests}
 use Rattle.win_num.specs.declared.message.Filter.{Filter}
 use Rattle.win_num.specs.declared.message.Msg.{Msg}
 use Rattle.user_model.specs.declared.call.Call.{Call}
-use Rattle.user_model.specs.declared.call.Call.TheVariants.{SetTimer, KillTimer}
+use Rattle.user_model.specs.declared.call.Call.TheVariants.{SetTimer}
 use Rattle.user_model.specs.declared.entry.Answer.{Answer}
 use Rattle.user_model.specs.declared.entry.Answer.TheVariants as answers
 use Rattle.user_model.specs.declared.entry.Origin.TheVariants as origins
@@ -17,19 +17,19 @@ use Rattle.user_model.specs.Past.{Past, is_refused}
 use Rattle.user_model.specs.Places.{clock}
 use Rattle.user_model.specs.Windows.{Window, drops_window, find_window, is_live, thread_of}
 use Rattle.user_model.specs.Retrievals.{removed_timer, removes}
-use Rattle.user_model.specs.Timers.{WinTimer, base, base_told, due, due_time, ends_timer, is_due, is_message_of, is_timer, passes_timer, passing_timers, sets, sooner, soonest_timer, timers, timers_of, timers_set}
+use Rattle.user_model.specs.Timers.{WinTimer, base, due, due_time, ends_timer, is_due, is_message_of, passes_timer, passing_timers, sets, sooner, soonest_timer, timers, timers_of, timers_set}
 use Rattle.user_model.specs.Since.{has_due_after}
 use Rattle.user_model.specs.Status.{came_after, has_timer, is_look, last_look, set_place, setting_told, timer_came}
 use Rattle.user_model.specs.Legal.{IsLawful}
 use Rattle.user_model.proofs.AnswerFacts.{IsTimer}
-use Rattle.user_model.proofs.ListLaws.{all_append, all_filter, all_kept, all_weaker, filter_agree}
+use Rattle.user_model.proofs.ListLaws.{all_append, all_filter, all_kept, all_weaker}
 use Rattle.user_model.proofs.KeptWindows.{not_true, or_neither}
 use Rattle.user_model.proofs.ReplyLaws.{by_row}
 use Rattle.user_model.proofs.DeliveryReplies.{timer_told}
 use Rattle.user_model.proofs.DirtyLaws.{last_says, last_refused}
 use Rattle.user_model.proofs.WindowLaws.{live-refused}
 use Rattle.user_model.proofs.TimerLaws.{base-next, base-refused, timers-next, timers-refused}
-use Rattle.user_model.proofs.TimerWindows.{IsLeft, left_alone, set_left, thread_stays, timers_live}
+use Rattle.user_model.proofs.TimerWindows.{IsLeft, left_alone, thread_stays, timers_live}
 use Rattle.user_model.proofs.LookLaws.{any_agree, is_look_of, last_look-look, last_look-other, last_look-refused, look_is_tail, tail_earlier, tail_shorter}
 use Rattle.user_model.proofs.StatusPosts.{removes_looks}
 

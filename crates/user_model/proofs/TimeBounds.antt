@@ -23,7 +23,7 @@ use Rattle.user_model.specs.Filters.{filter_of}
 use Rattle.user_model.specs.Windows.{drops_window, thread_of}
 use Rattle.user_model.specs.Retrievals.{removed_timer}
 use Rattle.user_model.specs.Timers.{WinTimer, base, due_time, ends_timer, is_message_of, passes_timer, passing_timers, restarts, sets, timers, timers_of, timers_set}
-use Rattle.user_model.specs.Refusals.{refuse, invalid_parameter, is_no_message}
+use Rattle.user_model.specs.Refusals.{refuse, invalid_parameter, is_no_message, has_beyond}
 use Rattle.user_model.specs.ReplyClock.{woken}
 use Rattle.user_model.specs.ReplySends.{deadline_in, waiting_send}
 use Rattle.user_model.specs.Replies.{thread_reply}
@@ -189,18 +189,18 @@ made_timed past e (answers.Begun s) w m p q k low due = (made_now past _ k refl 
 made_timed past e _ w m p q k low due = tt
 
 -- the milliseconds of a timeout send that is no refusal
-few_ms : (past : Past) (who w m flags ms : ℕ) (a : Answer) → is_refusal a ≡ false → refuse (is_no_message m || (nat_lt 1 flags || nat_lt 4294967295 ms)) invalid_parameter (waiting_send past who w) ≡ a → ms ≤ 4294967295
-few_ms past who w m flags ms a hit e =
-    let both = not_refused (is_no_message m || (nat_lt 1 flags || nat_lt 4294967295 ms)) invalid_parameter (waiting_send past who w) a hit e in
-    let two = or_parts (is_no_message m) (nat_lt 1 flags || nat_lt 4294967295 ms) both.0 in
-    let last = or_parts (nat_lt 1 flags) (nat_lt 4294967295 ms) two.1 in
+few_ms : (past : Past) (who w m : ℕ) (beyond : Bool) (ms : ℕ) (a : Answer) → is_refusal a ≡ false → refuse (is_no_message m || (beyond || nat_lt 4294967295 ms)) invalid_parameter (waiting_send past who w) ≡ a → ms ≤ 4294967295
+few_ms past who w m beyond ms a hit e =
+    let both = not_refused (is_no_message m || (beyond || nat_lt 4294967295 ms)) invalid_parameter (waiting_send past who w) a hit e in
+    let two = or_parts (is_no_message m) (beyond || nat_lt 4294967295 ms) both.0 in
+    let last = or_parts beyond (nat_lt 4294967295 ms) two.1 in
     let small : nat_lt 4294967295 ms ≡ false = last.1 in
     grind (arith, nat_tests, small)
 
 sent_timed : (setup : Setup) (past : Past) (e : Entry) (call : Call) → clock past ≤ latest (length past) → is_refused e ≡ false → e.answer ≡ reply setup past e.who.0 call → AllByRecursion (IsTimed (suc (length past))) (sends_by call e past)
 sent_timed setup past e (Send w m p q) low fine right = made_timed past e e.answer w m p q WaitKind low (λ x is. tt)
 sent_timed setup past e (SendTimeout w m p q flags ms) low fine right =
-    let few = few_ms past e.who.0 w m flags ms e.answer fine (by_call setup past e.who.0 (SendTimeout w m p q flags ms) e.answer (sym right) refl fine).is_row in
+    let few = few_ms past e.who.0 w m (has_beyond flags setup.smto) ms e.answer fine (by_call setup past e.who.0 (SendTimeout w m p q flags ms) e.answer (sym right) refl fine).is_row in
     made_timed past e e.answer w m p q (WithTimeout flags ms) low (λ x is. (omega (arith, low, is, few), tt))
 sent_timed setup past e (SendNotify w m p q) low fine right = made_timed past e e.answer w m p q Notify low (λ x is. tt)
 sent_timed setup past e (SendCallback w m p q n extra) low fine right = made_timed past e e.answer w m p q (WithCallback n extra) low (λ x is. tt)

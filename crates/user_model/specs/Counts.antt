@@ -1,17 +1,18 @@
 -- How many sends came to what.
 use Rattle.std.specs.Prelude.{ℕ, Bool, true, false, length, count_by, Option, Some, None}
 use Rattle.win_num.specs.declared.send.Cause.{Cause}
-use Rattle.win_num.specs.declared.send.Cause.TheVariants.{Proc, Reply, Loss, Timeout}
+use Rattle.win_num.specs.declared.send.Cause.TheVariants.{Proc, Reply, Loss, Timeout, Hung}
 use Rattle.user_model.specs.declared.entry.SendCount.{SendCount}
 use Rattle.user_model.specs.Past.{Past}
 use Rattle.user_model.specs.Sends.{Outcome, sends, answer, is_entered, unfinished}
 
--- whether two causes are one
+-- whether a cause counts as this one: a send that ended because its receiver was hung counts as timed out
 abbrev pub same_cause : Cause → Cause → Bool
 same_cause Proc Proc = true
 same_cause Reply Reply = true
 same_cause Loss Loss = true
 same_cause Timeout Timeout = true
+same_cause Hung Timeout = true
 same_cause _ _ = false
 
 -- whether there is an answer with the cause

@@ -7,10 +7,10 @@ use Rattle.user_model.specs.declared.entry.Setup.{Setup}
 use Rattle.user_model.specs.declared.entry.Answer.{Answer}
 use Rattle.user_model.specs.declared.entry.Answer.TheVariants.{Okay, Ended, Refused}
 use Rattle.user_model.specs.declared.call.Call.{Call}
-use Rattle.user_model.specs.declared.call.Call.TheVariants.{Peek, Get, Post, PostThread, PostQuit, Status, Dispatch, Send, SendTimeout, SendNotify, SendCallback, Await, Leave, Reply, InSend, Message, Translate, Register, Unregister, NewWindow, Doom, Unmake, Drop, Place, Show, Enable, Find, AwaitTitle, NextTop, WindowAt, IsWindow, Parent, SetFocus, SetActive, SetCapture, ReleaseCapture, GetFocus, GetActive, GetCapture, Attach, Detach, Mouse, Key, KeyState, BeginDialog, DialogState, EndDialog, Invalidate, Validate, UpdateRect, BeginPaint, EndPaint, Fill, Erase, Snap, SetTimer, KillTimer, EndThread, Clock, SleepUntil, Yield, Tick, Advance}
+use Rattle.user_model.specs.declared.call.Call.TheVariants.{Peek, Get, Post, PostThread, PostQuit, Status, Dispatch, Send, SendTimeout, SendNotify, SendCallback, Await, Leave, Reply, InSend, Message, Translate, Register, Unregister, NewWindow, Doom, Unmake, Drop, Place, Show, Enable, Find, AwaitTitle, NextTop, ChildAfter, StyleOf, WindowAt, IsWindow, Parent, SetFocus, SetActive, SetCapture, ReleaseCapture, GetFocus, GetActive, GetCapture, Attach, Detach, Mouse, Key, KeyState, BeginDialog, DialogState, EndDialog, Invalidate, Validate, UpdateRect, BeginPaint, EndPaint, Fill, Erase, Snap, SetTimer, KillTimer, EndThread, Clock, SleepUntil, Yield, Tick, Advance}
 use Rattle.user_model.specs.Past.{Past}
 use Rattle.user_model.specs.ReplyDelivery.{peek_reply, get_reply, post_reply, post_thread_reply, status_reply}
-use Rattle.user_model.specs.ReplyWindows.{register_reply, unregister_reply, message_reply, new_window_reply, doom_reply, unmake_reply, drop_reply, place_reply, show_reply, enable_reply, find_reply, await_title_reply, next_top_reply, window_at_reply, is_window_reply, parent_reply}
+use Rattle.user_model.specs.ReplyWindows.{register_reply, unregister_reply, message_reply, new_window_reply, doom_reply, unmake_reply, drop_reply, place_reply, show_reply, enable_reply, find_reply, await_title_reply, next_top_reply, child_after_reply, style_of_reply, window_at_reply, is_window_reply, parent_reply}
 use Rattle.user_model.specs.Focus.{focus, active, capture}
 use Rattle.user_model.specs.ReplyGroups.{set_focus_reply, set_active_reply, set_capture_reply, was, value_reply, attach_reply, detach_reply}
 use Rattle.user_model.specs.ReplyInput.{mouse_reply, key_reply, key_state_reply, translate_reply}
@@ -26,13 +26,13 @@ use Rattle.user_model.specs.Threads.{is_running}
 abbrev pub row : Setup → Past → ℕ → Call → Answer
 row setup past who (Peek w min max flags) = peek_reply setup past who w min max flags
 row setup past who (Get w min max) = get_reply setup past who w min max
-row setup past who (Post w number wparam lparam) = post_reply past who w number
+row setup past who (Post w number wparam lparam) = post_reply setup past who w number
 row setup past who (PostThread t number wparam lparam) = post_thread_reply setup past t number
 row setup past who (PostQuit code) = Okay
 row setup past who (Status flags) = status_reply setup past who flags
 row setup past who (Dispatch w number wparam lparam) = dispatch_reply past who w number
 row setup past who (Send w number wparam lparam) = send_reply past who w number
-row setup past who (SendTimeout w number wparam lparam flags ms) = send_timeout_reply past who w number flags ms
+row setup past who (SendTimeout w number wparam lparam flags ms) = send_timeout_reply setup past who w number flags ms
 row setup past who (SendNotify w number wparam lparam) = send_other_reply past who w number
 row setup past who (SendCallback w number wparam lparam proc_no extra) = send_other_reply past who w number
 row setup past who (Await s) = await_reply past who s
@@ -40,7 +40,7 @@ row setup past who (Leave v) = leave_reply past who v
 row setup past who (Reply v) = reply_reply past who
 row setup past who InSend = in_send_reply past who
 row setup past who (Message name) = message_reply past name
-row setup past who (Translate w number key lparam) = translate_reply past who w number key
+row setup past who (Translate w number key lparam) = translate_reply setup past who w number key
 row setup past who (Register name proc_no colour) = register_reply past name colour
 row setup past who (Unregister name) = unregister_reply past name
 row setup past who (NewWindow class title parent style ex l t r b) = new_window_reply past who class parent style ex l t r b
@@ -53,6 +53,8 @@ row setup past who (Enable w on) = enable_reply past w on
 row setup past who (Find title) = find_reply past title
 row setup past who (AwaitTitle title) = await_title_reply past title
 row setup past who (NextTop w) = next_top_reply past w
+row setup past who (ChildAfter w v) = child_after_reply past w v
+row setup past who (StyleOf w) = style_of_reply past w
 row setup past who (WindowAt x y) = window_at_reply setup past x y
 row setup past who (IsWindow w) = is_window_reply past w
 row setup past who (Parent w) = parent_reply past w

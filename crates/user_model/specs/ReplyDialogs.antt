@@ -1,5 +1,5 @@
 -- The answers of the calls on dialogs.
-use Rattle.std.specs.Prelude.{ℕ, ◌==◌, Bool, true, false, not, ◌&&◌, Option, Some, None, is_some, is_none, unwrap_or, option_map}
+use Rattle.std.specs.Prelude.{ℕ, ◌==◌, not, ◌&&◌, Option, Some, None, is_some, is_none, unwrap_or, option_map}
 use Rattle.user_model.specs.declared.dialog.Dialog.{Dialog}
 use Rattle.user_model.specs.declared.dialog.Dialog.TheVariants as dialogs
 use Rattle.user_model.specs.declared.entry.Answer.{Answer}

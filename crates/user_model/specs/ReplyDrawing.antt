@@ -1,5 +1,5 @@
 -- The answers of the calls that draw.
-use Rattle.std.specs.Prelude.{ℕ, suc, nat_lt, nat_le, length, Bool, not, ◌&&◌, ◌||◌, ℤ, ◌-ℤ◌, List, [], ◌∷◌}
+use Rattle.std.specs.Prelude.{if◌then◌else◌, ℕ, suc, nat_lt, nat_le, length, Bool, not, ◌&&◌, ◌||◌, ℤ, ◌-ℤ◌, List, [], ◌∷◌}
 use Rattle.win_num.specs.declared.shapes.Point.{Point}
 use Rattle.win_num.specs.PixelSets.{Box, bounds, box, kind_of}
 use Rattle.user_model.specs.declared.entry.Setup.{Setup}
@@ -35,9 +35,9 @@ update_told kind b = Update kind b.left b.top b.right b.bottom
 abbrev pub update_rect_reply : Setup → Past → ℕ → Answer
 update_rect_reply setup past w = if_live past w (update_told (kind_of (dirty_pixels setup past w)) (bounds_from (origin past w) (dirty_pixels setup past w)))
 
--- a flag and a rectangle as an answer
+-- a flag, as 1 or 0, and a rectangle as an answer
 abbrev pub painting_begun : Bool → Box → Answer
-painting_begun erases b = Painting erases b.left b.top b.right b.bottom
+painting_begun erases b = Painting (if erases then 1 else 0) b.left b.top b.right b.bottom
 
 -- painting of an own window begins, which isn't being painted
 abbrev pub begin_paint_reply : Setup → Past → ℕ → ℕ → Answer

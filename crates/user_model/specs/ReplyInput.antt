@@ -50,5 +50,5 @@ abbrev pub key_state_reply : Past → ℕ → ℕ → Answer
 key_state_reply past who key = refuse (is_no_key key) invalid_parameter (Value (if is_key_down past who key then 32768 else 0))
 
 -- the character of a key that goes down is posted, where it has one; else 0
-abbrev pub translate_reply : Past → ℕ → ℕ → ℕ → ℕ → Answer
-translate_reply past who w number key = if (number == WM_KEYDOWN) && has_character key then refuse (is_no_post_window past w) invalid_window_handle (post_to past (queue_of past who w)) else Value 0
+abbrev pub translate_reply : Setup → Past → ℕ → ℕ → ℕ → ℕ → Answer
+translate_reply setup past who w number key = if (number == WM_KEYDOWN) && has_character key then refuse (is_no_post_window past w) invalid_window_handle (post_to setup past (queue_of past who w)) else Value 0

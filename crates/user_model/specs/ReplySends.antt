@@ -7,6 +7,7 @@ use Rattle.win_num.specs.declared.send.Frame.{Frame}
 use Rattle.win_num.specs.declared.send.Frame.TheVariants.{Entered, Inside as InsideFrame}
 use Rattle.win_num.specs.declared.code.Code.TheVariants.{Full}
 use Rattle.win_num.specs.declared.names.TheConstants.{SMTO_BLOCK}
+use Rattle.user_model.specs.declared.entry.Setup.{Setup}
 use Rattle.user_model.specs.declared.entry.Answer.{Answer}
 use Rattle.user_model.specs.declared.entry.Answer.TheVariants.{Okay, Wait, Value, Called, Inside, Begun, Left, Callback, Done}
 use Rattle.user_model.specs.Past.{Past}
@@ -16,7 +17,7 @@ use Rattle.user_model.specs.Classes.{proc_of}
 use Rattle.user_model.specs.Stacks.{top, has_room}
 use Rattle.user_model.specs.Sends.{SentMsg, send, sends, answer, is_answered, unfinished}
 use Rattle.user_model.specs.Next.{next_ready}
-use Rattle.user_model.specs.Refusals.{refuse, if_live, if_own, is_no_message, invalid_parameter, stack_overflow}
+use Rattle.user_model.specs.Refusals.{refuse, if_live, if_own, is_no_message, has_beyond, invalid_parameter, stack_overflow}
 
 -- the window's procedure is called; nothing where there is no window
 abbrev pub dispatch_to : Past → ℕ → ℕ → Answer
@@ -50,9 +51,9 @@ other_send past who w = if_live past w (refuse ((thread_of past w == who) && not
 abbrev pub send_reply : Past → ℕ → ℕ → ℕ → Answer
 send_reply past who w number = refuse (is_no_message number) invalid_parameter (waiting_send past who w)
 
--- a send that waits for a time
-abbrev pub send_timeout_reply : Past → ℕ → ℕ → ℕ → ℕ → ℕ → Answer
-send_timeout_reply past who w number flags ms = refuse (is_no_message number || (nat_lt 1 flags || nat_lt 4294967295 ms)) invalid_parameter (waiting_send past who w)
+-- a send that waits for a time, with flags that the setup has
+abbrev pub send_timeout_reply : Setup → Past → ℕ → ℕ → ℕ → ℕ → ℕ → Answer
+send_timeout_reply setup past who w number flags ms = refuse (is_no_message number || (has_beyond flags setup.smto || nat_lt 4294967295 ms)) invalid_parameter (waiting_send past who w)
 
 -- a send that doesn't wait
 abbrev pub send_other_reply : Past → ℕ → ℕ → ℕ → Answer

@@ -8,8 +8,8 @@ use Rattle.user_model.specs.declared.entry.Setup.{Setup}
 use Rattle.user_model.specs.declared.entry.Answer.{Answer}
 use Rattle.user_model.specs.declared.entry.Answer.TheVariants.{Okay, Wait, Gone, Value, Window as WindowTold, Tell, Last}
 use Rattle.user_model.specs.Past.{Past}
-use Rattle.user_model.specs.Windows.{Window, has_flag, live, window, is_live, thread_of, parent_in, windows_made, up, next_top}
-use Rattle.user_model.specs.Looks.{Look, look, placed, is_shown, is_disabled}
+use Rattle.user_model.specs.Windows.{Window, has_flag, live, window, is_live, thread_of, parent_in, windows_made, up, next_child}
+use Rattle.user_model.specs.Looks.{Look, look, placed, style_of, is_shown, is_disabled}
 use Rattle.user_model.specs.ZOrder.{hwnd, titled}
 use Rattle.user_model.specs.Pixels.{point, owner}
 use Rattle.user_model.specs.Destruction.{Step, told, ended, is_marked, was_given, next_step}
@@ -152,9 +152,21 @@ find_reply past title = WindowTold (unwrap_or (titled past title) (hwnd 0))
 abbrev pub await_title_reply : Past → ℕ → Answer
 await_title_reply past title = elim (titled past title) [ None ↦ Wait | Some w ↦ WindowTold w ]
 
+-- the child of a window, or for 0 the top-level window, of least number above v, or 0
+abbrev pub child_told : Past → ℕ → ℕ → Answer
+child_told past parent v = window_told (unwrap_or (option_map (λ x. x.number) (next_child past parent v)) 0)
+
 -- the top-level window of least number above w, or 0
 abbrev pub next_top_reply : Past → ℕ → Answer
-next_top_reply past w = window_told (unwrap_or (option_map (λ x. x.number) (next_top past w)) 0)
+next_top_reply past w = child_told past 0 w
+
+-- the child of a live window of least number above v, or 0
+abbrev pub child_after_reply : Past → ℕ → ℕ → Answer
+child_after_reply past w v = if_live past w (child_told past w v)
+
+-- the style bits of a live window as they are now
+abbrev pub style_of_reply : Past → ℕ → Answer
+style_of_reply past w = if_live past w (Value (style_of past w))
 
 -- the window that owns a pixel of the screen, or 0
 abbrev pub window_at_reply : Setup → Past → ℤ → ℤ → Answer

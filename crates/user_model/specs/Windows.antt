@@ -123,6 +123,6 @@ numbers_made a call = numbers_as a (deed call)
 abbrev pub windows_made : Past → List ℕ
 windows_made past = each_of (λ e before. numbers_made e.answer e.call) past
 
--- the top-level live window of least number above w
-abbrev pub next_top : Past → ℕ → Option Window
-next_top past w = find (λ x. (x.parent == 0) && nat_lt w x.number) (live past)
+-- the live window with this parent, or of top-level windows for 0, of least number above v
+abbrev pub next_child : Past → ℕ → ℕ → Option Window
+next_child past parent v = find (λ x. (x.parent == parent) && nat_lt v x.number) (live past)

@@ -34,8 +34,8 @@ pub enum Call {
     /// Sends a message and waits for its answer: the window, the message's number, wParam and lParam
     /// (Microsoft, SendMessage function).
     Send(u64, u64, u64, u64),
-    /// Sends a message and waits for its answer for a time: the same, flags of which bit 0 is SMTO_BLOCK,
-    /// and milliseconds (Microsoft, SendMessageTimeout function).
+    /// Sends a message and waits for its answer for a time: the same, flags, of which those of the setup are known, and
+    /// milliseconds (Microsoft, SendMessageTimeout function).
     SendTimeout(u64, u64, u64, u64, u64, u64),
     /// Sends a message and goes on (Microsoft, SendNotifyMessage function).
     SendNotify(u64, u64, u64, u64),
@@ -88,6 +88,11 @@ pub enum Call {
     AwaitTitle(u32),
     /// The top-level window of least number above this one.
     NextTop(u64),
+    /// The child of a window of least number above another: the window, and the number, 0 for the first
+    /// child (Microsoft, GetWindow function).
+    ChildAfter(u64, u64),
+    /// The style bits of a window as they are now (Microsoft, GetWindowLong function with GWL_STYLE).
+    StyleOf(u64),
     /// The window that owns the pixel of the screen at this x and y, counted from its left top corner
     /// (Microsoft, WindowFromPoint function).
     WindowAt(i64, i64),

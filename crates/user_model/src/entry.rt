@@ -97,10 +97,10 @@ pub enum Answer {
         r: i32,
         b: i32,
     },
-    /// A window's painting was begun: whether its background is to be erased, and the edges of the least rectangle around
+    /// A window's painting was begun: 1 where its background is to be erased, else 0, and the edges of the least rectangle around
     /// the pixels that were dirty, in pixels from the window's left top corner, or 0 0 0 0.
     Painting {
-        erases: bool,
+        erase: u8,
         l: i32,
         t: i32,
         r: i32,
@@ -135,6 +135,11 @@ pub struct Setup {
     pub width: u16,
     /// The height of the screen, 1 to 64 pixels.
     pub height: u16,
+    /// The flags that a send with a time may have: 1, which is SMTO_BLOCK alone (Microsoft, SendMessageTimeout function).
+    pub smto: u8,
+    /// How many posted messages the queue of thread `t` holds at most, at place `t - 1`: 1 to 10,000 (Microsoft, PostMessage
+    /// function). The places of no thread have a limit too, and nothing reads it.
+    pub posts: [u32; 15],
 }
 
 /// How many sends came to what.
@@ -157,17 +162,40 @@ pub struct SendCount {
 }
 
 impl Setup {
-    ghost use Rattle.user_model.specs.Setups.{IsSetup, setup_from};
+    ghost use Rattle.std.specs.Prelude.{List, length};
+    ghost use Rattle.user_model.specs.Setups.{IsSetup, IsSize, post_limit, setup_from, setup_with};
 
-    /// The setup of so many threads, and of a screen of this width and height, in pixels.
+    /// The setup of so many threads, and of a screen of this width and height, in pixels. Each thread's queue holds 10,000
+    /// posted messages at most, and SMTO_BLOCK is the one flag of sends with a time.
     pub fn new(threads: u8, width: u16, height: u16) -> Setup
-        requires { IsSetup (setup_from threads width height) }
-        ensures { result ≡ setup_from threads width height }
+        requires { IsSize threads width height }
+        ensures setup { result ≡ setup_from threads width height }
+        ensures fits { IsSetup result }
+    {
+        Setup::with_limits(threads, width, height, 1, [10000; 15])
+    }
+
+    /// The setup of so many threads, of a screen of this width and height, in pixels, of these flags of sends with a time, 1,
+    /// and of limits of posted messages, 1 to 10,000, that of thread `t` at place `t - 1`.
+    pub fn with_limits(threads: u8, width: u16, height: u16, smto: u8, posts: [u32; 15]) -> Setup
+        requires { IsSetup (setup_with threads width height smto posts) }
+        ensures { result ≡ setup_with threads width height smto posts }
     {
         Setup {
             threads,
             width,
             height,
+            smto,
+            posts,
         }
+    }
+
+    /// How many posted messages the queue of a thread, 1 to 15, holds at most.
+    pub fn post_limit(&self, thread: u8) -> usize
+        requires first { 1 ≤ thread }
+        requires last { thread ≤ 15 }
+        ensures { result ≡ post_limit self.now thread }
+    {
+        self.posts[usize::from(thread) - 1] as usize
     }
 }

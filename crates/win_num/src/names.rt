@@ -66,11 +66,20 @@ pub const SWP_SHOWWINDOW: u64 = 64;
 /// Hides the window (Microsoft, SetWindowPos function).
 pub const SWP_HIDEWINDOW: u64 = 128;
 
+/// Carries no pixels of the window to its new place (Microsoft, SetWindowPos function).
+pub const SWP_NOCOPYBITS: u64 = 256;
+
 /// The message is taken out (Microsoft, PeekMessage function).
 pub const PM_REMOVE: u64 = 1;
 
 /// The sender serves nobody while it waits (Microsoft, SendMessageTimeout function).
 pub const SMTO_BLOCK: u64 = 1;
+
+/// The sender gives up as soon as the receiver is hung (Microsoft, SendMessageTimeout function).
+pub const SMTO_ABORTIFHUNG: u64 = 2;
+
+/// The sender's time ends only while the receiver is hung (Microsoft, SendMessageTimeout function).
+pub const SMTO_NOTIMEOUTIFNOTHUNG: u64 = 8;
 
 /// The left mouse button (Microsoft, Virtual-Key Codes).
 pub const VK_LBUTTON: u64 = 1;

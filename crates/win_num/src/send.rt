@@ -9,8 +9,8 @@ pub struct SendId(pub u32);
 pub enum Kind {
     /// The sender waits for the answer (Microsoft, SendMessage function).
     Wait,
-    /// The sender waits at most `ms` milliseconds of the virtual clock; bit 0 of `flags` is SMTO_BLOCK
-    /// (Microsoft, SendMessageTimeout function).
+    /// The sender waits at most `ms` milliseconds of the virtual clock; `flags` are SMTO_BLOCK,
+    /// SMTO_ABORTIFHUNG and SMTO_NOTIMEOUTIFNOTHUNG (Microsoft, SendMessageTimeout function).
     Timeout { flags: u8, ms: u32 },
     /// The sender goes on (Microsoft, SendNotifyMessage function).
     Notify,
@@ -30,6 +30,8 @@ pub enum Cause {
     Loss,
     /// The sender's time was over.
     Timeout,
+    /// The receiver was hung (Microsoft, SendMessageTimeout function, SMTO_ABORTIFHUNG).
+    Hung,
 }
 
 /// What stands on a thread's stack of frames.

@@ -75,9 +75,13 @@ marked_if w x = marked_also (x.number.0 == w) x
 abbrev pub set_if : ℕ → ℕ → ℕ → Rect → Window → Window
 set_if w style ex place x = if x.number.0 == w then record x { row = record x.row { style = style; ex = ex; place = place } } else x
 
+-- the window with this parent, or for 0 the top-level window, of least number above v, or 0
+abbrev pub next_child : List Window → ℕ → ℕ → Hwnd
+next_child ws parent v = unwrap_or (option_map number_of (find (λ x. (x.row.parent.0 == parent) && nat_lt v x.number.0) ws)) nobody
+
 -- the top-level window of least number above w, or 0
 abbrev pub next_top : List Window → ℕ → Hwnd
-next_top ws w = unwrap_or (option_map number_of (find (λ x. (x.row.parent.0 == 0) && nat_lt w x.number.0) ws)) nobody
+next_top ws w = next_child ws 0 w
 
 -- each number is above the one before it, and the first above this one
 abbrev pub RisesFrom : ℕ → List Window → Type 0

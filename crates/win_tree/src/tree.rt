@@ -3,7 +3,7 @@
 ghost use Rattle.std.specs.Prelude.{◌≡◌, ℕ, ◌+◌, ◌<◌, ◌++◌, ◌∷◌, [], List, length, map, not, IsTrue, IfOk, OnOk, OnErr, MatchResult, Option, Some, None, IfNone, IfSome, ◌^◌, ◌==◌, option_copied, option_map};
 ghost use Rattle.std.specs.List.{filter, list_any};
 ghost use Rattle.std.specs.List.Sorted.{IsNonDecreasingBy};
-ghost use Rattle.win_rows.specs.Windows.{IsOrdered, Windows, no_windows, number_of, window_of, is_live, is_marked, is_ended, told_if, ended_if, set_if, next_top, up, marked_if, RisesFrom};
+ghost use Rattle.win_rows.specs.Windows.{IsOrdered, Windows, no_windows, number_of, window_of, is_live, is_marked, is_ended, told_if, ended_if, set_if, next_child, next_top, up, marked_if, RisesFrom};
 ghost use Rattle.win_rows.specs.declared.window.Window.{Window};
 ghost use Rattle.win_tree.specs.Kin.{with_marked, IsFaultFor, is_bad, refusal, next_number, settled, with_window, doomed, doom_refusal, dropped, drop_refusal, is_below, is_alone, is_kin, is_of_other, without_thread, has_class};
 ghost use Rattle.win_rows.specs.Destruction.{unmade, given, next_step};
@@ -377,9 +377,16 @@ impl Tree {
     pub fn next_top(&self, w: Hwnd) -> Hwnd
         ensures { result ≡ next_top self.now.live w.0 }
     {
+        self.next_child(Hwnd(0), w)
+    }
+
+    /// The child of a window, or for 0 the top-level window, of least number above a number, or 0 where there is none.
+    pub fn next_child(&self, parent: Hwnd, above: Hwnd) -> Hwnd
+        ensures { result ≡ next_child self.now.live parent.0 above.0 }
+    {
         for i in 0..self.rows.len() {
             let x = self.rows.at(i);
-            if x.row.parent == Hwnd(0) && w < x.number {
+            if x.row.parent == parent && above < x.number {
                 return x.number;
             }
         }

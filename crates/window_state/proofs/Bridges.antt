@@ -121,8 +121,8 @@ next_of : (o : Option KeptWindow) → unwrap_or (option_map (λ (x : Window). x.
 next_of None = refl
 next_of (Some x) = refl
 
--- the next top-level window, or 0
-pub next_top_made : (ws : List KeptWindow) (w : ℕ) → unwrap_or (option_map (λ (x : Window). x.number) (find (λ x. eqb x.parent 0 && ltb w x.number) (map as_made ws))) 0 ≡ (kept.next_top ws w).0
-next_top_made ws w =
-    ap (λ (o : Option Window). unwrap_or (option_map (λ (x : Window). x.number) o) 0) (find_made (λ x. eqb x.parent 0 && ltb w x.number) (λ x. eqb x.row.parent.0 0 && ltb w x.number.0) (λ x. refl) ws)
-    ∙ next_of (find (λ x. eqb x.row.parent.0 0 && ltb w x.number.0) ws)
+-- the next child of a window, or the next top-level window for 0; or 0
+pub next_child_made : (ws : List KeptWindow) (parent v : ℕ) → unwrap_or (option_map (λ (x : Window). x.number) (find (λ x. eqb x.parent parent && ltb v x.number) (map as_made ws))) 0 ≡ (kept.next_child ws parent v).0
+next_child_made ws parent v =
+    ap (λ (o : Option Window). unwrap_or (option_map (λ (x : Window). x.number) o) 0) (find_made (λ x. eqb x.parent parent && ltb v x.number) (λ x. eqb x.row.parent.0 parent && ltb v x.number.0) (λ x. refl) ws)
+    ∙ next_of (find (λ x. eqb x.row.parent.0 parent && ltb v x.number.0) ws)

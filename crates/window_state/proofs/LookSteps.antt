@@ -1,7 +1,7 @@
 -- How windows of the table look after an entry that changes it.
 use Rattle.std.proofs.Common.{◌≡◌, ℕ, Bool, true, false, cond, eqb, List, [], ◌∷◌, map, Option, Some, None, refl, ap, ◌∙◌, sym, subst, arith}
 use Rattle.std.specs.Prelude.{◌&&◌, ℤ, pos, negsuc, ◌+ℤ◌, ◌-ℤ◌, int_lt, is_some, option_map}
-use Rattle.std.proofs.lemmas.Bool.{eqb-true, eq-eqb, ne_eqb, or_parts, or_from, true≢false}
+use Rattle.std.proofs.lemmas.Bool.{eqb-true, eq-eqb, ne_eqb, or_parts, or_from, true≢false, false≢true}
 use Rattle.std.proofs.lemmas.Int.{ints, to_z-of_z}
 use mir.Val.{SFits, of_z, to_z}
 use mir.Syntax.{w32, w64}
@@ -23,7 +23,7 @@ use Rattle.user_model.specs.Past.{Past}
 use Rattle.user_model.specs.Windows.{has_flag, live, is_live, numbers_made}
 use Rattle.user_model.specs.ReplyWindows.{changes_told}
 use Rattle.user_model.specs.Destruction.{Step, is_marked, was_given}
-use Rattle.user_model.specs.Looks.{Look, look, is_disabled, is_shown, look_of, corner_and_size, moved_by, placed, shown_look, enabled_look}
+use Rattle.user_model.specs.Looks.{Look, look, style_of, is_disabled, is_shown, look_of, corner_and_size, moved_by, placed, shown_look, enabled_look}
 use Rattle.user_model.specs.Refusals.{is_no_rect, is_outside}
 use Rattle.user_model.specs.Idle.{reply}
 use Rattle.user_model.specs.Machines.{entry_of}
@@ -32,7 +32,7 @@ use Rattle.user_model.proofs.WindowLaws.{live-same, is_marked-same, was_given-sa
 use Rattle.user_model.proofs.WindowReplies.{place_told, show_told, enable_told}
 use Rattle.window_state.specs.Trees.{as_made, look_in, HasLook, HasMarks, IsTreeAt}
 use Rattle.window_state.specs.Effects.{IsRelooked}
-use Rattle.window_state.specs.Placings.{changes_in, disabled_in, shown_in}
+use Rattle.window_state.specs.Placings.{changes_in, disabled_in, shown_in, style_in}
 use Rattle.window_state.specs.Needs.{FitsLooking, Fitting}
 use Rattle.window_state.proofs.TreeFacts.{found_passes, is_live_at}
 use Rattle.window_state.proofs.TreeLaws.{eqb_swap, marks_same, remarked}
@@ -262,6 +262,14 @@ fits_looking setup past t who n (calls.Enable w on) at right = sym (is_live_at p
 fits_looking setup past t who n _ at right = tt
 
 -- ---- what the table tells of looks
+
+-- the style bits of a live window
+pub style_at : (past : Past) (t : Windows) (w : ℕ) → IsTreeAt past t → is_live past w ≡ true → style_in t.live w ≡ style_of past w
+style_at past t w at lives = pick (kept.window_of t.live w) refl
+  where
+    pick : (o : Option KeptWindow) → kept.window_of t.live w ≡ o → style_in t.live w ≡ style_of past w
+    pick None e = absurd (false≢true (sym (is_live_at past t at w ∙ ap (λ (o : Option KeptWindow). is_some o) e) ∙ lives))
+    pick (Some x) e = ap (λ (o : Option KeptWindow). elim o as (λ p. ℕ) [ None ↦ 0 | Some x ↦ x.row.style ]) e ∙ ap (λ (z : Look). z.style) (look_found past t at w x e)
 
 -- whether a window has WS_VISIBLE
 pub shown_at : (past : Past) (t : Windows) (w : ℕ) → IsTreeAt past t → shown_in t.live w ≡ (is_live past w && is_shown past w)

@@ -19,7 +19,7 @@ use Rattle.user_model.specs.Past.{Past}
 use Rattle.user_model.specs.Windows.{Window, live, window, is_live, up, windows_made}
 use Rattle.user_model.specs.Destruction.{is_marked, next_step}
 use Rattle.user_model.specs.Legal.{IsLawful}
-use Rattle.user_model.specs.ReplyWindows.{next_window, next_top_reply, window_told, step_answer}
+use Rattle.user_model.specs.ReplyWindows.{next_window, child_told, window_told, step_answer}
 use Rattle.user_model.proofs.ListLaws.{all_weaker}
 use Rattle.user_model.proofs.Forests.{IsBetween, all_between}
 use Rattle.user_model.proofs.LiveWindows.{sound}
@@ -38,16 +38,16 @@ told_same x (Some (kept_steps.told y)) = refl
 told_same x (Some (kept_steps.ended y)) = refl
 told_same x None = refl
 
-none_over : (w : ℕ) (ws : List Window) → AllByRecursion (λ x. x.number ≤ w) ws → find (λ x. eqb x.parent 0 && ltb w x.number) ws ≡ None
-none_over w [] h = refl
-none_over w (x ∷ ws) h = ap (λ b. cond b (Some x) (find (λ x. eqb x.parent 0 && ltb w x.number) ws)) (and_right (eqb x.parent 0) (ltb w x.number) (le-ltb w x.number h.0)) ∙ none_over w ws h.1
+none_over : (parent w : ℕ) (ws : List Window) → AllByRecursion (λ x. x.number ≤ w) ws → find (λ x. eqb x.parent parent && ltb w x.number) ws ≡ None
+none_over parent w [] h = refl
+none_over parent w (x ∷ ws) h = ap (λ b. cond b (Some x) (find (λ x. eqb x.parent parent && ltb w x.number) ws)) (and_right (eqb x.parent parent) (ltb w x.number) (le-ltb w x.number h.0)) ∙ none_over parent w ws h.1
 
 -- no window is above a number that none reaches
-pub next_top_great : (setup : Setup) (past : Past) (w : ℕ) → IsLawful setup past → 4294967296 ≤ w → next_top_reply past w ≡ answers.Window (record { 0 = 0 })
-next_top_great setup past w lawful great =
+pub next_child_great : (setup : Setup) (past : Past) (parent w : ℕ) → IsLawful setup past → 4294967296 ≤ w → child_told past parent w ≡ answers.Window (record { 0 = 0 })
+next_child_great setup past parent w lawful great =
     let few = made_bounded setup past lawful in
     ap (λ (o : Option Window). window_told (unwrap_or (option_map (λ (x : Window). x.number) o) 0))
-    (none_over w (live past) (all_weaker (IsBetween 15 (15 + length (windows_made past))) (λ x. x.number ≤ w) (λ x b. (let le = b.within in omega (arith, le, few, great))) (live past) (all_between 15 (15 + length (windows_made past)) (live past) (sound setup past lawful).rising)))
+    (none_over parent w (live past) (all_weaker (IsBetween 15 (15 + length (windows_made past))) (λ x. x.number ≤ w) (λ x b. (let le = b.within in omega (arith, le, few, great))) (live past) (all_between 15 (15 + length (windows_made past)) (live past) (sound setup past lawful).rising)))
 
 module _ (past : Past) (t : Windows) (at : IsTreeAt past t) where
   -- what stands above a window, or owns it

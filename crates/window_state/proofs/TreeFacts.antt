@@ -21,11 +21,11 @@ use Rattle.user_model.specs.Windows.{Window, find_window, live, window, is_live,
 use Rattle.user_model.specs.Destruction.{Step, ended, is_marked, was_given, next_step, destruction, destruction_of}
 use Rattle.user_model.specs.Classes.{is_used}
 use Rattle.user_model.specs.Refusals.{refuse, invalid_parameter, access_denied}
-use Rattle.user_model.specs.ReplyWindows.{step_answer, unmake_reply, unmake_step, next_top_reply, window_told}
+use Rattle.user_model.specs.ReplyWindows.{step_answer, unmake_reply, unmake_step, child_told, window_told}
 use Rattle.user_model.proofs.ListLaws.{all_found}
 use Rattle.user_model.proofs.WindowReplies.{IsUnmade}
 use Rattle.window_state.specs.Trees.{as_made, HasMarks, IsTreeAt}
-use Rattle.window_state.proofs.Bridges.{window_made, live_made, kin_made, below_made, top_made, next_top_made, any_made}
+use Rattle.window_state.proofs.Bridges.{window_made, live_made, kin_made, below_made, top_made, next_child_made, any_made}
 use Rattle.window_state.proofs.Destructions.{as_step, destruction_made, destruction_all, find_left}
 
 -- the table of no past
@@ -82,10 +82,10 @@ module _ (past : Past) (t : Windows) (at : IsTreeAt past t) where
   pub top_of_at : (w : Hwnd) → top_of (live past) w.0 ≡ (kept_kin.top_of t.live w).0
   top_of_at w = ap (λ (ws : List Window). top_of ws w.0) (sym at.windows) ∙ top_made t.live w
 
-  -- the next top-level window
-  pub next_top_at : (w : ℕ) → next_top_reply past w ≡ answers.Window (kept.next_top t.live w)
-  next_top_at w =
-      ap (λ n. window_told n) (ap (λ (ws : List Window). unwrap_or (option_map (λ (x : Window). x.number) (find (λ x. eqb x.parent 0 && ltb w x.number) ws)) 0) (sym at.windows) ∙ next_top_made t.live w)
+  -- the next child of a window, or for 0 the next top-level window
+  pub next_child_at : (parent v : ℕ) → child_told past parent v ≡ answers.Window (kept.next_child t.live parent v)
+  next_child_at parent v =
+      ap (λ n. window_told n) (ap (λ (ws : List Window). unwrap_or (option_map (λ (x : Window). x.number) (find (λ x. eqb x.parent parent && ltb v x.number) ws)) 0) (sym at.windows) ∙ next_child_made t.live parent v)
 
   -- whether a window has the class
   pub is_used_at : (class : ℕ) → is_used past class ≡ kept_kin.has_class t.live class

@@ -20,6 +20,10 @@ box_of e = box e.l e.t e.r e.b
 abbrev pub look_told : ToldLook → Look
 look_told x = look_of x.style x.ex (box_in x.place)
 
+-- the style bits of a window of the table, or 0
+abbrev pub style_in : List Window → ℕ → ℕ
+style_in ws w = elim (window_of ws w) [ None ↦ 0 | Some x ↦ x.row.style ]
+
 -- whether a window of the table has WS_VISIBLE
 abbrev pub shown_in : List Window → ℕ → Bool
 shown_in ws w = elim (window_of ws w) [ None ↦ false | Some x ↦ has_flag x.row.style WS_VISIBLE ]

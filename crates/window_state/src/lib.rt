@@ -15,7 +15,9 @@ mod titles;
 
 pub use boxes::{moved_windows, origin_of};
 pub use finding::{parent_of, step_told, thread_of, up, window_or_none};
-pub use looks::{Edges, Placing, enabled_at, is_disabled, is_shown, placing_changes, relook};
+pub use looks::{
+    Edges, Placing, enabled_at, is_disabled, is_shown, placing_changes, relook, style_of,
+};
 pub use pixels::owner_at;
 pub use ranks::{leave, reorder};
 pub use tables::{doom, drop_window, make, name, unmake, unregister};

@@ -12,7 +12,7 @@ ghost use Rattle.window_state.specs.Enabled.{IsEnabledAt, enabled_from};
 ghost use Rattle.window_state.specs.Trees.{look_in};
 ghost use Rattle.window_state.specs.Effects.{IsLookedAt, IsRelooked};
 ghost use Rattle.window_state.specs.Needs.{FitsLooking, Fitting};
-ghost use Rattle.window_state.specs.Placings.{box_of, changes_in, disabled_in, look_told, shown_in};
+ghost use Rattle.window_state.specs.Placings.{box_of, changes_in, disabled_in, look_told, shown_in, style_in};
 ghost use Rattle.user_model.specs.ReplyWindows.{bit_if, changes_told, differ, has_moved, is_resized};
 ghost use Rattle.win_num.specs.declared.names.TheConstants.{WS_DISABLED, WS_VISIBLE};
 
@@ -263,6 +263,16 @@ pub fn placing_changes(tree: &Tree, w: u64, placing: Placing) -> u64
 {
     let row = row_of(tree, window_or_none(tree, w));
     changes_told(row, placed(row, placing))
+}
+
+/// The style bits of a live window; 0 where there is none of the number.
+pub fn style_of(tree: &Tree, w: Hwnd) -> u32
+    ensures { result ≡ style_in tree.now.live w.0 }
+{
+    match tree.row(w) {
+        Some(row) => row.style,
+        None => 0,
+    }
 }
 
 /// Whether a live window has WS_VISIBLE; false where there is none of the number.

@@ -5,13 +5,22 @@ use call_table::{call_form, call_named, call_of_parts};
 use user_model::Call;
 use win_num::Thread;
 
+/// What a new machine is made for, as it was written: how many threads, which flags of sends with a time, and how many posted
+/// messages each thread's queue holds at most, from thread 1 on.
+#[derive(Clone, Copy, Drop)]
+pub struct Limits {
+    pub threads: u8,
+    pub smto: u8,
+    pub posts: [u32; 15],
+}
+
 /// What a line asks for.
 #[derive(Drop)]
 pub enum Line {
     /// Nothing: it is empty, or begins with `#`.
     Comment,
-    /// A new machine with so many threads.
-    Machine(u8),
+    /// A new machine with such threads.
+    Machine(Limits),
     /// Whether an actor has no call to make now.
     Barred(Thread),
     /// How many entries the machine has, and the last of them.
@@ -40,13 +49,40 @@ impl Line {
         }
         let (first, rest) = line.split_once(' ')?;
         match first {
-            "machine" => Some(Line::Machine(rest.parse().ok()?)),
+            "machine" => Some(Line::Machine(limits_of(rest)?)),
             "frame" => Some(Line::Frame(rest.parse().ok()?)),
             "reserve" => Some(Line::Reserve(rest.parse().ok()?)),
             "barred" => Some(Line::Barred(Thread(rest.parse().ok()?))),
             _ => Some(Line::Call(Thread(first.parse().ok()?), call_of(rest)?)),
         }
     }
+}
+
+/// The limits of a text `N`, or `N smto F posts P ..` with a limit for each of the N threads.
+fn limits_of(text: &str) -> Option<Limits> {
+    let mut posts = [10000; 15];
+    let Some((threads, rest)) = text.split_once(" smto ") else {
+        let threads = text.parse().ok()?;
+        return Some(Limits {
+            threads,
+            smto: 1,
+            posts,
+        });
+    };
+    let (smto, each) = rest.split_once(" posts ")?;
+    let threads: u8 = threads.parse().ok()?;
+    let mut words = each.split(' ');
+    for limit in posts.iter_mut().take(usize::from(threads)) {
+        *limit = words.next()?.parse().ok()?;
+    }
+    if words.next().is_some() {
+        return None;
+    }
+    Some(Limits {
+        threads,
+        smto: smto.parse().ok()?,
+        posts,
+    })
 }
 
 /// The first and the last number of a line `from FIRST to LAST: ..`, and what stands behind the colon.

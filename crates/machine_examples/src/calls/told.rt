@@ -42,8 +42,7 @@ fn write_value<W: Write>(f: &mut Formatter<W>, value: Value) -> fmt::Result {
         Value::Send(send) => write!(f, "{}", send.0),
         Value::Thread(thread) => write!(f, "{}", thread.0),
         Value::Pixel(pixel) => write!(f, "{pixel}"),
-        Value::Flag(flag) => write!(f, "{}", u64::from(flag)),
-        Value::RegionKind(kind) => write!(f, "{kind}"),
+        Value::Byte(kind) => write!(f, "{kind}"),
         Value::Source(source) => write_word(f, source_word(source)),
         Value::Cause(cause) => write_word(f, cause_word(cause)),
         Value::Code(code) => match code_word(code) {

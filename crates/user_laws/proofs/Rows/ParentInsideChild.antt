@@ -6,6 +6,7 @@ use Rattle.user_model.specs.declared.call.Call.{Call}
 use Rattle.user_model.specs.declared.entry.Answer.{Answer}
 use Rattle.user_model.specs.declared.entry.Entry.{Entry}
 use Rattle.user_model.specs.declared.entry.Setup.{Setup}
+use Rattle.user_model.specs.Setups.{setup_from}
 use Rattle.user_model.specs.Past.{Past}
 use Rattle.user_model.specs.Idle.{reply}
 use Rattle.user_model.specs.Legal.{IsLegal, told, replies}
@@ -27,7 +28,7 @@ abbrev ends : ℕ → ℕ → Entry
 ends w v = entry 1 (Call.Unmake w) (Answer.Last (record { 0 = v }))
 
 abbrev setup : Setup
-setup = record { threads = 2; width = 8; height = 4 }
+setup = setup_from 2 8 4
 
 abbrev history : List Entry
 history = entry 1 (Call.Register 0 0 0) (Answer.Value 1)

@@ -7,6 +7,7 @@ use Rattle.user_model.specs.declared.call.Call.{Call}
 use Rattle.user_model.specs.declared.entry.Answer.{Answer}
 use Rattle.user_model.specs.declared.entry.Entry.{Entry}
 use Rattle.user_model.specs.declared.entry.Setup.{Setup}
+use Rattle.user_model.specs.Setups.{setup_from}
 use Rattle.user_model.specs.Past.{Past}
 use Rattle.user_model.specs.Idle.{reply}
 use Rattle.user_model.specs.Legal.{IsLegal, told, replies}
@@ -16,7 +17,7 @@ abbrev pub entry : ℕ → Call → Answer → Entry
 entry t call answer = record { who = record { 0 = t }; call = call; answer = answer }
 
 abbrev pub setup : Setup
-setup = record { threads = 2; width = 8; height = 4 }
+setup = setup_from 2 8 4
 
 abbrev pub history : List Entry
 history = entry 1 (Call.Register 0 0 0) (Answer.Value 1)

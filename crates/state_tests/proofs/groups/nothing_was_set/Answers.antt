@@ -1,9 +1,14 @@
-use Rattle.std.proofs.Common.{◌≡◌, refl, arith}
+use Rattle.std.proofs.Common.{◌≡◌, ◌<◌, ◌≤◌, refl, arith}
+use Rattle.std.proofs.lemmas.List.Elements.{All-replicate}
 use Rattle.user_model.specs.Setups.{IsSetup, setup_from}
 use Rattle.state_tests.proofs.groups.nothing_was_set.Goals as goal
 
 three_are_few : IsSetup (setup_from 3 1 1)
-three_are_few = record { some_thread = omega arith; few_threads = omega arith; some_width = omega arith; narrow = omega arith; some_height = omega arith; low = omega arith }
+three_are_few = record {
+  size = record { some_thread = omega arith; few_threads = omega arith; some_width = omega arith; narrow = omega arith; some_height = omega arith; low = omega arith };
+  flags = refl;
+  limits = All-replicate (λ n. (0 < n) × (n ≤ 10000)) 15 10000 (omega arith, omega arith);
+}
 
 pub value-requires : goal.value-requires
 value-requires g c =

@@ -13,12 +13,12 @@ use Rattle.user_desk.specs.Desks.{IsDeskSeat}
 use Rattle.user_pool.proofs.Phases.{desk_seats, all_seats, phase_ends}
 use Rattle.user_pool.proofs.phase.run_phase.Goals as goal
 
-pub new-requires-clause-legal : goal.new-requires-clause-legal
-new-requires-clause-legal g c =
+pub new-requires : goal.new-requires
+new-requires g c =
     let s = c.args.script.now in
     let past = g.M.Machine.past c.args.machine in
     let short : length past ≤ 2097152 = omega (arith, run_short s past c.requires.few c.requires.small c.requires.run) in
-    (short, subst (λ x. IsLawful x past) (sym c.requires.setup) (run_lawful s past c.requires.run))
+    record { legal = (short, subst (λ x. IsLawful x past) (sym c.requires.setup) (run_lawful s past c.requires.run)) }
 
 pub run_all-requires-clause-seated : goal.run_all-requires-clause-seated
 run_all-requires-clause-seated g c =
