@@ -1,0 +1,5 @@
+pub mod Keys
+pub mod Controls
+pub mod Traces
+pub mod States
+pub mod Walks
