@@ -13,17 +13,18 @@ from launching import TOP
 TOOLS = TOP / "tools"
 LOG = TOP / "examples/rules/frames_keep_colours.log"
 STUCK = TOP / "examples/rules/stuck_run.log"
+PRINTED = TOP / "crates/key_examples/stdout"
 FRAMES = 3
 SECONDS = 60
 # The tools that read a run, each with words and a run that it takes.
 READERS = (
     ("chart", [], LOG), ("chart", ["--differences"], LOG), ("frames", ["--to", "FOLDER"], LOG), ("stuck", [], STUCK),
-    ("order", [], LOG), ("differences", [], LOG), ("fields", [], LOG),
+    ("order", [], LOG), ("differences", [], LOG), ("fields", [], LOG), ("history-log", [], PRINTED),
 )
 # All tools that people call.
 ALL = """
 all-edits answer-told answer-unproved build-program chart compare compare-dde compare-explored differences fields frames
-gate-times on-windows order play-examples proof-times script stuck try-memory try-on-windows try-pictures try-program
+gate-times history-log on-windows order play-examples proof-times script stuck try-memory try-on-windows try-pictures try-program
 """.split()
 # Words with files that aren't there and with empty ranges.
 NOTHING = (

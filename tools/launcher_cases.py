@@ -8,7 +8,7 @@ import tempfile
 import time
 
 TOP = pathlib.Path(__file__).resolve().parent.parent
-TOOLS = ("answer-told", "answer-unproved", "build-program", "crate-seconds", "crate_graph.py", "launching.py", "log_json.py",
+TOOLS = ("answer-told", "answer-unproved", "build-program", "crate-seconds", "crate_graph.py", "launching.py", "log_fields.py", "log_json.py",
          "mistake_words.py", "play-examples", "run_story.py", "script", "stored_runs.py", "stuck_words.py", "told_answers.py", "tool_modules.py", "trial.py", "unproved_run.py")
 FILES = {
     "crates.txt": "low: \nuser: low\nother: low\n",
@@ -153,6 +153,8 @@ ANSWERS = (
     ("run", b"", 0, log("run", 0)),
     ("run --json", b"refused\n", 3, b'{"line":1,"refused":"words"}\n'),
     ("threads 2 --json", b"refused\n", 3, b'{"line":1,"refused":"words"}\n'),
+    ("run --fields", b"refused\n", 3, b'{"line":1,"refused":"words"}\n'),
+    ("threads 2 --fields", b"refused\n", 3, b'{"line":1,"refused":"words"}\n'),
 )
 
 

@@ -39,6 +39,8 @@ enable window enabled
 find title
 await_title title
 next_top window
+child_after window above
+style_of window
 window_at x y
 is_window window
 parent window

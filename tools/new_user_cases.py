@@ -128,6 +128,7 @@ WORDS = (
     ("help run", "user: 'help' takes no other word"),
     ("run -- examples/first.script", "user: 'run' has no word '--'"),
     ("run examples/first.script --json", "user: '--json' stands before the file, directly behind 'run'"),
+    ("run examples/first.script --fields", "user: '--fields' stands before the file, directly behind 'run'"),
     ("examples/first.script", "user: no word 'examples/first.script', but a file; './user run examples/first.script' runs a script"),
     ("explore examples/first.script", "user: no word 'explore'"),
 )

@@ -20,8 +20,8 @@ KINDS = {
     "post": "post post_thread post_quit translate",
     "send": "send send_notify send_timeout send_callback await leave reply in_send",
     "retrieval": "get peek dispatch status",
-    "window": "register unregister new_window doom unmake drop place show enable find await_title next_top window_at is_window"
-              " parent message begin_dialog dialog_state end_dialog",
+    "window": "register unregister new_window doom unmake drop place show enable find await_title next_top child_after"
+              " style_of window_at is_window parent message begin_dialog dialog_state end_dialog",
     "input": "mouse key key_state attach detach set_focus set_active set_capture release_capture get_focus get_active get_capture",
     "drawing": "invalidate validate update_rect begin_paint end_paint fill erase snap",
     "clock": "clock sleep_until yield tick advance set_timer kill_timer",

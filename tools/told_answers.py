@@ -3,10 +3,11 @@ program's own.
 
 A stuck run is told in words, the first bad place of `check` by the lines of the log and of the input, and by the
 number that charts give to its entry. With --json a refusal becomes an object, and so do the lines of a run by
-threads.
+threads. With --fields a run is written as tools/fields does, and a refusal as with --json.
 """
 import re
 
+from log_fields import lines_with_fields
 from log_json import BadLine, compact, json_of, read_run
 from mistake_words import mistake_lines
 from stuck_words import stuck_lines
@@ -20,23 +21,25 @@ MOST_KEPT = 64 << 20
 
 def program_words(words):
     """The words that the program itself takes."""
-    return words[:2] if words[0] == "threads" else words
-
-
-def is_in_json(words):
-    return words[-1] == "--json"
+    return words[:2] if words[0] == "threads" else [word for word in words if word != "--fields"]
 
 
 def is_made(words, output):
     """Whether an output that begins so is written in another form than the program's."""
-    return is_in_json(words) and (words[0] == "threads" or output.startswith(b"refused "))
+    is_in_json = words[-1] == "--json" and (words[0] == "threads" or output.startswith(b"refused "))
+    return is_in_json or words[-1] == "--fields"
 
 
-def made(output):
-    """An output with --json: the object of a refusal, or the lines of a log."""
+def made(words, output):
+    """An output with --json or --fields: the object of a refusal, or the lines of a log, of which there may be a front alone."""
     refusal = REFUSAL.fullmatch(output)
     if refusal:
         return compact(line=int(refusal[1]), refused=refusal[2].decode()).encode()
+    if words[-1] == "--fields":
+        try:
+            return "".join(lines_with_fields(read_run(output))).encode()
+        except BadLine:
+            pass
     return json_of(output)
 
 

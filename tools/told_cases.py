@@ -5,7 +5,8 @@ import subprocess
 import tempfile
 
 from launching import TOP
-from log_json import json_of, read_run
+from log_fields import lines_with_fields
+from log_json import compact, json_of, read_run
 from stuck_words import stuck_lines
 from tool_modules import loaded
 
@@ -134,10 +135,47 @@ def objects(trial):
     trial.tell("threads --json", None if right else f"{ran}")
     right = len(read_run(ran.stdout).entries) == len(lines) - 2
     trial.tell("threads --json as a run", None if right else "it is another one")
-    for words in (["run", "--json"], ["threads", "2", "--json"]):
+    fields_told(trial, script)
+    for words in (["run", "--json"], ["threads", "2", "--json"], ["run", "--fields"], ["threads", "2", "--fields"]):
         ran = answered(trial.program, words, b"user 1\n")
         right = (ran.returncode, ran.stdout) == (3, b'{"line":2,"refused":"end"}\n') and ran.stderr.startswith(b"line 2: ")
         trial.tell(f"no script for {' '.join(words)}", None if right else f"{ran}")
+
+
+def fields_told(trial, script):
+    """Runs with --fields: their lines are those that tools/fields makes of the run."""
+    ran = answered(trial.program, ["run", "--fields"], script)
+    wanted = "".join(lines_with_fields(read_run((TOP / "examples/posts.log").read_bytes()))).encode()
+    trial.tell("run --fields", None if (ran.returncode, ran.stdout, ran.stderr) == (0, wanted, b"") else f"{ran}")
+    ran = answered(trial.program, ["threads", "2", "--fields"], script)
+    texts = [{key: line[key] for key in ("who", "call", "answer") if key in line} for line in map(json.loads, ran.stdout.splitlines())]
+    entries = "".join(compact(**text) for text in texts if "answer" in text)
+    ending = "".join(line for line in wanted.decode().splitlines(keepends=True) if line.startswith(('{"end"', '{"counts"')))
+    again = "".join(lines_with_fields(read_run((entries + '{"end":"done"}\n' + compact(sends=[0] * 7)).encode()))).encode()
+    right = ran.returncode == 0 and ran.stdout == again and ending.encode() in again
+    trial.tell("threads --fields", None if right else f"{ran}")
+
+
+def histories(trial):
+    """The log of what a program has printed, and lines that are none of a machine's."""
+    printed, kept = TOP / "crates/key_examples/stdout", TOP / "examples/keys.log"
+    ran = subprocess.run([TOP / "tools/history-log", printed], capture_output=True, timeout=SECONDS, check=False)
+    trial.tell("history-log of keys", None if (ran.returncode, ran.stdout) == (0, kept.read_bytes()) else f"{ran}")
+    cases = (
+        ("3: SendTimeout(17, 1024, 1, 2, 1, 50) = Begun(SendId(4))", "3 send_timeout 17 WM_USER 1 2 1 50 = begun 4"),
+        ("3: Await(4) = Done { result: 0, cause: Timeout }", "3 await 4 = done 0 timeout"),
+        ("2: Get(0, 0, 0) = Enter { send: SendId(2), proc_no: 5, hwnd: Hwnd(16), number: 15, wparam: 0, lparam: 7 }", "2 get 0 0 0 = enter 2 5 16 WM_PAINT 0 7"),
+        ("1: Fill(16, -1, 0, 5, 3, 4) = Refused(Win(87))", "1 fill 16 -1 0 5 3 4 = refused 87"),
+        ("1: Mouse(512, 3, 2) = Refused(NoTarget)", "1 mouse WM_MOUSEMOVE 3 2 = refused no_target"),
+        ("1: BeginPaint(16) = Painting { erase: 1, l: 0, t: -2, r: 5, b: 3 }", "1 begin_paint 16 = painting 1 0 -2 5 3"),
+        ("0: Advance = Stuck", "0 advance = stuck"),
+    )
+    for line, wanted in cases:
+        ran = subprocess.run([TOP / "tools/history-log"], input=f"told\n{line}\n".encode(), capture_output=True, timeout=SECONDS, check=False)
+        trial.tell(f"history-log of {line}", None if (ran.returncode, ran.stdout.decode()) == (0, f"log 1\n{wanted}\n") else f"{ran}")
+    for line in ("1: Walk(3) = Okay", "1: Yield(3) = Okay", "1: Yield = Fine", "no line"):
+        ran = subprocess.run([TOP / "tools/history-log"], input=f"{line}\n".encode(), capture_output=True, timeout=SECONDS, check=False)
+        trial.tell(f"history-log of {line}", None if ran.returncode == 2 and ran.stderr.startswith(b"history-log: ") else f"{ran}")
 
 
 def streams(trial):
@@ -155,5 +193,5 @@ def streams(trial):
 
 def told_answers(trial):
     """All of these cases."""
-    for part in (stuck, illegal, objects, streams):
+    for part in (stuck, illegal, objects, histories, streams):
         part(trial)
