@@ -1,7 +1,8 @@
 """The log of a run as text and as lines of JSON: what the tools that read runs share.
 
-`json_of` makes of a log's text the lines that `./user run --json` writes. `read_run` reads such lines, or the log itself, as
-the entries of a run with their frames; a line that can't stand there is told by its number and the reason (`BadLine`).
+`json_of` makes of a log's text the lines that `./user run --json` writes. `read_run` reads such lines, also with the parts
+that tools/fields puts beside their texts, or the log itself, as the entries of a run with their frames; a line that can't
+stand there is told by its number and the reason (`BadLine`).
 """
 import json
 import re
@@ -16,6 +17,12 @@ COUNTS = ("begun", "entered", "proc", "reply", "loss", "timeout", "open")
 ENTRY, FRAME = frozenset(("who", "call", "answer")), frozenset(("frame",))
 END, SENDS = frozenset(("end",)), frozenset(("sends",))
 EXTRAS = {frozenset(("waits",)), frozenset(("spent",))}
+# The keys of the texts of a line, and those of the parts that tools/fields puts beside them.
+PARTS = (
+    (ENTRY, frozenset(("entry", "name", "arguments", "kind", "fields"))),
+    (frozenset(("waits",)), frozenset(("who", "name", "arguments"))),
+    (SENDS, frozenset(("counts",))),
+)
 
 
 def compact(**members):
@@ -224,7 +231,14 @@ def members_of_all(data):
     """The members of each line of a run, with its number, whichever form the run has."""
     if data.split(b"\n", 1)[0] == PLAIN_HEAD:
         return plain_members(data)
-    return ((number, members_of(number, text)) for number, text in enumerate(lines_of(data), 1))
+    return ((number, without_parts(members_of(number, text))) for number, text in enumerate(lines_of(data), 1))
+
+
+def without_parts(members):
+    """The members of a line without the parts that tools/fields puts beside its texts."""
+    keys = frozenset(members)
+    texts = next((texts for texts, parts in PARTS if keys == texts | parts), keys)
+    return {key: members[key] for key in texts}
 
 
 def read_run(data):

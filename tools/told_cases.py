@@ -6,7 +6,7 @@ import tempfile
 
 from launching import TOP
 from log_fields import lines_with_fields
-from log_json import compact, json_of, read_run
+from log_json import json_of, read_run
 from stuck_words import stuck_lines
 from tool_modules import loaded
 
@@ -148,11 +148,9 @@ def fields_told(trial, script):
     wanted = "".join(lines_with_fields(read_run((TOP / "examples/posts.log").read_bytes()))).encode()
     trial.tell("run --fields", None if (ran.returncode, ran.stdout, ran.stderr) == (0, wanted, b"") else f"{ran}")
     ran = answered(trial.program, ["threads", "2", "--fields"], script)
-    texts = [{key: line[key] for key in ("who", "call", "answer") if key in line} for line in map(json.loads, ran.stdout.splitlines())]
-    entries = "".join(compact(**text) for text in texts if "answer" in text)
-    ending = "".join(line for line in wanted.decode().splitlines(keepends=True) if line.startswith(('{"end"', '{"counts"')))
-    again = "".join(lines_with_fields(read_run((entries + '{"end":"done"}\n' + compact(sends=[0] * 7)).encode()))).encode()
-    right = ran.returncode == 0 and ran.stdout == again and ending.encode() in again
+    again = "".join(lines_with_fields(read_run(ran.stdout))).encode()
+    names = [json.loads(line).get("name") for line in again.splitlines()]
+    right = ran.returncode == 0 and ran.stdout == again and names.count("end_thread") == 3
     trial.tell("threads --fields", None if right else f"{ran}")
 
 
