@@ -103,7 +103,10 @@ void play_enable_window(Thread *t, const Statement *s) {
     set_result(t, r, err);
 }
 
-enum { KNOWN_FLAGS = SWP_NOSIZE | SWP_NOMOVE | SWP_NOZORDER | SWP_NOACTIVATE | SWP_SHOWWINDOW | SWP_HIDEWINDOW };
+enum {
+    KNOWN_FLAGS =
+        SWP_NOSIZE | SWP_NOMOVE | SWP_NOZORDER | SWP_NOACTIVATE | SWP_SHOWWINDOW | SWP_HIDEWINDOW | SWP_NOCOPYBITS
+};
 
 static int place_refusal(const Thread *t, Number window, Signed after, const Signed edges[4], Number flags) {
     const Window *w = live_window(window), *sibling = live_window((Number)after);

@@ -27,10 +27,11 @@ static const Named constants[] = {
     {"WS_CHILD", 1073741824}, {"WS_POPUP", 2147483648u}, {"WS_VISIBLE", 268435456}, {"WS_DISABLED", 134217728},
     {"WS_EX_TOPMOST", 8}, {"HWND_TOP", 0}, {"HWND_BOTTOM", 1}, {"HWND_TOPMOST", UINT64_MAX},
     {"HWND_NOTOPMOST", UINT64_MAX - 1}, {"SWP_NOSIZE", 1}, {"SWP_NOMOVE", 2}, {"SWP_NOZORDER", 4},
-    {"SWP_NOACTIVATE", 16}, {"SWP_SHOWWINDOW", 64}, {"SWP_HIDEWINDOW", 128}, {"PM_NOREMOVE", 0}, {"PM_REMOVE", 1},
-    {"PM_NOYIELD", 2}, {"SMTO_NORMAL", 0}, {"SMTO_BLOCK", 1}, {"WA_INACTIVE", 0}, {"WA_ACTIVE", 1},
-    {"WA_CLICKACTIVE", 2}, {"QS_KEY", 1}, {"QS_MOUSEMOVE", 2}, {"QS_MOUSEBUTTON", 4}, {"QS_POSTMESSAGE", 8},
-    {"QS_TIMER", 16}, {"QS_PAINT", 32}, {"QS_SENDMESSAGE", 64}, {NULL, 0},
+    {"SWP_NOACTIVATE", 16}, {"SWP_SHOWWINDOW", 64}, {"SWP_HIDEWINDOW", 128}, {"SWP_NOCOPYBITS", 256},
+    {"PM_NOREMOVE", 0}, {"PM_REMOVE", 1}, {"PM_NOYIELD", 2}, {"SMTO_NORMAL", 0}, {"SMTO_BLOCK", 1},
+    {"WA_INACTIVE", 0}, {"WA_ACTIVE", 1}, {"WA_CLICKACTIVE", 2}, {"QS_KEY", 1}, {"QS_MOUSEMOVE", 2},
+    {"QS_MOUSEBUTTON", 4}, {"QS_POSTMESSAGE", 8}, {"QS_TIMER", 16}, {"QS_PAINT", 32}, {"QS_SENDMESSAGE", 64},
+    {NULL, 0},
 };
 
 static const char *const variables[] = {"a", "b", "c", "d", "e", "f", "g", "h", "r", "err", "ghwnd", "gmsg", "gwp",

@@ -17,7 +17,7 @@ use Rattle.window_state.specs.ClassTables.{classes_at}
 use Rattle.window_state.specs.Orders.{IsOrderAt}
 use Rattle.window_state.specs.Trees.{IsTreeAt}
 use Rattle.screen_state.specs.Screens.{Change, draws}
-use Rattle.display_state.specs.Displays.{DrawsDisplay, FollowsDisplay, IsDisplayAt, IsShown, Shown}
+use Rattle.display_state.specs.Displays.{DrawsDisplay, FitsDisplay, FollowsDisplay, IsDisplayAt, IsShown, Shown}
 use Rattle.display_state.proofs.Followed.{none_taken}
 
 -- what is kept of the display follows the past
@@ -31,6 +31,14 @@ display_step setup past t z c e old drawn new o lawful tree order classes right 
     pick : (b : Bool) → draws e.call e.answer ≡ b → IsDisplayAt setup (e ∷ past) new
     pick true h = subst (IsDisplayAt setup (e ∷ past)) (sym (none_taken drawn new (subst (λ (q : Option Change). IsShown q drawn new) (none h) shown))) (drew h setup past lawful tree classes right at)
     pick false h = follows h past new (subst (λ (k : Shown). IsShown o k new) (same h) shown) lawful tree order right at
+
+-- what has come fits the display still, once an entry that draws was done
+pub fits_drawn : (e : Entry) (old drawn : Shown) (o : Option Change) → (draws e.call e.answer ≡ true → o ≡ None) → (draws e.call e.answer ≡ false → drawn ≡ old) → FitsDisplay o old → FitsDisplay o drawn
+fits_drawn e old drawn o none same fits = pick (draws e.call e.answer) refl
+  where
+    pick : (b : Bool) → draws e.call e.answer ≡ b → FitsDisplay o drawn
+    pick true h = subst (λ (q : Option Change). FitsDisplay q drawn) (sym (none h)) tt
+    pick false h = subst (FitsDisplay o) (sym (same h)) fits
 
 -- a call that draws is answered by ok, that painting was begun, or the number of a frame
 pub no_draws : (call : Call) (a : Answer) → (a ≡ answers.Okay → ⊥) → ((erase : ℕ) (l t r b : ℤ) → a ≡ answers.Painting erase l t r b → ⊥) → ((k : ℕ) → a ≡ answers.Snap k → ⊥) → draws call a ≡ true → ⊥

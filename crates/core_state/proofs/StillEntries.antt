@@ -34,7 +34,7 @@ use Rattle.pending_state.specs.Changes.{added_by, counted_with, cursor_with, lef
 use Rattle.screen_owners.specs.declared.owners.Owned.{Owned}
 use Rattle.screen_state.specs.Screens.{draws, is_none_dirty, keeps_screen}
 use Rattle.screen_state.specs.Shown.{changes_owners, shows}
-use Rattle.screen_state.proofs.Screens.{stays_follow}
+use Rattle.screen_state.proofs.Screens.{stays_carried, stays_follow}
 use Rattle.send_state.specs.Standing.{MarksStand, PartsStand}
 use Rattle.send_state.specs.Parts.{SendParts}
 use Rattle.send_state.specs.Stories.{EachStory, noted_answer, with_begun}
@@ -120,7 +120,7 @@ module _ (setup : Setup) (past : Past) (p : Parts) (e : Entry) (still : IsStill 
   shown : IsDisplayAt setup (e ∷ past) p.display
   shown =
       let keeps : keeps_screen e.call e.answer p.display.screen ≡ true = ap (λ b. not b || (not (shows e.call e.answer) && (list_all (λ (o : Owned). eqb o.window.0 0) p.display.screen.owners && is_none_dirty p.display.screen.dirty))) still.owners in
-      display_follows setup p.tree p.order None e p.display (stays_follow setup p.tree p.order e p.display.screen keeps still.undrawn) still.undrawn past p.display (kept_shown p.display) st.lawful st.tree st.order right st.display
+      display_follows setup p.tree p.order None e p.display (stays_follow setup p.tree p.order e p.display.screen keeps still.undrawn) (stays_carried setup p.tree p.order e p.display.screen keeps) tt still.undrawn past p.display (kept_shown p.display) st.lawful st.tree st.order right st.display
 
   next : IsNextAt setup past p.groups (length past) e
   next = record { lawful = st.lawful; groups = st.groups; at = refl; right = right }

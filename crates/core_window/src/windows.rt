@@ -14,8 +14,8 @@ use core_deliver::{if_own, is_no_rect};
 use core_state::{CoreState, Edges, Placing};
 use user_model::Answer;
 use win_num::names::{
-    SWP_HIDEWINDOW, SWP_NOACTIVATE, SWP_NOMOVE, SWP_NOSIZE, SWP_NOZORDER, SWP_SHOWWINDOW, WS_CHILD,
-    WS_DISABLED, WS_EX_TOPMOST, WS_POPUP, WS_VISIBLE,
+    SWP_HIDEWINDOW, SWP_NOACTIVATE, SWP_NOCOPYBITS, SWP_NOMOVE, SWP_NOSIZE, SWP_NOZORDER,
+    SWP_SHOWWINDOW, WS_CHILD, WS_DISABLED, WS_EX_TOPMOST, WS_POPUP, WS_VISIBLE,
 };
 use win_num::{Code, Hwnd};
 
@@ -34,7 +34,8 @@ const KNOWN_PLACINGS: u64 = SWP_NOSIZE
     + SWP_NOZORDER
     + SWP_NOACTIVATE
     + SWP_SHOWWINDOW
-    + SWP_HIDEWINDOW;
+    + SWP_HIDEWINDOW
+    + SWP_NOCOPYBITS;
 
 /// The answer of a class's registration.
 pub fn register_answer(state: &CoreState, name: u32, colour: u64) -> Answer

@@ -1,5 +1,5 @@
 -- A trace comes to one thing, and what a state accepts can be handed in.
-use Rattle.std.proofs.Common.{◌≡◌, ℕ, Bool, List, Option, Some, None, refl, sym, ap, ◌∙◌, subst}
+use Rattle.std.proofs.Common.{◌≡◌, ℕ, List, Option, Some, None, refl, sym, ap, ◌∙◌, subst}
 use Rattle.std.specs.Prelude.{unwrap_or}
 use Rattle.user_model.specs.declared.call.Call.{Call}
 use Rattle.user_model.specs.declared.call.Call.TheVariants.{SetFocus as SetFocusCall}
@@ -15,10 +15,9 @@ use Rattle.win_calls.specs.declared.stage.Stage.{Stage as InnerStage}
 use Rattle.win_calls.specs.Table.{begun, made, Handed as HandedIn, Comes as ComesTo, calls as calls_so}
 use Rattle.win_calls.specs.States.{StandsFor, Accepts as AcceptsIn}
 use Rattle.dialog_keys.specs.declared.key.DialogKey.{DialogKey}
-use Rattle.dialog_keys.specs.declared.key.Errand.{Errand}
 use Rattle.dialog_keys.specs.declared.key.Errand.TheVariants.{Moves, Commands, Nothing}
 use Rattle.dialog_keys.specs.declared.stage.Stage.{Stage}
-use Rattle.dialog_keys.specs.Traces.{Point, stating, child_call, command_call, Handed, started, was_child, was_style, went_on, IsOn, Comes, begins, commands, passes, asks_child, asks_style, focuses, stays, stops, asks, ends}
+use Rattle.dialog_keys.specs.Traces.{Point, stating, command_call, Handed, started, was_child, was_style, went_on, IsOn, Comes, begins, commands, passes, asks_child, asks_style, focuses, stays, stops, asks, ends}
 use Rattle.dialog_keys.specs.States.{Accepts, StandsAt, is_fresh, is_walking, is_looking, is_focusing, is_sending, is_over}
 
 module _ (s : Tree) (n : ℕ) (one : (ps qs rs : List Piece) (st sq sr : State) (x y : Next) → ComesTo s n ps st x qs sq → ComesTo s n ps st y rs sr → x ≡ y) where

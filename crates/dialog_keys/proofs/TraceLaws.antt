@@ -1,5 +1,5 @@
 -- Where the state of a key is led.
-use Rattle.std.proofs.Common.{◌≡◌, ℕ, Bool, true, false, cond, eqb, List, [], Option, Some, None, refl, sym, ap, ◌∙◌, subst}
+use Rattle.std.proofs.Common.{◌≡◌, ℕ, Bool, List, [], Option, Some, None, refl, sym, ap, ◌∙◌, subst}
 use Rattle.std.specs.Prelude.{unwrap_or}
 use Rattle.user_model.specs.declared.call.Call.{Call}
 use Rattle.user_model.specs.declared.call.Call.TheVariants.{ChildAfter, StyleOf}
@@ -16,9 +16,8 @@ use Rattle.win_calls.specs.declared.call_state.CallState.{CallState}
 use Rattle.win_calls.specs.declared.state.CompoundState.{CompoundState}
 use Rattle.win_calls.specs.declared.stage.Stage.{Stage as InnerStage}
 use Rattle.win_calls.specs.Table.{begun, made, Handed as HandedIn}
-use Rattle.win_calls.specs.States.{StandsFor, Accepts as AcceptsIn, Awaits, Leads as LeadsIn}
+use Rattle.win_calls.specs.States.{StandsFor, Awaits, Leads as LeadsIn}
 use Rattle.dialog_keys.specs.declared.key.DialogKey.{DialogKey}
-use Rattle.dialog_keys.specs.declared.key.Errand.{Errand}
 use Rattle.dialog_keys.specs.declared.key.Errand.TheVariants.{Moves, Commands, Nothing}
 use Rattle.dialog_keys.specs.declared.walk.Walk.{Walk}
 use Rattle.dialog_keys.specs.declared.stage.Stage.{Stage}
@@ -26,7 +25,7 @@ use Rattle.dialog_keys.specs.declared.stage.Step.{Step}
 use Rattle.dialog_keys.specs.declared.stage.Stage.TheVariants.{Fresh, Walking, Looking, Focusing, Sending, Over}
 use Rattle.dialog_keys.specs.Keys.{errand_of}
 use Rattle.dialog_keys.specs.Controls.{next_control}
-use Rattle.dialog_keys.specs.Traces.{Point, beginning, walking, looking, walked, refused, stating, over, child_call, command_call, error_of, child_of, led_to, child_told, tells_open, seen, style_told, Handed, started as begun_key, was_child, was_style, went_on, IsOn, Comes, begins, commands, passes, asks_child, asks_style, focuses, stays, stops, asks, ends}
+use Rattle.dialog_keys.specs.Traces.{Point, beginning, walking, looking, walked, refused, stating, over, child_call, command_call, error_of, child_of, led_to, child_told, style_told, Handed, started as begun_key, was_child, was_style, went_on, IsOn, begins, commands, passes, asks_child, asks_style, focuses, stays, stops, asks, ends}
 use Rattle.dialog_keys.specs.States.{Accepts, Sums, StandsAt, is_fresh, is_walking, is_looking, is_focusing, is_sending, is_over, Leads}
 
 -- where the stages stand

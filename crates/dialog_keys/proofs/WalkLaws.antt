@@ -1,6 +1,6 @@
 -- What a walk in a lawful history has seen.
-use Rattle.std.proofs.Common.{◌≡◌, ◌≢◌, ℕ, zero, suc, ◌≤◌, ◌<◌, Bool, true, false, not, cond, eqb, leb, ltb, List, [], ◌∷◌, ◌++◌, length, Option, Some, None, refl, sym, ap, ◌∙◌, subst, arith, eqb-true}
-use Rattle.std.specs.Prelude.{◌&&◌, ◌||◌, filter, find, map, option_map, unwrap_or, is_some}
+use Rattle.std.proofs.Common.{◌≡◌, ℕ, zero, suc, ◌<◌, Bool, true, false, not, cond, eqb, ltb, List, [], ◌∷◌, ◌++◌, length, Option, Some, None, refl, sym, ap, ◌∙◌, subst, arith}
+use Rattle.std.specs.Prelude.{◌&&◌, filter, find, map, option_map, unwrap_or, is_some}
 use Rattle.std.proofs.lemmas.Bool.{false≢true, leb-false, lt-leb, ne_eqb, eq-eqb}
 use Rattle.std.proofs.lemmas.List.{map-append}
 use Rattle.std.proofs.lemmas.List.Elements.{filter-append}
@@ -11,7 +11,6 @@ use Rattle.win_num.specs.declared.code.Code.{Code}
 use Rattle.win_num.specs.declared.code.Code.TheVariants.{NotNow, Full}
 use Rattle.win_num.specs.declared.send.Frame.{Frame}
 use Rattle.win_num.specs.declared.send.Frame.TheVariants.{Await}
-use Rattle.user_model.specs.declared.call.Call.{Call}
 use Rattle.user_model.specs.declared.call.Call.TheVariants.{ChildAfter, StyleOf}
 use Rattle.user_model.specs.declared.entry.Entry.{Entry}
 use Rattle.user_model.specs.declared.entry.Setup.{Setup}
@@ -19,12 +18,12 @@ use Rattle.user_model.specs.declared.entry.Answer.{Answer}
 use Rattle.user_model.specs.declared.entry.Answer.TheVariants as answers
 use Rattle.user_model.specs.Past.{Past, is_full, is_refusal}
 use Rattle.user_model.specs.Places.{is_end, ends_thread}
-use Rattle.user_model.specs.Threads.{is_thread, is_running}
-use Rattle.user_model.specs.Stacks.{stack, stacked, top}
-use Rattle.user_model.specs.Windows.{Window, find_window, is_live, live, next_child, made_by, drops, drops_kin}
+use Rattle.user_model.specs.Threads.{is_running}
+use Rattle.user_model.specs.Stacks.{top}
+use Rattle.user_model.specs.Windows.{Window, find_window, is_live, live, next_child, drops}
 use Rattle.user_model.specs.Looks.{Look, style_of}
 use Rattle.user_model.specs.Refusals.{refuse, invalid_window_handle}
-use Rattle.user_model.specs.Replies.{row, is_barred_by, stack_reply, thread_reply}
+use Rattle.user_model.specs.Replies.{is_barred_by, thread_reply}
 use Rattle.user_model.specs.Idle.{reply, clock_row}
 use Rattle.user_model.specs.Legal.{IsLawful}
 use Rattle.user_model.specs.Machines.{entry_of}
@@ -32,7 +31,6 @@ use Rattle.user_model.proofs.Forests.{IsRising, rising_filter}
 use Rattle.user_model.proofs.LiveWindows.{sound, made_by-other, is_new_window, running-same}
 use Rattle.user_model.proofs.WindowLaws.{live-same}
 use Rattle.user_model.proofs.WindowLooks.{changes_look, look-same}
-use Rattle.user_model.proofs.WindowFacts.{had_room}
 use Rattle.user_model.proofs.ReplyLaws.{not_refused, by_call, ByRow}
 use Rattle.user_model.proofs.SendLaws.{stack-other, stack-same}
 use Rattle.dialog_keys.specs.declared.key.DialogKey.{DialogKey}

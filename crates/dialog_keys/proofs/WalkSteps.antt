@@ -7,7 +7,7 @@ use Rattle.user_model.specs.Past.{or_else}
 use Rattle.user_model.specs.Idle.{least_of, least_with}
 use Rattle.dialog_keys.specs.declared.key.DialogKey.{DialogKey}
 use Rattle.dialog_keys.specs.declared.walk.Walk.{Walk}
-use Rattle.dialog_keys.specs.Controls.{greatest_of, greatest_with, foremost, first_with, is_behind, those_behind, others, next_control}
+use Rattle.dialog_keys.specs.Controls.{greatest_of, greatest_with, foremost, first_with, is_behind, those_behind, next_control}
 use Rattle.dialog_keys.specs.Traces.{seen}
 use Rattle.dialog_keys.specs.States.{Sums, nearer, farther}
 

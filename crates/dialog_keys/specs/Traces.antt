@@ -1,6 +1,5 @@
 -- The trace of one key at a dialog.
 use Rattle.std.specs.Prelude.{◌≡◌, if◌then◌else◌, ℕ, ◌==◌, Bool, true, false, List, [], ◌∷◌, ◌++◌, Option, Some, None, unwrap_or}
-use Rattle.win_num.specs.declared.code.Code.{Code}
 use Rattle.win_num.specs.Codes.{number_of}
 use Rattle.user_model.specs.declared.call.Call.{Call}
 use Rattle.user_model.specs.declared.call.Call.TheVariants.{Send, ChildAfter, StyleOf}

@@ -1,11 +1,12 @@
 -- The windows that are kept, and what is kept of them.
-use Rattle.std.proofs.Common.{◌≡◌, ◌≢◌, ℕ, ◌+◌, ◌<◌, ◌≤◌, Bool, true, false, cond, eqb, List, [], ◌∷◌, ◌++◌, length, take, get_or, filter, Option, Some, None, refl, ap, ◌∙◌, sym, subst, arith}
+use Rattle.std.proofs.Common.{◌≡◌, ◌≢◌, ℕ, ◌+◌, ◌<◌, ◌≤◌, Bool, true, false, not, cond, eqb, List, [], ◌∷◌, ◌++◌, length, take, get_or, filter, Option, Some, None, refl, ap, ◌∙◌, sym, subst, arith}
 use Rattle.std.specs.Prelude.{◌&&◌, ◌↔◌, IsTrue, All}
 use Rattle.std.proofs.lemmas.Bool.{eqb-true, eqb-false, true≢false, false≢true}
 use Rattle.std.proofs.lemmas.List.{append-nil, take_all, take_more}
 use Rattle.std.proofs.lemmas.List.Elements.{All-nil, All-cons, All-head, All-tail, All-more, All-same}
 use Rattle.win_num.specs.declared.message.Hwnd.{Hwnd}
 use Rattle.win_num.specs.declared.shapes.Point.{Point}
+use Rattle.win_num.specs.declared.shapes.Rect.{Rect}
 use Rattle.band_region.specs.Regions.{region_has, IsEmpty}
 use Rattle.update_region.specs.Updates.{Dirty}
 use Rattle.screen_owners.specs.declared.owners.Owned.{Owned}
@@ -13,7 +14,7 @@ use Rattle.screen_owners.specs.Owners.{region_in}
 use Rattle.dirty_windows.specs.declared.entries.DirtyWindow.{DirtyWindow}
 use Rattle.dirty_windows.specs.LookUps.{area_in, entry_of, erases_in, is_among, update_in, update_in_entry, IsAllClean, IsClean, RisesFrom}
 use Rattle.dirty_windows.specs.Places.{IsSettled}
-use Rattle.dirty_windows.specs.Changes.{IsCut}
+use Rattle.dirty_windows.specs.Changes.{carries, IsCut}
 use Rattle.dirty_windows.proofs.Lists.{entry_beside, entry_middle, entry_other, entry_same, lower, none_up_to, number, rises-take}
 
 -- ---- entry by entry
@@ -25,14 +26,14 @@ update_last ds es d e h = ap (λ fs. update_in fs (number d)) e ∙ ap update_in
 pub update_before : (ds es : List DirtyWindow) (d : DirtyWindow) (v : ℕ) → es ≡ ds ++ d ∷ [] → v ≢ number d → update_in es v ≡ update_in ds v
 update_before ds es d v e n = ap (λ fs. update_in fs v) e ∙ ap update_in_entry (entry_beside ds d [] v (λ k. n (sym k))) ∙ ap (λ fs. update_in fs v) (append-nil ds)
 
-pub cut_none : (owners : List Owned) (ds : List DirtyWindow) → IsCut owners (take 0 ds) []
-cut_none owners ds = record { rising = tt; area = λ w p. refl; erases = λ w. refl }
+pub cut_none : (owners : List Owned) (moved : List Hwnd) (carried : List Rect) (ds : List DirtyWindow) → IsCut owners moved carried (take 0 ds) []
+cut_none owners moved carried ds = record { rising = tt; area = λ w p. refl; erases = λ w. refl }
 
-pub cut_start : (owners : List Owned) (ds kept : List DirtyWindow) → kept ≡ [] → IsCut owners (take 0 ds) kept
-cut_start owners ds kept e = subst (IsCut owners (take 0 ds)) (sym e) (cut_none owners ds)
+pub cut_start : (owners : List Owned) (moved : List Hwnd) (carried : List Rect) (ds kept : List DirtyWindow) → kept ≡ [] → IsCut owners moved carried (take 0 ds) kept
+cut_start owners moved carried ds kept e = subst (IsCut owners moved carried (take 0 ds)) (sym e) (cut_none owners moved carried ds)
 
-pub cut_more : (owners : List Owned) (ds : List DirtyWindow) (i : ℕ) (d : DirtyWindow) (u : Dirty) (kept more : List DirtyWindow) → RisesFrom 0 ds → i < length ds → d ≡ get_or ds i d → ((p : Point) → region_has u.area p ≡ (region_has d.update.area p && region_has (region_in owners (number d)) p)) → u.erases ≡ d.update.erases → IsSettled (number d) u kept more → IsCut owners (take i ds) kept → IsCut owners (take (i + 1) ds) more
-cut_more owners ds i d u kept more h lt e ua ue s c =
+pub cut_more : (owners : List Owned) (moved : List Hwnd) (carried : List Rect) (ds : List DirtyWindow) (i : ℕ) (d : DirtyWindow) (u : Dirty) (kept more : List DirtyWindow) → RisesFrom 0 ds → i < length ds → d ≡ get_or ds i d → ((p : Point) → region_has u.area p ≡ ((region_has d.update.area p && region_has (region_in owners (number d)) p) && not (carries moved carried (number d) p))) → u.erases ≡ d.update.erases → IsSettled (number d) u kept more → IsCut owners moved carried (take i ds) kept → IsCut owners moved carried (take (i + 1) ds) more
+cut_more owners moved carried ds i d u kept more h lt e ua ue s c =
     let t : take (i + 1) ds ≡ take i ds ++ d ∷ [] = take_more ds i d lt ∙ ap (λ x. take i ds ++ x ∷ []) (sym e) in
     let last : update_in (take (i + 1) ds) (number d) ≡ d.update = update_last (take i ds) (take (i + 1) ds) d t (rises-take (i + 1) 0 ds h) in
     record {
@@ -41,9 +42,13 @@ cut_more owners ds i d u kept more h lt e ua ue s c =
       erases = λ w. erases w t last (eqb (number d) w) refl;
     }
   where
-    area : (w : ℕ) (p : Point) → take (i + 1) ds ≡ take i ds ++ d ∷ [] → update_in (take (i + 1) ds) (number d) ≡ d.update → (b : Bool) → eqb (number d) w ≡ b → region_has (area_in more w) p ≡ (region_has (area_in (take (i + 1) ds) w) p && region_has (region_in owners w) p)
-    area w p t last true k = subst (λ n. region_has (area_in more n) p ≡ (region_has (area_in (take (i + 1) ds) n) p && region_has (region_in owners n) p)) (eqb-true (number d) w k) (s.area p ∙ ua p ∙ sym (ap (λ (v : Dirty). region_has v.area p && region_has (region_in owners (number d)) p) last))
-    area w p t last false k = ap (λ (v : Dirty). region_has v.area p) (s.others w (λ n. eqb-false (number d) w k (sym n))) ∙ c.area w p ∙ sym (ap (λ (v : Dirty). region_has v.area p && region_has (region_in owners w) p) (update_before (take i ds) (take (i + 1) ds) d w t (λ n. eqb-false (number d) w k (sym n))))
+    -- what is left of an area for a window
+    left : List Rect → ℕ → Point → Bool
+    left rs w p = (region_has rs p && region_has (region_in owners w) p) && not (carries moved carried w p)
+
+    area : (w : ℕ) (p : Point) → take (i + 1) ds ≡ take i ds ++ d ∷ [] → update_in (take (i + 1) ds) (number d) ≡ d.update → (b : Bool) → eqb (number d) w ≡ b → region_has (area_in more w) p ≡ left (area_in (take (i + 1) ds) w) w p
+    area w p t last true k = subst (λ n. region_has (area_in more n) p ≡ left (area_in (take (i + 1) ds) n) n p) (eqb-true (number d) w k) (s.area p ∙ ua p ∙ sym (ap (λ (v : Dirty). left v.area (number d) p) last))
+    area w p t last false k = ap (λ (v : Dirty). region_has v.area p) (s.others w (λ n. eqb-false (number d) w k (sym n))) ∙ c.area w p ∙ sym (ap (λ (v : Dirty). left v.area w p) (update_before (take i ds) (take (i + 1) ds) d w t (λ n. eqb-false (number d) w k (sym n))))
 
     erases : (w : ℕ) → take (i + 1) ds ≡ take i ds ++ d ∷ [] → update_in (take (i + 1) ds) (number d) ≡ d.update → (b : Bool) → eqb (number d) w ≡ b → erases_in more w ≡ erases_in (take (i + 1) ds) w
     erases w t last true k = subst (λ n. erases_in more n ≡ erases_in (take (i + 1) ds) n) (eqb-true (number d) w k) (s.erases ∙ ue ∙ sym (ap (λ (v : Dirty). v.erases) last))

@@ -1,3 +1,4 @@
+pub mod Carrying
 pub mod Cutting
 pub mod Exposing
 pub mod Kept

@@ -1,3 +1,4 @@
+pub mod Carrying
 pub mod Changes
 pub mod LookUps
 pub mod Places

@@ -5,7 +5,7 @@ ghost use Rattle.win_num.specs.declared.shapes.Point.{Point};
 ghost use Rattle.band_region.specs.Regions.{region_has};
 ghost use Rattle.screen_owners.specs.Owners.{region_in};
 ghost use Rattle.dirty_windows.specs.LookUps.{RisesFrom, AreSorted};
-ghost use Rattle.dirty_windows.specs.Changes.{exposes, IsCut, IsExposed};
+ghost use Rattle.dirty_windows.specs.Changes.{carries, exposes, IsCut, IsExposed};
 
 use crate::entries::{DirtyWindow, add, settle};
 use band_region::Region;
@@ -53,19 +53,19 @@ fn other_part(alloc: Global, part: &Region, owners: &Owners, w: Hwnd) -> Result<
     }
 }
 
-/// The pixels of those that a window owns that it didn't before, or all where it moved.
+/// The pixels of those that a window owns that it didn't before, or where it moved all that aren't carried.
 fn newly_owned(
     alloc: Global,
     owned: &Region,
     old: &Owners,
     moved: bool,
+    carried: &Region,
     w: Hwnd,
 ) -> Result<Region, AllocError>
-    ensures { IfOk result (λ x. (p : Point) → region_has x p ≡ (region_has owned.now p && (moved || not (region_has (region_in old.now w.0) p)))) }
+    ensures { IfOk result (λ x. (p : Point) → region_has x p ≡ ((region_has owned.now p && (moved || not (region_has (region_in old.now w.0) p))) && not (moved && region_has carried.now p))) }
 {
     if moved {
-        let copy = owned.copy(alloc)?;
-        return Ok(copy);
+        return owned.diff(alloc, carried);
     }
     other_part(alloc, owned, old, w)
 }
@@ -76,15 +76,16 @@ fn exposed_part(
     old: &Owners,
     new: &Owners,
     moved: &[Hwnd],
+    carried: &Region,
     w: Hwnd,
 ) -> Result<Region, AllocError>
     requires sorted { AreSorted moved.now }
     requires window { 0 < w.0 }
-    ensures { IfOk result (λ x. (p : Point) → region_has x p ≡ exposes old.now new.now moved.now w.0 p) }
+    ensures { IfOk result (λ x. (p : Point) → region_has x p ≡ exposes old.now new.now moved.now carried.now w.0 p) }
 {
     let moves = has_number(moved, w);
     match new.region_of(w) {
-        Some(owned) => newly_owned(alloc, owned, old, moves, w),
+        Some(owned) => newly_owned(alloc, owned, old, moves, carried, w),
         None => Ok(Region::empty(alloc)),
     }
 }
@@ -96,16 +97,17 @@ fn expose(
     old: &Owners,
     new: &Owners,
     moved: &[Hwnd],
+    carried: &Region,
     w: Hwnd,
 ) -> Result<(), AllocError>
     requires rising { RisesFrom 0 entries.old.items }
     requires moved { AreSorted moved.now }
-    ensures { OnOk result (IsExposed (λ v. w.0 == v) old.now new.now moved.now entries.old.items entries.new.items) }
+    ensures { OnOk result (IsExposed (λ v. w.0 == v) old.now new.now moved.now carried.now entries.old.items entries.new.items) }
 {
     if w == Hwnd(0) {
         return Ok(());
     }
-    let part = exposed_part(alloc, old, new, moved, w)?;
+    let part = exposed_part(alloc, old, new, moved, carried, w)?;
     if part.kind() == 1 {
         return Ok(());
     }
@@ -119,14 +121,15 @@ pub fn expose_all(
     old: &Owners,
     new: &Owners,
     moved: &[Hwnd],
+    carried: &Region,
 ) -> Result<(), AllocError>
     requires rising { RisesFrom 0 entries.old.items }
     requires moved { AreSorted moved.now }
-    ensures { OnOk result (IsExposed (λ _. true) old.now new.now moved.now entries.old.items entries.new.items) }
+    ensures { OnOk result (IsExposed (λ _. true) old.now new.now moved.now carried.now entries.old.items entries.new.items) }
 {
     let owners = new.entries();
     for owned in owners {
-        expose(alloc, entries, old, new, moved, owned.window)?;
+        expose(alloc, entries, old, new, moved, carried, owned.window)?;
     }
     Ok(())
 }
@@ -142,7 +145,7 @@ fn kept_in(alloc: Global, update: &Update, owned: &Region) -> Result<Update, All
 }
 
 /// What is dirty of the window and still owned by it, with its flag.
-fn kept_update(
+fn owned_update(
     alloc: Global,
     update: &Update,
     owners: &Owners,
@@ -161,18 +164,42 @@ fn kept_update(
     }
 }
 
-/// What is dirty of each window and still owned by it, with the flags.
+/// What is dirty of the window and still owned by it, but where it carries pixels, with its flag.
+fn kept_update(
+    alloc: Global,
+    update: &Update,
+    owners: &Owners,
+    moved: &[Hwnd],
+    carried: &Region,
+    w: Hwnd,
+) -> Result<Update, AllocError>
+    requires { AreSorted moved.now }
+    ensures area { IfOk result (λ u. (p : Point) → region_has u.area p ≡ ((region_has update.now.area p && region_has (region_in owners.now w.0) p) && not (carries moved.now carried.now w.0 p))) }
+    ensures erases { IfOk result (λ u. u.erases ≡ update.now.erases) }
+{
+    let mut kept = owned_update(alloc, update, owners, w)?;
+    if !has_number(moved, w) {
+        return Ok(kept);
+    }
+    kept.carry(carried)?;
+    Ok(kept)
+}
+
+/// What is dirty of each window and still owned by it, but where it carries pixels, with the flags.
 pub fn kept_of(
     alloc: Global,
     entries: &[DirtyWindow],
     owners: &Owners,
+    moved: &[Hwnd],
+    carried: &Region,
 ) -> Result<Vec<DirtyWindow>, AllocError>
-    requires { RisesFrom 0 entries.now }
-    ensures { IfOk result (λ v. IsCut owners.now entries.now v.items) }
+    requires rising { RisesFrom 0 entries.now }
+    requires moved { AreSorted moved.now }
+    ensures { IfOk result (λ v. IsCut owners.now moved.now carried.now entries.now v.items) }
 {
     let mut kept = Vec::new(alloc);
     for d in entries {
-        let update = kept_update(alloc, &d.update, owners, d.window)?;
+        let update = kept_update(alloc, &d.update, owners, moved, carried, d.window)?;
         settle(&mut kept, d.window, update)?;
     }
     Ok(kept)

@@ -2,9 +2,11 @@
 //! the history changes them.
 #![tactic(auto)]
 
+mod carry;
 mod change;
 mod entries;
 mod windows;
 
+pub use carry::Shift;
 pub use entries::DirtyWindow;
 pub use windows::DirtyWindows;

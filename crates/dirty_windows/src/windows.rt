@@ -5,14 +5,16 @@ ghost use Rattle.win_num.specs.declared.shapes.Point.{Point};
 ghost use Rattle.band_region.specs.Regions.{region_has, IsEmpty};
 ghost use Rattle.screen_owners.specs.Owners.{region_in};
 ghost use Rattle.dirty_windows.specs.LookUps.{area_in, entry_area, entry_of, erases_in, is_among, update_in, IsAllClean, RisesFrom, AreSorted};
-ghost use Rattle.dirty_windows.specs.Changes.{exposes};
+ghost use Rattle.dirty_windows.specs.Changes.{carries, exposes};
+ghost use Rattle.dirty_windows.specs.Carrying.{brings_any, IsShort};
 
+use crate::carry::{Shift, carried_all};
 use crate::change::{expose_all, kept_of, owned_part};
 use crate::entries::{
     DirtyWindow, add, are_clean, copy_of, keep_listed, remove, settle, update_of,
 };
 use band_region::Region;
-use screen_owners::Owners;
+use screen_owners::{Owners, Screen};
 use std::alloc::{AllocError, Global};
 use std::marker::Model;
 use win_num::Hwnd;
@@ -150,25 +152,46 @@ impl DirtyWindows {
         self.clean = are_clean(&self.entries);
     }
 
+    /// The pixels that windows carry that are moved so far, where `new` are the owners of pixels and `old` were those
+    /// before (Microsoft, SetWindowPos function: valid contents are copied back after a move). It is each pixel of
+    /// the screen that one of the windows owns now, and from where the move brings a pixel that the same window owned,
+    /// and that wasn't dirty for it. The move is no further than a screen may be wide or high. Want of memory is the
+    /// only error.
+    pub fn carried(
+        &self,
+        alloc: Global,
+        old: &Owners,
+        new: &Owners,
+        moved: &[Hwnd],
+        screen: Screen,
+        shift: Shift,
+    ) -> Result<Region, AllocError>
+        requires { IsShort shift }
+        ensures { IfOk result (λ x. (p : Point) → region_has x p ≡ brings_any self.now old.now new.now screen shift moved.now p) }
+    {
+        carried_all(alloc, &self.entries, old, new, moved, screen, shift)
+    }
+
     /// What is dirty where `new` are the owners of pixels and `old` were those before. `moved` are the
-    /// windows whose rectangle on the screen changed, by number. A pixel is exposed for a window
-    /// that owns it now, and didn't before or has moved. It is dirty then, and the window's flag is set. A
-    /// pixel that was dirty is so still where the window owns it, and other flags are as before. Want of
-    /// memory is the only error.
+    /// windows whose rectangle on the screen changed, by number, and `carried` the pixels that they carry. A pixel is
+    /// exposed for a window that owns it now, and didn't before or has moved and doesn't carry it. It is dirty then,
+    /// and the window's flag is set. A pixel that was dirty is so still where the window owns it and doesn't
+    /// carry it, and other flags are as before. Want of memory is the only error.
     pub fn after_change(
         &self,
         alloc: Global,
         old: &Owners,
         new: &Owners,
         moved: &[Hwnd],
+        carried: &Region,
     ) -> Result<DirtyWindows, AllocError>
         requires { AreSorted moved.now }
-        ensures area { IfOk result (λ ds. (w : ℕ) (p : Point) → region_has (area_in ds w) p ≡ ((region_has (area_in self.now w) p && region_has (region_in new.now w) p) || exposes old.now new.now moved.now w p)) }
-        ensures set { IfOk result (λ ds. (w : ℕ) (p : Point) → exposes old.now new.now moved.now w p ≡ true → erases_in ds w ≡ true) }
-        ensures same { IfOk result (λ ds. (w : ℕ) → ((p : Point) → exposes old.now new.now moved.now w p ≡ false) → erases_in ds w ≡ erases_in self.now w) }
+        ensures area { IfOk result (λ ds. (w : ℕ) (p : Point) → region_has (area_in ds w) p ≡ (((region_has (area_in self.now w) p && region_has (region_in new.now w) p) && not (carries moved.now carried.now w p)) || exposes old.now new.now moved.now carried.now w p)) }
+        ensures set { IfOk result (λ ds. (w : ℕ) (p : Point) → exposes old.now new.now moved.now carried.now w p ≡ true → erases_in ds w ≡ true) }
+        ensures same { IfOk result (λ ds. (w : ℕ) → ((p : Point) → exposes old.now new.now moved.now carried.now w p ≡ false) → erases_in ds w ≡ erases_in self.now w) }
     {
-        let mut entries = kept_of(alloc, &self.entries, new)?;
-        expose_all(alloc, &mut entries, old, new, moved)?;
+        let mut entries = kept_of(alloc, &self.entries, new, moved, carried)?;
+        expose_all(alloc, &mut entries, old, new, moved, carried)?;
         let clean = are_clean(&entries);
         Ok(DirtyWindows {
             alloc,

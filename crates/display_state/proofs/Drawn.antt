@@ -39,7 +39,7 @@ pub draws_leaves : (call : Call) (a : Answer) → draws call a ≡ true → chan
 draws_leaves (calls.Invalidate w l t r b erase) answers.Okay h = refl
 draws_leaves (calls.Validate w l t r b) answers.Okay h = refl
 draws_leaves (calls.EndPaint w) answers.Okay h = refl
-draws_leaves (calls.BeginPaint w) (answers.Painting erases l t r b) h = refl
+draws_leaves (calls.BeginPaint w) (answers.Painting erase l t r b) h = refl
 draws_leaves (calls.Fill w l t r b k) answers.Okay h = refl
 draws_leaves (calls.Erase w) answers.Okay h = refl
 draws_leaves calls.Snap (answers.Snap k) h = refl

@@ -5,7 +5,7 @@ use Rattle.win_class.specs.ClassTable.{ClassTable}
 use Rattle.win_rows.specs.Windows.{Windows}
 use Rattle.win_order.specs.Layers.{Layers}
 use Rattle.band_region.specs.Regions.{region_has}
-use Rattle.screen_buf.specs.Pictures.{Picture, IsPainted, colour_at, pixel}
+use Rattle.screen_buf.specs.Pictures.{Picture, IsCarried, IsPainted, LiesOn, colour_at, pixel}
 use Rattle.user_model.specs.declared.call.Call.{Call}
 use Rattle.user_model.specs.declared.call.Call.TheVariants.{Fill, Erase, Snap}
 use Rattle.user_model.specs.declared.entry.Answer.{Answer}
@@ -37,15 +37,26 @@ pub record IsDisplayAt (setup : Setup) (past : Past) (d : Shown) : Type 0 where
   pub colours : (x y : ℕ) → x < setup.width → y < setup.height → colour_at d.colours x y ≡ colour setup past (pixel x y)
   pub frames : d.frames ≡ map (frame setup) (snapped past)
 
--- where other owners have come, the pixels that no window owns then get colour 0
-abbrev pub IsBared : Option Change → Picture → Picture → Type 0
-IsBared None old new = new ≡ old
-IsBared (Some c) old new = IsPainted old (λ p. region_has (region_in c.owners 0) p) 0 new
+-- the pixels that a change carries lie on the display's screen, and so do those that they come from
+abbrev pub FitsDisplay : Option Change → Shown → Type 0
+FitsDisplay None d = Unit {0}
+FitsDisplay (Some c) d = LiesOn d.colours.width d.colours.height (λ p. region_has c.carried p) c.dx c.dy
+
+-- the pixels that a change carries get the colours that they had where they came from, and then the pixels that no window owns get colour 0
+pub record IsMoved (c : Change) (old new : Picture) : Type 0 where
+  pub mid : Picture
+  pub carried : IsCarried old (λ p. region_has c.carried p) c.dx c.dy mid
+  pub bared : IsPainted mid (λ p. region_has (region_in c.owners 0) p) 0 new
+
+-- where other owners have come, the colours move with the pixels that are carried, and the pixels that no window owns then get colour 0
+abbrev pub IsRecoloured : Option Change → Picture → Picture → Type 0
+IsRecoloured None old new = new ≡ old
+IsRecoloured (Some c) old new = IsMoved c old new
 
 -- owners and dirty pixels exchanged, where others have come, and the colours with them
 pub record IsShown (o : Option Change) (old new : Shown) : Type 0 where
   pub screen : new.screen ≡ replaced o old.screen
-  pub colours : IsBared o old.colours new.colours
+  pub colours : IsRecoloured o old.colours new.colours
   pub frames : new.frames ≡ old.frames
 
 -- where the old display is that of a past that has made this table and this order, one that took over what has come is that with the entry
@@ -93,4 +104,10 @@ pub record IsSnapped (t : Windows) (e : Entry) (old new : Shown) : Type 0 where
 pub record IsBaring (old new : Shown) : Type 0 where
   pub screen : new.screen ≡ old.screen
   pub colours : IsPainted old.colours (λ p. region_has (region_in old.screen.owners 0) p) 0 new.colours
+  pub frames : new.frames ≡ old.frames
+
+-- the pixels that a change carries have the colours that they had where they came from, and all else is as before
+pub record IsCarrying (c : Change) (old new : Shown) : Type 0 where
+  pub screen : new.screen ≡ old.screen
+  pub colours : IsCarried old.colours (λ p. region_has c.carried p) c.dx c.dy new.colours
   pub frames : new.frames ≡ old.frames

@@ -1,13 +1,13 @@
 //! What is shown, and what an entry does to it.
 
-ghost use Rattle.std.specs.Prelude.{◌≡◌, [], true, false, length, None, IfOk, OnOk, OnErr, option_copied};
+ghost use Rattle.std.specs.Prelude.{◌≡◌, [], true, false, length, None, Some, IfOk, OnOk, OnErr, option_copied};
 ghost use Rattle.win_class.specs.ClassTable.{ClassTable};
 ghost use Rattle.user_model.specs.declared.entry.Setup.{Setup};
 ghost use Rattle.user_model.specs.Past.{Past};
 ghost use Rattle.user_model.specs.Colours.{frame_of, snapped};
 ghost use Rattle.screen_state.specs.Owned.{IsNext};
 ghost use Rattle.screen_state.specs.Screens.{draws, IsDrawn};
-ghost use Rattle.display_state.specs.Displays.{recolours, DrawsDisplay, FollowsDisplay, IsBaring, IsDisplayAt, IsFilled, IsPainting, IsShown, IsSnapped};
+ghost use Rattle.display_state.specs.Displays.{recolours, DrawsDisplay, FitsDisplay, FollowsDisplay, IsBaring, IsCarrying, IsDisplayAt, IsFilled, IsPainting, IsShown, IsSnapped};
 
 use crate::erasing::class_colour;
 use band_region::Region;
@@ -66,20 +66,33 @@ impl Display {
     ) -> Result<Option<ScreenChange>, AllocError>
         requires { IsNext setup tree.now order.now entry }
         ensures windows { IfOk result (λ o. draws entry.call entry.answer ≡ false → FollowsDisplay setup tree.now order.now o entry self.now) }
+        ensures near { (past : Past) → IsDisplayAt setup past self.now → IfOk result (λ o. FitsDisplay o self.now) }
         ensures drawing { IfOk result (λ o. draws entry.call entry.answer ≡ true → o ≡ None) }
     {
         self.screen.after(alloc, setup, tree, order, entry)
     }
 
-    /// Takes over the owners and the dirty pixels that an entry has changed. The pixels that no window owns then
-    /// get colour 0.
+    /// Takes over the owners and the dirty pixels that an entry has changed. The pixels that it carries get the
+    /// colours that they had where they came from, and the pixels that no window owns then get colour 0.
     pub fn take_over(&mut self, change: Option<ScreenChange>)
+        requires { FitsDisplay change self.old }
         ensures { IsShown change self.old self.new }
     {
         if let Some(change) = change {
+            self.carry(&change);
             self.screen.take_over(Some(change));
             self.bare();
         }
+    }
+
+    /// Gives the pixels that an entry carries the colours that they had where they came from (Microsoft, SetWindowPos
+    /// function: the valid contents of the client area are copied).
+    fn carry(&mut self, change: &ScreenChange)
+        requires { FitsDisplay (Some change.now) self.old }
+        ensures { IsCarrying change.now self.old self.new }
+    {
+        let shift = change.shift();
+        self.colours.carry(change.carried(), shift.dx, shift.dy);
     }
 
     /// Gives colour 0 to the pixels that no window owns.

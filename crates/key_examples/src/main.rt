@@ -6,12 +6,14 @@
 ghost use Rattle.std.specs.Prelude.{IfOk, IfSome};
 ghost use Rattle.win_calls.specs.States.{Awaits, MayFollow};
 
-use dialog_keys::{DialogKey, Got, KeyState, Next, may_follow};
+use dialog_keys::{
+    DialogKey, Got, IDCANCEL, KeyState, Next, VK_ESCAPE, VK_RETURN, VK_TAB, WM_COMMAND, may_follow,
+};
 use std::alloc::Global;
 use std::io::Print;
 use user_core::User;
 use user_model::{Answer, Call, Machine, Setup};
-use win_num::names::{VK_SHIFT, WM_KEYDOWN, WM_QUIT};
+use win_num::names::{VK_SHIFT, WM_KEYDOWN, WM_QUIT, WS_CHILD, WS_DISABLED, WS_VISIBLE};
 use win_num::{Hwnd, Msg, Thread};
 
 /// How many steps a key and how many messages the loop has here at most.
@@ -20,17 +22,11 @@ const STEPS: u32 = 100;
 /// The dialog has this number.
 const DIALOG: u32 = 16;
 
-/// A command of the user (Microsoft, WM_COMMAND message).
-const WM_COMMAND: u32 = 273;
+/// The style of a control that is shown.
+const SHOWN: u64 = WS_CHILD + WS_VISIBLE;
 
-/// The command of Escape (Microsoft, Dialog Box Command Identifiers).
-const IDCANCEL: u64 = 2;
-
-/// A control that is shown: WS_CHILD and WS_VISIBLE.
-const SHOWN: u64 = 1_342_177_280;
-
-/// A control that is shown and disabled: WS_CHILD, WS_VISIBLE and WS_DISABLED.
-const DISABLED: u64 = 1_476_395_008;
+/// The style of one that is shown and disabled.
+const DISABLED: u64 = SHOWN + WS_DISABLED;
 
 /// The class, the dialog 16 with its controls 17, 18 and 19, and the focus at 17.
 static OPENING: [Call; 7] = [
@@ -45,13 +41,13 @@ static OPENING: [Call; 7] = [
 
 /// Tab twice, Tab with Shift, Enter and Escape.
 static KEYS: [Call; 7] = [
-    Call::Key(1, 9),
-    Call::Key(1, 9),
-    Call::Key(1, 16),
-    Call::Key(1, 9),
-    Call::Key(0, 16),
-    Call::Key(1, 13),
-    Call::Key(1, 27),
+    Call::Key(1, VK_TAB as u64),
+    Call::Key(1, VK_TAB as u64),
+    Call::Key(1, VK_SHIFT),
+    Call::Key(1, VK_TAB as u64),
+    Call::Key(0, VK_SHIFT),
+    Call::Key(1, VK_RETURN as u64),
+    Call::Key(1, VK_ESCAPE as u64),
 ];
 
 /// Makes a call of a thread, and prints what it was answered.
@@ -88,7 +84,7 @@ fn procedure(
     wparam: u64,
 ) -> anyhow::Result<u64> {
     println!(rt; "  message {number} runs the procedure of window {window}")?;
-    if number != WM_COMMAND {
+    if u64::from(number) != WM_COMMAND {
         return Ok(0);
     }
     if wparam == IDCANCEL {

@@ -17,10 +17,11 @@ use Rattle.user_model.specs.Windows.{Window, window}
 use Rattle.user_model.specs.Pixels.{owner}
 use Rattle.user_model.specs.Classes.{Class, registered_count, registers, unregisters, classes, class, colour_of}
 use Rattle.user_model.specs.Colours.{paints_in, colour}
+use Rattle.user_model.specs.Dirty.{came_from, carries}
 use Rattle.user_model.specs.Idle.{reply}
 use Rattle.user_model.specs.Legal.{IsLawful}
 use Rattle.user_model.specs.Refusals.{refuse, if_own, is_no_rect, invalid_parameter, class_already_exists}
-use Rattle.user_model.proofs.ColourLaws.{colour-next, colour-refused}
+use Rattle.user_model.proofs.ColourLaws.{colour-cases, colour-refused}
 use Rattle.user_model.proofs.PastLaws.{first_way, standing-next}
 use Rattle.user_model.proofs.ReplyLaws.{by_call, not_refused}
 use Rattle.script_tree.specs.Tree.{Tree}
@@ -106,20 +107,23 @@ painted_fits setup past who p (calls.Fill w l t r b k) a h e fine =
 painted_fits setup past who p (calls.Erase w) a h e fine = given _ (colour_of past w) (window_colour past w h)
 painted_fits setup past who p _ a h e fine = tt
 
-either_fits : (bare : Bool) (o : Option ℕ) (old : ℕ) → IfSome o IsColour → IsColour old → IsColour (unwrap_or (cond bare (Some 0) o) old)
-either_fits true o old h k = omega arith
-either_fits false None old h k = k
-either_fits false (Some n) old h k = h
+either_fits : (bare carried : Bool) (brought old : ℕ) (o : Option ℕ) → IfSome o IsColour → IsColour brought → IsColour old → IsColour (cond bare 0 (cond carried brought (unwrap_or o old)))
+either_fits true carried brought old o h k m = omega arith
+either_fits false true brought old o h k m = k
+either_fits false false brought old None h k m = m
+either_fits false false brought old (Some n) h k m = h
 
 colour_fits : (setup : Setup) (past : Past) (p : Point) → IsLawful setup past → IsColour (colour setup past p)
 colour_fits setup [] p lawful = omega arith
-colour_fits setup (e ∷ past) p lawful = by_refusal (colour_fits setup past p lawful.0) (is_refused e) refl
+colour_fits setup (e ∷ past) p lawful = by_refusal (λ q. colour_fits setup past q lawful.0) (is_refused e) refl
   where
-    by_refusal : IsColour (colour setup past p) → (refused : Bool) → is_refused e ≡ refused → IsColour (colour setup (e ∷ past) p)
-    by_refusal before true is = subst IsColour (sym (colour-refused setup e past p is)) before
+    by_refusal : ((q : Point) → IsColour (colour setup past q)) → (refused : Bool) → is_refused e ≡ refused → IsColour (colour setup (e ∷ past) p)
+    by_refusal before true is = subst IsColour (sym (colour-refused setup e past p is)) (before p)
     by_refusal before false is =
+        let w = (owner setup (e ∷ past) p).0 in
         let painted = painted_fits setup past e.who.0 p e.call e.answer (classes_fit setup past lawful.0) (sym lawful.1) is in
-        subst IsColour (sym (colour-next setup e past p is)) (either_fits (eqb (owner setup (e ∷ past) p).0 0) (paints_in setup p e.call past) (colour setup past p) painted before)
+        subst IsColour (sym (colour-cases setup e past p is))
+        (either_fits (eqb w 0) (carries setup e past w p) (colour setup past (came_from e past w p)) (colour setup past p) (paints_in setup p e.call past) painted (before (came_from e past w p)) (before p))
 
 -- ---- the colours of frames
 

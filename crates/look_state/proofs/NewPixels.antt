@@ -22,6 +22,7 @@ use Rattle.user_model.specs.Dirty.{has_some, is_dirty, owns, pixels_of}
 use Rattle.user_model.specs.Legal.{IsLawful}
 use Rattle.user_model.specs.Since.{IsTail}
 use Rattle.user_model.specs.Status.{has_paint, is_newly_dirty}
+use Rattle.user_model.proofs.DirtyOwners.{dirty_owned}
 use Rattle.user_model.proofs.Forests.{all_by_number, number_found}
 use Rattle.user_model.proofs.LiveWindows.{sound}
 use Rattle.user_model.proofs.LookLaws.{tail_lawful}
@@ -123,7 +124,7 @@ module _ (setup : Setup) (past look : Past) (t : ℕ) (tree : Windows) (ds : Lis
   dirty_live h law w p is = live_window h w (by (is_live h w) refl)
     where
       own : owns setup h w p ≡ true
-      own = (and_parts (owns setup h w p) _ is).0
+      own = dirty_owned setup h w p is
 
       by : (b : Bool) → is_live h w ≡ b → b ≡ true
       by true k = refl

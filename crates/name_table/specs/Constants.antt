@@ -21,21 +21,22 @@ constant_rows =
     row (codes "SWP_NOACTIVATE") 12 ∷
     row (codes "SWP_SHOWWINDOW") 13 ∷
     row (codes "SWP_HIDEWINDOW") 14 ∷
-    row (codes "PM_NOREMOVE") 15 ∷
-    row (codes "PM_REMOVE") 16 ∷
-    row (codes "PM_NOYIELD") 17 ∷
-    row (codes "SMTO_NORMAL") 18 ∷
-    row (codes "SMTO_BLOCK") 19 ∷
-    row (codes "WA_INACTIVE") 20 ∷
-    row (codes "WA_ACTIVE") 21 ∷
-    row (codes "WA_CLICKACTIVE") 22 ∷
-    row (codes "QS_KEY") 23 ∷
-    row (codes "QS_MOUSEMOVE") 24 ∷
-    row (codes "QS_MOUSEBUTTON") 25 ∷
-    row (codes "QS_POSTMESSAGE") 26 ∷
-    row (codes "QS_TIMER") 27 ∷
-    row (codes "QS_PAINT") 28 ∷
-    row (codes "QS_SENDMESSAGE") 29 ∷ []
+    row (codes "SWP_NOCOPYBITS") 15 ∷
+    row (codes "PM_NOREMOVE") 16 ∷
+    row (codes "PM_REMOVE") 17 ∷
+    row (codes "PM_NOYIELD") 18 ∷
+    row (codes "SMTO_NORMAL") 19 ∷
+    row (codes "SMTO_BLOCK") 20 ∷
+    row (codes "WA_INACTIVE") 21 ∷
+    row (codes "WA_ACTIVE") 22 ∷
+    row (codes "WA_CLICKACTIVE") 23 ∷
+    row (codes "QS_KEY") 24 ∷
+    row (codes "QS_MOUSEMOVE") 25 ∷
+    row (codes "QS_MOUSEBUTTON") 26 ∷
+    row (codes "QS_POSTMESSAGE") 27 ∷
+    row (codes "QS_TIMER") 28 ∷
+    row (codes "QS_PAINT") 29 ∷
+    row (codes "QS_SENDMESSAGE") 30 ∷ []
 
 -- the value of each, by its ordinal
 abbrev pub constant_values : List ℕ
@@ -55,6 +56,7 @@ constant_values =
     16 ∷
     64 ∷
     128 ∷
+    256 ∷
     0 ∷
     1 ∷
     2 ∷

@@ -6,7 +6,7 @@ ghost use Rattle.name_table.specs.Constants.{constant_rows, constant_values};
 use crate::table::{NameTable, Row};
 
 /// The constants that have names, with their ordinals from 0.
-static CONSTANTS: [Row; 30] = [
+static CONSTANTS: [Row; 31] = [
     Row {
         name: b"WS_CHILD",
         number: 0,
@@ -68,69 +68,73 @@ static CONSTANTS: [Row; 30] = [
         number: 14,
     },
     Row {
-        name: b"PM_NOREMOVE",
+        name: b"SWP_NOCOPYBITS",
         number: 15,
     },
     Row {
-        name: b"PM_REMOVE",
+        name: b"PM_NOREMOVE",
         number: 16,
     },
     Row {
-        name: b"PM_NOYIELD",
+        name: b"PM_REMOVE",
         number: 17,
     },
     Row {
-        name: b"SMTO_NORMAL",
+        name: b"PM_NOYIELD",
         number: 18,
     },
     Row {
-        name: b"SMTO_BLOCK",
+        name: b"SMTO_NORMAL",
         number: 19,
     },
     Row {
-        name: b"WA_INACTIVE",
+        name: b"SMTO_BLOCK",
         number: 20,
     },
     Row {
-        name: b"WA_ACTIVE",
+        name: b"WA_INACTIVE",
         number: 21,
     },
     Row {
-        name: b"WA_CLICKACTIVE",
+        name: b"WA_ACTIVE",
         number: 22,
     },
     Row {
-        name: b"QS_KEY",
+        name: b"WA_CLICKACTIVE",
         number: 23,
     },
     Row {
-        name: b"QS_MOUSEMOVE",
+        name: b"QS_KEY",
         number: 24,
     },
     Row {
-        name: b"QS_MOUSEBUTTON",
+        name: b"QS_MOUSEMOVE",
         number: 25,
     },
     Row {
-        name: b"QS_POSTMESSAGE",
+        name: b"QS_MOUSEBUTTON",
         number: 26,
     },
     Row {
-        name: b"QS_TIMER",
+        name: b"QS_POSTMESSAGE",
         number: 27,
     },
     Row {
-        name: b"QS_PAINT",
+        name: b"QS_TIMER",
         number: 28,
     },
     Row {
-        name: b"QS_SENDMESSAGE",
+        name: b"QS_PAINT",
         number: 29,
+    },
+    Row {
+        name: b"QS_SENDMESSAGE",
+        number: 30,
     },
 ];
 
 /// The values of the constants by ordinal, modulo 2 to the 64th.
-static VALUES: [u64; 30] = [
+static VALUES: [u64; 31] = [
     1073741824, // WS_CHILD
     2147483648, // WS_POPUP
     268435456, // WS_VISIBLE
@@ -146,6 +150,7 @@ static VALUES: [u64; 30] = [
     16, // SWP_NOACTIVATE
     64, // SWP_SHOWWINDOW
     128, // SWP_HIDEWINDOW
+    256, // SWP_NOCOPYBITS
     0, // PM_NOREMOVE
     1, // PM_REMOVE
     2, // PM_NOYIELD

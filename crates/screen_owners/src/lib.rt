@@ -18,4 +18,4 @@ mod shares;
 
 pub use changes::changed_part;
 pub use owners::{Owned, Owners, owned_regions, owned_regions_again};
-pub use screen::{Part, Screen};
+pub use screen::{Part, Screen, whole_screen};

@@ -1,7 +1,7 @@
 -- The dirty pixels that are kept, as the past has them.
 use Rattle.std.proofs.Common.{◌≡◌, ℕ, Bool, true, false, cond, not, eqb, List, [], ◌∷◌, length, filter, Option, Some, None, refl, ap, ◌∙◌, sym}
-use Rattle.std.specs.Prelude.{◌&&◌, option_map, unwrap_or}
-use Rattle.std.proofs.lemmas.Bool.{eqb-false, ne_eqb}
+use Rattle.std.specs.Prelude.{◌&&◌, option_map}
+use Rattle.std.proofs.lemmas.Bool.{eqb-false, eqb-true}
 use Rattle.win_num.specs.declared.message.Hwnd.{Hwnd}
 use Rattle.win_num.specs.declared.shapes.Point.{Point}
 use Rattle.win_num.specs.declared.shapes.Rect.{Rect}
@@ -9,11 +9,12 @@ use Rattle.win_num.specs.PixelSets.{has_pixel, kind_of}
 use Rattle.band_region.specs.Regions.{region_has}
 use Rattle.region_box.specs.Screens.{screen_points, IsPassing}
 use Rattle.user_model.specs.declared.entry.Setup.{Setup}
-use Rattle.user_model.specs.Past.{Past, last_of}
+use Rattle.user_model.specs.Past.{Past}
 use Rattle.user_model.specs.Windows.{live}
 use Rattle.user_model.specs.ZOrder.{hwnd}
 use Rattle.user_model.specs.Pixels.{deepest, screen}
-use Rattle.user_model.specs.Dirty.{dirty_pixels, has_dirty, has_some, is_dirty, touches}
+use Rattle.user_model.specs.Dirty.{dirty_pixels, has_dirty, has_some, is_dirty}
+use Rattle.user_model.proofs.DirtyOwners.{dirty_owned}
 use Rattle.dirty_windows.specs.declared.entries.DirtyWindow.{DirtyWindow}
 use Rattle.dirty_windows.specs.LookUps.{area_in, entry_area, entry_of, update_in_entry}
 use Rattle.screen_state.specs.Walks.{AreDirtyAt}
@@ -36,20 +37,22 @@ area_none ds w e = pick (entry_of ds w) e
 
 -- ---- dirty pixels are on the screen
 
--- window 0 owns no pixel
-nobody_owns : (w : ℕ) → (not (eqb w 0) && eqb 0 w) ≡ false
-nobody_owns w = pick (eqb w 0) refl
-  where
-    pick : (b : Bool) → eqb w 0 ≡ b → (not b && eqb 0 w) ≡ false
-    pick true k = refl
-    pick false k = ne_eqb 0 w (λ e. eqb-false w 0 k (sym e))
-
 on_screen : (setup : Setup) (past : Past) (w : ℕ) (p : Point) → is_dirty setup past w p ≡ (has_pixel (screen setup) p && is_dirty setup past w p)
-on_screen setup past w p = gen (has_pixel (screen setup) p) (deepest (length (live past)) past p (hwnd 0)) (unwrap_or (last_of (touches setup w p) past) false)
+on_screen setup past w p = pick (is_dirty setup past w p) (has_pixel (screen setup) p) (λ is. owned_on (has_pixel (screen setup) p) (deepest (length (live past)) past p (hwnd 0)) (dirty_owned setup past w p is))
   where
-    gen : (b : Bool) (d : Hwnd) (u : Bool) → ((not (eqb w 0) && eqb (cond b d (hwnd 0)).0 w) && u) ≡ (b && ((not (eqb w 0) && eqb (cond b d (hwnd 0)).0 w) && u))
-    gen true d u = refl
-    gen false d u = ap (λ x. x && u) (nobody_owns w)
+    pick : (dirt on : Bool) → (dirt ≡ true → on ≡ true) → dirt ≡ (on && dirt)
+    pick true on h = sym (ap (λ b. b && true) (h refl))
+    pick false true h = refl
+    pick false false h = refl
+
+    -- window 0 owns no pixel
+    nobody : (b : Bool) → eqb w 0 ≡ b → (not b && eqb 0 w) ≡ true → false ≡ true
+    nobody true k is = is
+    nobody false k is = absurd (eqb-false w 0 k (sym (eqb-true 0 w is)))
+
+    owned_on : (on : Bool) (d : Hwnd) → (not (eqb w 0) && eqb (cond on d (hwnd 0)).0 w) ≡ true → on ≡ true
+    owned_on true d is = refl
+    owned_on false d is = nobody (eqb w 0) refl is
 
 pub passing : (setup : Setup) (past : Past) (ds : List DirtyWindow) (w : ℕ) → AreDirtyAt setup past ds → IsPassing setup.width setup.height (is_dirty setup past w) (area_in ds w)
 passing setup past ds w at p = at w p ∙ on_screen setup past w p

@@ -9,7 +9,6 @@ use Rattle.win_num.specs.declared.shapes.Rect.{Rect}
 use Rattle.win_num.specs.PixelSets.{has_pixel}
 use Rattle.win_rows.specs.Windows.{Windows}
 use Rattle.win_rows.specs.Windows as kept
-use Rattle.win_order.proofs.Booleans.{and_left}
 use Rattle.band_region.specs.Regions.{IsEmpty, region_has}
 use Rattle.region_box.specs.Screens.{screen_points}
 use Rattle.update_region.specs.Updates.{Dirty}
@@ -19,17 +18,18 @@ use Rattle.user_model.specs.declared.entry.Answer.{Answer}
 use Rattle.user_model.specs.declared.entry.Answer.TheVariants as answers
 use Rattle.user_model.specs.declared.entry.Entry.{Entry}
 use Rattle.user_model.specs.declared.entry.Setup.{Setup}
-use Rattle.user_model.specs.Past.{Past, is_refusal, is_refused, last_of}
+use Rattle.user_model.specs.Past.{Past, is_refusal, is_refused}
 use Rattle.user_model.specs.Idle.{reply}
 use Rattle.user_model.specs.Legal.{IsLawful}
 use Rattle.user_model.specs.Windows.{Window, find_window, is_live}
 use Rattle.user_model.specs.Pixels.{screen}
 use Rattle.user_model.specs.Colours.{is_in_clip, session, session_told}
-use Rattle.user_model.specs.Dirty.{cleans, exposes, flag_told, has_dirty, invalidates, is_dirty, is_in_client, must_erase, owns, set_where, touches}
+use Rattle.user_model.specs.Dirty.{carries, cleans, exposes, flag_told, has_dirty, invalidates, is_dirty, is_in_client, must_erase, owns, set_where}
 use Rattle.user_model.specs.Refusals.{is_no_rect}
 use Rattle.user_model.specs.Painting.{is_painting, painting_told}
 use Rattle.user_model.proofs.ColourLaws.{session-next}
 use Rattle.user_model.proofs.DirtyLaws.{dirty-next, flag-next, painting-next}
+use Rattle.user_model.proofs.DirtyOwners.{dirty_owned}
 use Rattle.user_model.proofs.WindowFacts.{live_within}
 use Rattle.window_state.specs.Trees.{IsTreeAt}
 use Rattle.window_state.proofs.LookSteps.{edges_passed}
@@ -75,8 +75,9 @@ module _ (setup : Setup) (past : Past) (t : Windows) (e : Entry) (lawful : IsLaw
   pub drawn_dirty : (w : ℕ) (p : Point) → is_dirty setup (e ∷ past) w p ≡ (owns setup past w p && (invalidates setup e.call past w p || (not (cleans e.call past w p) && is_dirty setup past w p)))
   drawn_dirty w p =
       dirty-next setup e past w p fine
-      ∙ (ap (λ b. b && ((exposes setup e past w p || invalidates setup e.call past w p) || (not (cleans e.call past w p) && is_dirty setup past w p))) (rests.owned w p)
-      ∙ ap (λ b. owns setup past w p && ((b || invalidates setup e.call past w p) || (not (cleans e.call past w p) && is_dirty setup past w p))) (rests.hidden w p))
+      ∙ (ap (λ b. b && ((exposes setup e past w p || invalidates setup e.call past w p) || (not (carries setup e past w p || cleans e.call past w p) && is_dirty setup past w p))) (rests.owned w p)
+      ∙ (ap (λ b. owns setup past w p && ((b || invalidates setup e.call past w p) || (not (carries setup e past w p || cleans e.call past w p) && is_dirty setup past w p))) (rests.hidden w p)
+      ∙ ap (λ b. owns setup past w p && ((false || invalidates setup e.call past w p) || (not (b || cleans e.call past w p) && is_dirty setup past w p))) (rests.left w p)))
 
   pub drawn_flag : (w : ℕ) → must_erase setup (e ∷ past) w ≡ unwrap_or (flag_told setup e.call (e ∷ past) w) (must_erase setup past w)
   drawn_flag w = flag-next setup e past w fine ∙ ap (λ b. unwrap_or (elim b as (λ c. Option Bool) [ true ↦ Some true | false ↦ flag_told setup e.call (e ∷ past) w ]) (must_erase setup past w)) (none_exposed setup past e (lawful, right) rests w)
@@ -102,16 +103,17 @@ okay_fine a is = ap is_refusal is
 
 -- ---- invalidate
 
-invalid_pick : (own was k x : Bool) → ((own && was) || (k && (x && own))) ≡ (own && ((k && (x && own)) || (own && was)))
-invalid_pick true true true true = refl
-invalid_pick true true true false = refl
-invalid_pick true true false x = refl
-invalid_pick true false true true = refl
-invalid_pick true false true false = refl
-invalid_pick true false false x = refl
-invalid_pick false was true true = refl
-invalid_pick false was true false = refl
-invalid_pick false was false x = refl
+invalid_pick : (own was k x : Bool) → (was ≡ true → own ≡ true) → (was || (k && (x && own))) ≡ (own && ((k && (x && own)) || was))
+invalid_pick true true true true h = refl
+invalid_pick true true true false h = refl
+invalid_pick true true false x h = refl
+invalid_pick true false true true h = refl
+invalid_pick true false true false h = refl
+invalid_pick true false false x h = refl
+invalid_pick false true k x h = absurd (false≢true (h refl))
+invalid_pick false false true true h = refl
+invalid_pick false false true false h = refl
+invalid_pick false false false x h = refl
 
 erase_pick : (was k erase : Bool) → (was || (k && erase)) ≡ unwrap_or (set_where (k && erase) true) was
 erase_pick true true true = refl
@@ -149,7 +151,7 @@ invalidate_draws t e w l top r b erase part old ds is_call is_okay client area f
         area v p
         ∙ (ap (λ c. c || (eqb w v && (region_has part p && region_has (region_in old.owners v) p))) (was.dirty v p)
         ∙ (ap (λ c. is_dirty setup past v p || c) (under (eqb w v) (region_has part p && region_has (region_in old.owners v) p) (region_has part p && owns setup past v p) (λ k. ap (λ c. region_has part p && c) (live_region setup past old.owners lawful was.owners v p (same_window v k))))
-        ∙ (invalid_pick (owns setup past v p) (unwrap_or (last_of (touches setup v p) past) false) (eqb w v) (region_has part p)
+        ∙ (invalid_pick (owns setup past v p) (is_dirty setup past v p) (eqb w v) (region_has part p) (dirty_owned setup past v p)
         ∙ (ap (λ c. owns setup past v p && (c || is_dirty setup past v p)) (under (eqb w v) (region_has part p && owns setup past v p) (is_in_client past v l top r b p && owns setup past v p) (λ k. ap (λ c. c && owns setup past v p) (same_part v p k)))
         ∙ sym (drawn_dirty setup past t e lawful tree right fine leaves v p
         ∙ ap (λ (c : Call). owns setup past v p && (invalidates setup c past v p || (not (cleans c past v p) && is_dirty setup past v p))) is_call)))))
@@ -175,12 +177,13 @@ invalidate_draws t e w l top r b erase part old ds is_call is_okay client area f
 
 -- ---- validate
 
-valid_pick : (own was k : Bool) → ((own && was) && not k) ≡ (own && (false || (not k && (own && was))))
-valid_pick true true true = refl
-valid_pick true true false = refl
-valid_pick true false true = refl
-valid_pick true false false = refl
-valid_pick false was k = refl
+valid_pick : (own was k : Bool) → (was ≡ true → own ≡ true) → (was && not k) ≡ (own && (false || (not k && was)))
+valid_pick true true true h = refl
+valid_pick true true false h = refl
+valid_pick true false true h = refl
+valid_pick true false false h = refl
+valid_pick false true k h = absurd (false≢true (h refl))
+valid_pick false false k h = refl
 
 pub validate_draws : (t : Windows) (e : Entry) (w : ℕ) (l top r b : ℤ) (part : List Rect) (old : Kept) (ds : List DirtyWindow)
     → e.call ≡ calls.Validate w l top r b → e.answer ≡ answers.Okay → IsClientPart t w l top r b part
@@ -209,7 +212,7 @@ validate_draws t e w l top r b part old ds is_call is_okay client area cleared k
         area v p
         ∙ (ap (λ c. c && not (eqb w v && region_has part p)) (was.dirty v p)
         ∙ (ap (λ c. is_dirty setup past v p && not c) (under (eqb w v) (region_has part p) (is_in_client past v l top r b p) (same_part v p))
-        ∙ (valid_pick (owns setup past v p) (unwrap_or (last_of (touches setup v p) past) false) (eqb w v && is_in_client past v l top r b p)
+        ∙ (valid_pick (owns setup past v p) (is_dirty setup past v p) (eqb w v && is_in_client past v l top r b p) (dirty_owned setup past v p)
         ∙ sym (drawn_dirty setup past t e lawful tree right fine leaves v p
         ∙ ap (λ (c : Call). owns setup past v p && (invalidates setup c past v p || (not (cleans c past v p) && is_dirty setup past v p))) is_call))))
 
@@ -224,7 +227,7 @@ validate_draws t e w l top r b part old ds is_call is_okay client area cleared k
     own_flag false k = cleared (λ p. dirty w p ∙ false_from_ne_true (is_dirty setup (e ∷ past) w p) (λ d. false≢true (sym k ∙ some_listed setup (is_dirty setup (e ∷ past) w) p (on p d) d)))
       where
         on : (p : Point) → is_dirty setup (e ∷ past) w p ≡ true → has_pixel (screen setup) p ≡ true
-        on p d = (owner_stands_there setup (e ∷ past) (lawful, right) w p (and_left (owns setup (e ∷ past) w p) (unwrap_or (last_of (touches setup w p) (e ∷ past)) false) d)).on
+        on p d = (owner_stands_there setup (e ∷ past) (lawful, right) w p (dirty_owned setup (e ∷ past) w p d)).on
 
     erases : (v : ℕ) → is_live (e ∷ past) v ≡ true → erases_in ds v ≡ must_erase setup (e ∷ past) v
     erases v lives = by (eqb w v) refl ∙ sym (flag v)
@@ -246,9 +249,10 @@ validate_draws t e w l top r b part old ds is_call is_okay client area cleared k
 
 -- ---- painting begins
 
-begin_pick : (own was : Bool) → (own && was) ≡ (own && (false || (true && (own && was))))
-begin_pick true was = refl
-begin_pick false was = refl
+begin_pick : (own was : Bool) → (was ≡ true → own ≡ true) → was ≡ (own && (false || (true && was)))
+begin_pick true was h = refl
+begin_pick false true h = absurd (false≢true (h refl))
+begin_pick false false h = refl
 
 begun_pick : (was k : Bool) → (was || k) ≡ unwrap_or (set_where k true) was
 begun_pick true true = refl
@@ -281,7 +285,7 @@ begin_draws t e w to_erase l top r b old new is_call is_begun_so taken setup pas
       where
         by : (c : Bool) → eqb w v ≡ c → region_has (area_in new.dirty v) p ≡ (owns setup past v p && (false || (not c && is_dirty setup past v p)))
         by true k = ap (λ u. region_has (area_in new.dirty u) p) (sym (eqb-true w v k)) ∙ (ap (λ (rs : List Rect). region_has rs p) taken.area ∙ none_and (owns setup past v p))
-        by false k = ap (λ (u : Dirty). region_has u.area p) (taken.others v (λ (same : v ≡ w). eqb-false w v k (sym same))) ∙ (was.dirty v p ∙ begin_pick (owns setup past v p) (unwrap_or (last_of (touches setup v p) past) false))
+        by false k = ap (λ (u : Dirty). region_has u.area p) (taken.others v (λ (same : v ≡ w). eqb-false w v k (sym same))) ∙ (was.dirty v p ∙ begin_pick (owns setup past v p) (is_dirty setup past v p) (dirty_owned setup past v p))
 
     flag : (v : ℕ) → must_erase setup (e ∷ past) v ≡ unwrap_or (set_where (eqb w v) false) (must_erase setup past v)
     flag v = drawn_flag setup past t e lawful tree right fine leaves v ∙ ap (λ (c : Call). unwrap_or (flag_told setup c (e ∷ past) v) (must_erase setup past v)) is_call
@@ -334,7 +338,7 @@ end_draws t e w old ss is_call is_okay left others setup past lawful tree right 
     dirty : (v : ℕ) (p : Point) → region_has (area_in old.dirty v) p ≡ is_dirty setup (e ∷ past) v p
     dirty v p =
         was.dirty v p
-        ∙ (begin_pick (owns setup past v p) (unwrap_or (last_of (touches setup v p) past) false)
+        ∙ (begin_pick (owns setup past v p) (is_dirty setup past v p) (dirty_owned setup past v p)
         ∙ sym (drawn_dirty setup past t e lawful tree right fine leaves v p ∙ ap (λ (c : Call). owns setup past v p && (invalidates setup c past v p || (not (cleans c past v p) && is_dirty setup past v p))) is_call))
 
     erases : (v : ℕ) → is_live (e ∷ past) v ≡ true → erases_in old.dirty v ≡ must_erase setup (e ∷ past) v

@@ -1,14 +1,16 @@
+pub mod Carrying
 pub mod Changed
 pub mod Clips
 pub mod DirtyAt
 pub mod Drawing
 pub mod Entered
 pub mod Followed
-pub mod Parts
 pub mod Owning
+pub mod Parts
 pub mod QuietEntries
 pub mod Reaching
 pub mod Screens
+pub mod Shifts
 pub mod Somewhere
 pub mod Undrawn
 pub mod Unmoved

@@ -11,7 +11,8 @@ use Rattle.user_model.specs.Legal.{IsLawful}
 use Rattle.user_model.specs.Windows.{is_live}
 use Rattle.user_model.specs.ZOrder.{hwnd}
 use Rattle.user_model.specs.Pixels.{owner, screen}
-use Rattle.user_model.specs.Dirty.{owns}
+use Rattle.user_model.specs.Dirty.{is_dirty, owns}
+use Rattle.user_model.proofs.DirtyOwners.{dirty_owned}
 use Rattle.window_state.proofs.PixelLaws.{owner_has}
 use Rattle.screen_owners.specs.declared.owners.Owned.{Owned}
 use Rattle.screen_owners.specs.Owners.{region_in}
@@ -40,6 +41,10 @@ module _ (setup : Setup) (past : Past) (lawful : IsLawful setup past) where
   -- a window that isn't live owns none
   pub dead_owns : (w : ℕ) (p : Point) → is_live past w ≡ false → owns setup past w p ≡ false
   dead_owns w p dead = false_from_ne_true (owns setup past w p) (λ own. false≢true (sym dead ∙ (owner_stands_there w p own).lives))
+
+  -- so none is dirty for it
+  pub dead_clean : (w : ℕ) (p : Point) → is_live past w ≡ false → is_dirty setup past w p ≡ false
+  dead_clean w p dead = false_from_ne_true (is_dirty setup past w p) (λ is. false≢true (sym (dead_owns w p dead) ∙ dirty_owned setup past w p is))
 
   -- the regions have the pixels that a window owns
   pub region_owns : (os : List Owned) → AreOwnersAt setup past os → (w : ℕ) (p : Point) → (not (eqb w 0) && region_has (region_in os w) p) ≡ owns setup past w p

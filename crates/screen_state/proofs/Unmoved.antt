@@ -101,7 +101,7 @@ place_by setup past who call a v lawful other lives = (shape-same (entry_of who 
 -- ---- no window that stays moves
 
 -- what a live window stands in is 0, or is live
-parent_known : (setup : Setup) (past : Past) (v : ℕ) (x : Window) → IsLawful setup past → window past v ≡ Some x → IsKnown past x.parent
+pub parent_known : (setup : Setup) (past : Past) (v : ℕ) (x : Window) → IsLawful setup past → window past v ≡ Some x → IsKnown past x.parent
 parent_known setup past v x lawful found = pick (eqb x.parent 0) refl (live_under setup past v x lawful found)
   where
     pick : (b : Bool) → eqb x.parent 0 ≡ b → IsUnder (live past) x → IsKnown past x.parent
@@ -114,10 +114,10 @@ parent_known setup past v x lawful found = pick (eqb x.parent 0) refl (live_unde
         ]
 
 -- one step up
-abbrev stepped : ℕ → Point → Box → Point
+abbrev pub stepped : ℕ → Point → Box → Point
 stepped v o b = elim (eqb v 0) as (λ q. Point) [ true ↦ point (pos 0) (pos 0) | false ↦ corner_from o b ]
 
-at_zero : (n : ℕ) (past : Past) (v : ℕ) → v ≡ 0 → origin_within n past v ≡ point (pos 0) (pos 0)
+pub at_zero : (n : ℕ) (past : Past) (v : ℕ) → v ≡ 0 → origin_within n past v ≡ point (pos 0) (pos 0)
 at_zero zero past v none = refl
 at_zero (suc n) past v none = ap (λ b. elim b as (λ q. Point) [ true ↦ point (pos 0) (pos 0) | false ↦ corner_from (origin_within n past (parent_in (live past) v)) (place_of past v) ]) (eq-eqb v 0 none)
 

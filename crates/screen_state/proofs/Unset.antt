@@ -10,7 +10,7 @@ use Rattle.user_model.specs.Past.{Past, is_refused}
 use Rattle.user_model.specs.Idle.{reply}
 use Rattle.user_model.specs.Legal.{IsLawful}
 use Rattle.user_model.specs.Windows.{Window, drops, find_window, is_live, live, windows_made}
-use Rattle.user_model.specs.Dirty.{exposes, exposes_some, flag_told, flags_erase, has_dirty, moves, must_erase, owns, set_where}
+use Rattle.user_model.specs.Dirty.{carries, exposes, exposes_some, flag_told, flags_erase, has_dirty, moves, must_erase, owns, set_where}
 use Rattle.region_box.specs.Screens.{screen_points}
 use Rattle.user_model.proofs.DirtyLaws.{flag-next, flag-refused}
 use Rattle.user_model.proofs.LiveWindows.{live-made, makes, sound}
@@ -23,7 +23,7 @@ use Rattle.screen_state.proofs.Undrawn.{invalidate_told}
 
 -- an entry exposes nothing for a window that isn't live after it
 pub dead_unexposed : (setup : Setup) (past : Past) (e : Entry) (w : ℕ) → IsLawful setup (e ∷ past) → is_live (e ∷ past) w ≡ false → exposes_some setup e past w ≡ false
-dead_unexposed setup past e w lawful dead = none_passes (exposes setup e past w) (screen_points setup.width setup.height) (λ p. ap (λ b. b && (moves e past w || not (owns setup past w p))) (dead_owns setup (e ∷ past) lawful w p dead))
+dead_unexposed setup past e w lawful dead = none_passes (exposes setup e past w) (screen_points setup.width setup.height) (λ p. ap (λ b. (b && (moves e past w || not (owns setup past w p))) && not (carries setup e past w p)) (dead_owns setup (e ∷ past) lawful w p dead))
 
 unset_told : (setup : Setup) (past : Past) (e : Entry) (w : ℕ) → IsLawful setup (e ∷ past) → is_refused e ≡ false → is_live past w ≡ false → unwrap_or (flag_told setup e.call (e ∷ past) w) false ≡ false
 unset_told setup past e w lawful fine dead = by e.call refl

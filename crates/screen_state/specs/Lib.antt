@@ -1,3 +1,5 @@
+pub mod Carried
+pub mod Carrying
 pub mod Entries
 pub mod Owned
 pub mod Parts

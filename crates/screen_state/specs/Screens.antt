@@ -17,7 +17,7 @@ use Rattle.user_model.specs.Idle.{reply}
 use Rattle.user_model.specs.Legal.{IsLawful}
 use Rattle.user_model.specs.Windows.{is_live}
 use Rattle.user_model.specs.Colours.{is_in_clip, reaches}
-use Rattle.user_model.specs.Dirty.{is_dirty, is_in_client, must_erase}
+use Rattle.user_model.specs.Dirty.{carries, is_dirty, is_in_client, must_erase}
 use Rattle.user_model.specs.Painting.{is_painting}
 use Rattle.window_state.specs.Orders.{IsOrderAt}
 use Rattle.window_state.specs.Trees.{IsTreeAt}
@@ -27,6 +27,7 @@ use Rattle.dirty_windows.specs.declared.entries.DirtyWindow.{DirtyWindow}
 use Rattle.dirty_windows.specs.LookUps.{area_in, erases_in, update_in}
 use Rattle.paint_sessions.specs.declared.sessions.Session.{Session}
 use Rattle.paint_sessions.specs.LookUps.{clip_in, is_begun}
+use Rattle.screen_state.specs.Carrying.{IsCarriedAt, IsOnScreen}
 use Rattle.screen_state.specs.Owned.{AreOwnersAt}
 use Rattle.screen_state.specs.Parts.{IsClientPart}
 use Rattle.screen_state.specs.Shown.{changes_owners, shows}
@@ -37,10 +38,14 @@ pub record Kept : Type 0 where
   pub dirty : List DirtyWindow
   pub sessions : List Session
 
--- the owners and the dirty pixels that come in the place of those that are there
+-- the owners and the dirty pixels that come in the place of those that are there, and the pixels that come from another place, so far to
+-- the right and down
 pub record Change : Type 0 where
   pub owners : List Owned
   pub dirty : List DirtyWindow
+  pub carried : List Rect
+  pub dx : ℤ
+  pub dy : ℤ
 
 -- whether a clip, if there is one, has the pixel
 abbrev pub clip_has : Option (List Rect) → Point → Bool
@@ -73,7 +78,7 @@ abbrev pub draws : Call → Answer → Bool
 draws (Invalidate w l t r b erase) Okay = true
 draws (Validate w l t r b) Okay = true
 draws (EndPaint w) Okay = true
-draws (BeginPaint w) (Painting erases l t r b) = true
+draws (BeginPaint w) (Painting erase l t r b) = true
 draws (Fill w l t r b colour) Okay = true
 draws (Erase w) Okay = true
 draws Snap (SnapOf k) = true
@@ -90,8 +95,25 @@ FollowsScreen setup t z e old new = (past : Past) → IsLawful setup past → Is
 
 -- where the old screen is that of a past that has made the table t and the order z, and an entry that draws nothing and isn't refused makes
 -- the table t2 and the order z2, the new one is that with the entry
-abbrev pub LeavesScreen : Setup → Windows → Layers → Windows → Layers → Kept → Kept → Type 0
-LeavesScreen setup t z t2 z2 old new = (past : Past) (e : Entry) → IsLawful setup (e ∷ past) → IsTreeAt past t → IsOrderAt past z → IsTreeAt (e ∷ past) t2 → IsOrderAt (e ∷ past) z2 → is_refused e ≡ false → draws e.call e.answer ≡ false → IsScreenAt setup past old → IsScreenAt setup (e ∷ past) new
+abbrev pub LeavesScreen : Setup → Windows → Layers → Windows → Layers → Entry → Kept → Kept → Type 0
+LeavesScreen setup t z t2 z2 e old new = (past : Past) → IsLawful setup (e ∷ past) → IsTreeAt past t → IsOrderAt past z → IsTreeAt (e ∷ past) t2 → IsOrderAt (e ∷ past) z2 → is_refused e ≡ false → draws e.call e.answer ≡ false → IsScreenAt setup past old → IsScreenAt setup (e ∷ past) new
+
+-- the pixels of a change, if there is one, are those that the entry carries
+abbrev pub IsChangeAt : Setup → Entry → Past → Option Change → Type 0
+IsChangeAt setup e past None = (w : ℕ) (p : Point) → carries setup e past w p ≡ false
+IsChangeAt setup e past (Some c) = IsCarriedAt setup e past c.carried c.dx c.dy
+
+-- so where the screen is that of a past that has made this table and this order
+abbrev pub FollowsCarried : Setup → Windows → Layers → Entry → Kept → Option Change → Type 0
+FollowsCarried setup t z e old o = (past : Past) → IsLawful setup past → IsTreeAt past t → IsOrderAt past z → e.answer ≡ reply setup past e.who.0 e.call → IsScreenAt setup past old → IsChangeAt setup e past o
+
+-- and where the entry makes the table t2 and the order z2
+abbrev pub LeavesCarried : Setup → Windows → Layers → Windows → Layers → Entry → Kept → Option Change → Type 0
+LeavesCarried setup t z t2 z2 e old o = (past : Past) → IsLawful setup (e ∷ past) → IsTreeAt past t → IsOrderAt past z → IsTreeAt (e ∷ past) t2 → IsOrderAt (e ∷ past) z2 → is_refused e ≡ false → IsScreenAt setup past old → IsChangeAt setup e past o
+
+-- the pixels of a change are on the screen, and so are those that come there
+abbrev pub IsChangeOn : Setup → Change → Type 0
+IsChangeOn setup c = IsOnScreen setup c.carried c.dx c.dy
 
 -- the entry comes next after a lawful past that has made this table
 pub record IsDrawn (t : Windows) (e : Entry) : Type 0 where

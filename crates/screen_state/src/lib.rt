@@ -4,6 +4,7 @@
 //! memory changes nothing.
 #![tactic(auto)]
 
+mod carry;
 mod layout;
 mod owned;
 mod part;

@@ -1,6 +1,6 @@
 //! What is kept of the screen, and what an entry does to it.
 
-ghost use Rattle.std.specs.Prelude.{◌≡◌, ℕ, [], true, false, None, IfOk, OnOk, OnErr, option_copied, option_map};
+ghost use Rattle.std.specs.Prelude.{◌≡◌, ℕ, [], true, false, None, IfOk, IfSome, OnOk, OnErr, option_copied, option_map};
 ghost use Rattle.win_num.specs.PixelSets.{box, kind_of};
 ghost use Rattle.user_model.specs.declared.entry.Setup.{Setup};
 ghost use Rattle.user_model.specs.Past.{Past};
@@ -16,11 +16,14 @@ ghost use Rattle.window_state.specs.Trees.{IsTreeAt};
 ghost use Rattle.screen_owners.specs.Owners.{entry_of, owned_region, AreChildren};
 ghost use Rattle.dirty_windows.specs.LookUps.{RisesFrom, entry_area, entry_of as dirty_of, erases_in};
 ghost use Rattle.paint_sessions.specs.LookUps.{is_begun};
+ghost use Rattle.dirty_windows.specs.Carrying.{IsShort};
+ghost use Rattle.screen_state.specs.Carried.{IsCarriedBy};
 ghost use Rattle.screen_state.specs.Entries.{IsMade};
 ghost use Rattle.screen_state.specs.Owned.{IsNext};
 ghost use Rattle.screen_state.specs.Parts.{IsLiveAt};
-ghost use Rattle.screen_state.specs.Screens.{draws, keeps_screen, replaced, DrawsScreen, FollowsScreen, IsDrawn, IsEnded, IsInvalidated, IsReached, IsReachedPart, IsScreenAt, IsTaken, IsValidated, LeavesScreen};
+ghost use Rattle.screen_state.specs.Screens.{draws, keeps_screen, replaced, DrawsScreen, FollowsCarried, FollowsScreen, IsChangeOn, IsDrawn, IsEnded, IsInvalidated, IsReached, IsReachedPart, IsScreenAt, IsTaken, IsValidated, LeavesCarried, LeavesScreen};
 
+use crate::carry::{Carried, shift_of};
 use crate::layout::{Layout, layout_after, moved_by};
 use crate::owned::{changes_owners, first_owners, owns_nothing, screen_of, shows, subject};
 use crate::part::client_part;
@@ -28,7 +31,7 @@ use crate::reach::let_through;
 use crate::update::{UpdateBox, update_box};
 use crate::walk::first_to_paint;
 use band_region::Region;
-use dirty_windows::{DirtyWindow, DirtyWindows};
+use dirty_windows::{DirtyWindow, DirtyWindows, Shift};
 use paint_sessions::PaintSessions;
 use screen_owners::{Owners, changed_part, owned_regions_again};
 use std::alloc::{AllocError, Global};
@@ -56,11 +59,13 @@ impl Model for ScreenState {
     ghost view = { λ s. record { owners = s.owners; dirty = s.dirty; sessions = s.sessions } };
 }
 
-/// The owners of pixels and the dirty pixels as an entry that changes windows leaves them.
+/// The owners of pixels and the dirty pixels as an entry that changes windows leaves them, and the pixels that it
+/// carries from another place of the screen.
 #[derive(Drop)]
 pub struct ScreenChange {
     owners: Owners,
     dirty: DirtyWindows,
+    carried: Carried,
 }
 
 impl Model for ScreenChange {
@@ -68,7 +73,24 @@ impl Model for ScreenChange {
 
     ghost Value = { Change };
 
-    ghost view = { λ c. record { owners = c.owners; dirty = c.dirty } };
+    ghost view = { λ c. record { owners = c.owners; dirty = c.dirty; carried = c.carried.region; dx = c.carried.shift.dx; dy = c.carried.shift.dy } };
+}
+
+impl ScreenChange {
+    /// The pixels that the entry carries, where they are now.
+    pub fn carried(&self) -> &Region
+        ensures { result.now ≡ self.now.carried }
+    {
+        &self.carried.region
+    }
+
+    /// How far they were moved.
+    pub fn shift(&self) -> Shift
+        ensures across { result.dx ≡ self.now.dx }
+        ensures down { result.dy ≡ self.now.dy }
+    {
+        self.carried.shift
+    }
 }
 
 impl ScreenState {
@@ -85,8 +107,9 @@ impl ScreenState {
         })
     }
 
-    /// The owners and the dirty pixels after an entry that doesn't draw, where it may change them; None comes
-    /// where they stay. `tree` and `order` are those before it. Want of memory is the only error.
+    /// The owners and the dirty pixels after an entry that doesn't draw, where it may change them, and the pixels
+    /// that it carries; None comes where owners and dirty pixels stay, and none is carried. `tree` and `order` are
+    /// those before it. Want of memory is the only error.
     pub fn after(
         &self,
         alloc: Global,
@@ -97,6 +120,8 @@ impl ScreenState {
     ) -> Result<Option<ScreenChange>, AllocError>
         requires { IsNext setup tree.now order.now entry }
         ensures windows { IfOk result (λ o. draws entry.call entry.answer ≡ false → FollowsScreen setup tree.now order.now entry self.now (replaced o self.now)) }
+        ensures carried { IfOk result (λ o. draws entry.call entry.answer ≡ false → FollowsCarried setup tree.now order.now entry self.now o) }
+        ensures near { IfOk result (λ o. IfSome o (IsChangeOn setup)) }
         ensures drawing { IfOk result (λ o. draws entry.call entry.answer ≡ true → o ≡ None) }
     {
         if self.stays(entry) {
@@ -106,8 +131,9 @@ impl ScreenState {
         self.changed(alloc, setup, tree, order, &layout, entry)
     }
 
-    /// The owners and the dirty pixels where an entry has made other windows of a table, as `layout` has them.
-    /// Only the regions in the part of the screen are computed anew whose pixels may have another owner.
+    /// The owners and the dirty pixels where an entry has made other windows of a table, as `layout` has them, and the
+    /// pixels that it carries. Only the regions in the part of the screen are computed anew whose pixels may have
+    /// another owner.
     fn changed(
         &self,
         alloc: Global,
@@ -120,18 +146,53 @@ impl ScreenState {
         requires before { AreChildren tree.now.live order.now }
         requires children { AreChildren layout.now.tree.live layout.now.order }
         requires made { IsMade tree.now layout.now.tree entry }
-        ensures { IfOk result (λ o. LeavesScreen setup tree.now order.now layout.now.tree layout.now.order self.now (replaced o self.now)) }
+        ensures screen { IfOk result (λ o. LeavesScreen setup tree.now order.now layout.now.tree layout.now.order entry self.now (replaced o self.now)) }
+        ensures carried { IfOk result (λ o. LeavesCarried setup tree.now order.now layout.now.tree layout.now.order entry self.now o) }
+        ensures near { IfOk result (λ o. IfSome o (IsChangeOn setup)) }
     {
         let w = subject(tree, entry);
         let screen = screen_of(setup);
         let part = changed_part(alloc, screen, tree, order, &layout.tree, &layout.order, w)?;
         let owners = owned_regions_again(alloc, &part, &layout.tree, &layout.order, &self.owners)?;
         let moved = moved_by(alloc, tree, layout, entry)?;
+        let shift = shift_of(setup, tree, layout, entry);
+        let carried = self.carried(alloc, setup, &owners, &moved, shift)?;
         let mut dirty = self
             .dirty
-            .after_change(alloc, &self.owners, &owners, &moved)?;
+            .after_change(alloc, &self.owners, &owners, &moved, &carried.region)?;
         dirty.keep(layout.tree.windows());
-        Ok(Some(ScreenChange { owners, dirty }))
+        Ok(Some(ScreenChange {
+            owners,
+            dirty,
+            carried,
+        }))
+    }
+
+    /// The pixels that windows carry that are moved so far, or none.
+    fn carried(
+        &self,
+        alloc: Global,
+        setup: Setup,
+        owners: &Owners,
+        moved: &[Hwnd],
+        shift: Option<Shift>,
+    ) -> Result<Carried, AllocError>
+        requires { IfSome shift IsShort }
+        ensures { IfOk result (IsCarriedBy setup self.now owners.now moved.now shift) }
+    {
+        match shift {
+            Some(shift) => {
+                let screen = screen_of(setup);
+                let region = self
+                    .dirty
+                    .carried(alloc, &self.owners, owners, moved, screen, shift)?;
+                Ok(Carried { region, shift })
+            }
+            None => Ok(Carried {
+                region: Region::empty(alloc),
+                shift: Shift { dx: 0, dy: 0 },
+            }),
+        }
     }
 
     /// Whether an entry surely leaves the owners of pixels and, where it doesn't draw, the dirty pixels: it

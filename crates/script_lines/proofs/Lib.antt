@@ -6,6 +6,7 @@ pub mod WordsAgain
 pub mod TextsAgain
 pub mod RowsAgain
 pub mod LinesAgain
+pub mod NamedRows
 pub mod NamesStay
 pub mod FrequentLines
 pub mod Fronts

@@ -73,11 +73,11 @@ fn every_message_is_found_both_ways(rt: HostRuntime) {
 #[test]
 fn every_constant_is_found_both_ways(rt: HostRuntime) {
     let table = constants();
-    for ordinal in 0..30 {
+    for ordinal in 0..31 {
         let name = table.name_of(ordinal).unwrap_or(b"");
         assert!(rt; table.number_of(name) == Some(ordinal), "at {ordinal}");
     }
-    assert!(rt; table.name_of(30) == None);
+    assert!(rt; table.name_of(31) == None);
 }
 
 /// The value of a constant by its name.
@@ -91,6 +91,7 @@ fn constants_have_their_values(rt: HostRuntime) {
         (b"WS_CHILD".as_slice(), Some(1073741824)),
         (b"HWND_TOPMOST", Some(18446744073709551615)),
         (b"HWND_NOTOPMOST", Some(18446744073709551614)),
+        (b"SWP_NOCOPYBITS", Some(256)),
         (b"PM_NOREMOVE", Some(0)),
         (b"WA_CLICKACTIVE", Some(2)),
         (b"QS_SENDMESSAGE", Some(64)),
@@ -98,5 +99,5 @@ fn constants_have_their_values(rt: HostRuntime) {
     ] {
         assert_eq!(rt; value_of(name), value);
     }
-    assert!(rt; constant_value(30) == None);
+    assert!(rt; constant_value(31) == None);
 }

@@ -57,7 +57,7 @@ pub fn runs_are_listed_by_their_movers()
 pub fn constants_are_those_of_windows()
     ensures messages { (names.WM_PAINT ≡ 15) × (names.WM_QUIT ≡ 18) × (names.WM_KEYDOWN ≡ 256) × (names.WM_KEYUP ≡ 257) × (names.WM_CHAR ≡ 258) × (names.WM_TIMER ≡ 275) × (names.WM_MOUSEMOVE ≡ 512) × (names.WM_LBUTTONDOWN ≡ 513) × (names.WM_LBUTTONUP ≡ 514) × (names.WM_RBUTTONDOWN ≡ 516) × (names.WM_RBUTTONUP ≡ 517) }
     ensures styles { (names.WS_DISABLED ≡ 134217728) × (names.WS_VISIBLE ≡ 268435456) × (names.WS_CHILD ≡ 1073741824) × (names.WS_POPUP ≡ 2147483648) × (names.WS_EX_TOPMOST ≡ 8) }
-    ensures placing { (names.SWP_NOSIZE ≡ 1) × (names.SWP_NOMOVE ≡ 2) × (names.SWP_NOZORDER ≡ 4) × (names.SWP_NOACTIVATE ≡ 16) × (names.SWP_SHOWWINDOW ≡ 64) × (names.SWP_HIDEWINDOW ≡ 128) }
+    ensures placing { (names.SWP_NOSIZE ≡ 1) × (names.SWP_NOMOVE ≡ 2) × (names.SWP_NOZORDER ≡ 4) × (names.SWP_NOACTIVATE ≡ 16) × (names.SWP_SHOWWINDOW ≡ 64) × (names.SWP_HIDEWINDOW ≡ 128) × (names.SWP_NOCOPYBITS ≡ 256) }
     ensures flags { (names.PM_REMOVE ≡ 1) × (names.SMTO_BLOCK ≡ 1) }
     ensures keys { (names.VK_LBUTTON ≡ 1) × (names.VK_RBUTTON ≡ 2) × (names.VK_SHIFT ≡ 16) × (names.VK_SPACE ≡ 32) }
     ensures status { (names.QS_KEY ≡ 1) × (names.QS_MOUSEMOVE ≡ 2) × (names.QS_MOUSEBUTTON ≡ 4) × (names.QS_POSTMESSAGE ≡ 8) × (names.QS_TIMER ≡ 16) × (names.QS_PAINT ≡ 32) × (names.QS_SENDMESSAGE ≡ 64) }

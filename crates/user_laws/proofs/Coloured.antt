@@ -11,10 +11,10 @@ use Rattle.user_model.specs.declared.entry.Setup.{Setup}
 use Rattle.user_model.specs.Past.{Past, is_refused}
 use Rattle.user_model.specs.Pixels.{owner}
 use Rattle.user_model.specs.Classes.{colour_of}
-use Rattle.user_model.specs.Dirty.{is_dirty, is_in_client, set_where}
+use Rattle.user_model.specs.Dirty.{came_from, carries, is_dirty, is_in_client, set_where}
 use Rattle.user_model.specs.Painting.{is_painting, painting_told}
 use Rattle.user_model.specs.Colours.{colour, frame, frame_of, is_in_clip, paints_in, past_at, reaches, session, session_told, snaps, snapped}
-use Rattle.user_model.proofs.ColourLaws.{colour-next, session-next, session-refused}
+use Rattle.user_model.proofs.ColourLaws.{colour-cases, session-next, session-refused}
 use Rattle.user_model.proofs.DirtyLaws.{painting-next, painting-refused}
 use Rattle.user_model.proofs.FrameLaws.{snapped_longer}
 use Rattle.user_model.proofs.PastLaws.{each_of-same}
@@ -30,11 +30,12 @@ called setup past p (Erase w) d = picked (reaches setup past w p) None (colour_o
 called setup past p _ d = refl
 
 -- the colour of a pixel after an entry
-pub painted_by : (setup : Setup) (past : Past) (e : Entry) (p : Point) → is_refused e ≡ false → colour setup (e ∷ past) p ≡ cond (eqb (owner setup (e ∷ past) p).0 0) 0 (colour_after setup p e.call past (colour setup past p))
+pub painted_by : (setup : Setup) (past : Past) (e : Entry) (p : Point) → is_refused e ≡ false
+    → colour setup (e ∷ past) p ≡ cond (eqb (owner setup (e ∷ past) p).0 0) 0 (cond (carries setup e past (owner setup (e ∷ past) p).0 p) (colour setup past (came_from e past (owner setup (e ∷ past) p).0 p)) (colour_after setup p e.call past (colour setup past p)))
 painted_by setup past e p h =
-    colour-next setup e past p h
-    ∙ picked (eqb (owner setup (e ∷ past) p).0 0) (paints_in setup p e.call past) 0 (colour setup past p)
-    ∙ ap (cond (eqb (owner setup (e ∷ past) p).0 0) 0) (called setup past p e.call (colour setup past p))
+    let w = (owner setup (e ∷ past) p).0 in
+    colour-cases setup e past p h
+    ∙ ap (λ k. cond (eqb w 0) 0 (cond (carries setup e past w p) (colour setup past (came_from e past w p)) k)) (called setup past p e.call (colour setup past p))
 
 -- ---- clips
 

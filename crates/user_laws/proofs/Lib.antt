@@ -1,4 +1,5 @@
 pub mod Before
+pub mod Carried
 pub mod Coloured
 pub mod Forest
 pub mod KeptByRefusals

@@ -1,6 +1,6 @@
 -- A refused entry leaves who owns each pixel, which pixels are dirty, where input goes, what comes next, and the status of each queue.
 use Rattle.std.proofs.Common.{◌≡◌, ◌∙◌, ℕ, zero, suc, Bool, true, false, eqb, List, [], ◌∷◌, ◌++◌, cond, length, Option, Some, None, refl, ap, sym}
-use Rattle.std.specs.Prelude.{◌&&◌, ◌||◌, ◌+◌, ◌*◌, ◌-ℤ◌, bit_and, not, find, pos, reverse, option_map, take_while, unwrap_or}
+use Rattle.std.specs.Prelude.{◌&&◌, ◌||◌, ◌+◌, ◌*◌, ◌-ℤ◌, bit_and, not, find, pos, reverse, option_map, take_while}
 use Rattle.std.specs.List.{flat_map, list_any}
 use Rattle.win_num.specs.declared.message.Thread.{Thread}
 use Rattle.win_num.specs.declared.message.Filter.{Filter}
@@ -15,7 +15,7 @@ use Rattle.user_model.specs.declared.entry.Answer.{Answer}
 use Rattle.user_model.specs.declared.entry.Answer.TheVariants.{Got, Refused}
 use Rattle.user_model.specs.declared.entry.Origin.TheVariants.{Input}
 use Rattle.user_model.specs.declared.entry.Setup.{Setup}
-use Rattle.user_model.specs.Past.{Past, last_of, or_else}
+use Rattle.user_model.specs.Past.{Past, or_else}
 use Rattle.user_model.specs.Filters.{passes_window}
 use Rattle.user_model.specs.Looks.{is_disabled, place_of}
 use Rattle.user_model.specs.Focus.{capture, if_of_group, value_of}
@@ -26,7 +26,7 @@ use Rattle.user_model.specs.Next.{got_input, got_paint, next, next_input, next_p
 use Rattle.user_model.specs.Pixels.{corner_from, origin, origin_within, owner, point}
 use Rattle.user_model.specs.Windows.{Window, live, parent_in, thread_of}
 use Rattle.user_model.specs.ZOrder.{siblings}
-use Rattle.user_model.specs.Dirty.{dirty_pixels, has_some, is_dirty, pixels_of, touches}
+use Rattle.user_model.specs.Dirty.{dirty_pixels, has_some, is_dirty, pixels_of}
 use Rattle.user_model.specs.Painting.{painted_below, painting_order, to_paint, wants_paint}
 use Rattle.user_model.specs.Status.{bit_where, bits_since, came_after, has_input, has_paint, has_post, has_send, has_timer, is_move, is_newly_dirty, is_of_button, is_of_key, last_look, status}
 use Rattle.user_model.specs.Machines.{entry_of}
@@ -67,7 +67,7 @@ module _ (past : Past) (by : Thread) (asked : Call) (code : Code) where
   owner_kept setup p = owner_same past (entry_of by asked (Refused code)) refl (λ w. record { shown = refl; place = refl }) (λ q. refl) setup p
 
   pub dirty_kept : (setup : Setup) (w : ℕ) (p : Point) → is_dirty setup later w p ≡ is_dirty setup past w p
-  dirty_kept setup w p = ap (λ (h : Hwnd). (not (eqb w 0) && eqb h.0 w) && unwrap_or (last_of (touches setup w p) past) false) (owner_kept setup p)
+  dirty_kept setup w p = refl
 
   pub pixels_kept : (setup : Setup) (w : ℕ) → dirty_pixels setup later w ≡ dirty_pixels setup past w
   pixels_kept setup w = filter_same (is_dirty setup later w) (is_dirty setup past w) (dirty_kept setup w) (screen_points setup.width setup.height)

@@ -1,4 +1,4 @@
--- A dirty pixel is one of a live window's that owns it.
+-- Who owns a pixel is a live window.
 use Rattle.std.proofs.Common.{◌≡◌, ◌≢◌, ◌∙◌, ℕ, Bool, true, false, not, eqb, refl, sym, ap}
 use Rattle.std.specs.Prelude.{◌&&◌}
 use Rattle.std.proofs.lemmas.Bool.{false≢true, eqb-true, eq-eqb}
@@ -8,7 +8,7 @@ use Rattle.user_model.specs.Past.{Past}
 use Rattle.user_model.specs.Legal.{IsLawful}
 use Rattle.user_model.specs.Pixels.{owner}
 use Rattle.user_model.specs.Windows.{is_live}
-use Rattle.user_model.specs.Dirty.{is_dirty, owns}
+use Rattle.user_model.specs.Dirty.{owns}
 use Rattle.window_state.proofs.PixelLaws.{owner_has}
 
 left_true : (a b : Bool) → (a && b) ≡ true → a ≡ true
@@ -18,10 +18,6 @@ left_true false b h = h
 right_true : (a b : Bool) → (a && b) ≡ true → b ≡ true
 right_true true b h = h
 right_true false b h = absurd (false≢true h)
-
--- a window owns the pixels that are dirty for it
-pub dirty_owned : (setup : Setup) (past : Past) (w : ℕ) (p : Point) → is_dirty setup past w p ≡ true → owns setup past w p ≡ true
-dirty_owned setup past w p is = left_true (owns setup past w p) _ is
 
 -- who owns a pixel is live
 pub owner_lives : (setup : Setup) (past : Past) (w : ℕ) (p : Point) → IsLawful setup past → owns setup past w p ≡ true → is_live past w ≡ true

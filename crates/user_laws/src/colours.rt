@@ -9,19 +9,20 @@ ghost use Rattle.user_model.specs.declared.entry.Setup.{Setup};
 ghost use Rattle.user_model.specs.Past.{is_refused};
 ghost use Rattle.user_model.specs.Legal.{IsLawful};
 ghost use Rattle.user_model.specs.Pixels.{owner};
-ghost use Rattle.user_model.specs.Dirty.{is_dirty};
+ghost use Rattle.user_model.specs.Dirty.{came_from, carries, is_dirty};
 ghost use Rattle.user_model.specs.Painting.{is_painting};
 ghost use Rattle.user_model.specs.Colours.{colour, frame, frame_of, is_in_clip};
 ghost use Rattle.user_laws.specs.Colours.{colour_after};
 
 /// Before any entry each pixel has colour 0 (`first`). After an entry that isn't refused it has colour 0 where no window owns it
-/// then; else, where the entry painted a rectangle of a window or erased one, the colour of the call or of the window's class
-/// exactly where the pixel lies in the rectangle, the window owns it and it is in the window's clip; else the colour as before
-/// (`painted`). So a pixel that no window owns has colour 0 (`unowned`). A refused entry changes no colour (`refused`)
-/// (Microsoft, FillRect function and WM_ERASEBKGND message).
+/// then; else, where the entry carries it for the window that owns it, the colour that the pixel had before where it came from; else,
+/// where the entry painted a rectangle of a window or erased one, the colour of the call or of the window's class exactly where the
+/// pixel lies in the rectangle, the window owns it and it is in the window's clip; else the colour as before (`painted`). So a pixel
+/// that no window owns has colour 0 (`unowned`). A refused entry changes no colour (`refused`) (Microsoft, FillRect and SetWindowPos
+/// functions, WM_ERASEBKGND message).
 pub fn colours_follow()
     ensures first { (setup : Setup) (p : Point) → colour setup [] p ≡ 0 }
-    ensures painted { (setup : Setup) (past : List Entry) (e : Entry) (p : Point) → is_refused e ≡ false → colour setup (e ∷ past) p ≡ (if (owner setup (e ∷ past) p).0 == 0 then 0 else colour_after setup p e.call past (colour setup past p)) }
+    ensures painted { (setup : Setup) (past : List Entry) (e : Entry) (p : Point) → is_refused e ≡ false → colour setup (e ∷ past) p ≡ (if (owner setup (e ∷ past) p).0 == 0 then 0 else (if carries setup e past (owner setup (e ∷ past) p).0 p then colour setup past (came_from e past (owner setup (e ∷ past) p).0 p) else colour_after setup p e.call past (colour setup past p))) }
     ensures unowned { (setup : Setup) (past : List Entry) (p : Point) → (owner setup past p).0 ≡ 0 → colour setup past p ≡ 0 }
     ensures refused { (setup : Setup) (past : List Entry) (e : Entry) (p : Point) → is_refused e ≡ true → colour setup (e ∷ past) p ≡ colour setup past p }
 {}

@@ -22,7 +22,7 @@ pub use groups::{groups_follow, settings_follow};
 pub use inputs::{inputs_follow, keys_follow};
 pub use machines::{send_law, sum_law};
 pub use orders::{destruction_is_in_order, kin_are_destroyed_once, kin_go_before_what_is_above};
-pub use painting::{dirty_pixels_follow, painted_windows_are_live};
+pub use painting::{dirty_pixels_follow, painted_windows_are_live, windows_take_pixels_along};
 pub use ranks::{owners_have_their_pixels, siblings_are_mended};
 pub use refusals::{posts_leave_in_order, refusals_change_nothing};
 pub use sends::{

@@ -5,7 +5,7 @@ use Rattle.win_num.specs.declared.shapes.Point.{Point}
 use Rattle.user_model.specs.declared.entry.Entry.{Entry}
 use Rattle.user_model.specs.declared.entry.Setup.{Setup}
 use Rattle.user_model.specs.Past.{Past, is_refused, last_of}
-use Rattle.user_model.specs.Dirty.{owns, moves, exposes, invalidates, cleans, touches, is_dirty, flags_erase, must_erase}
+use Rattle.user_model.specs.Dirty.{owns, came_from, carries, exposes, invalidates, cleans, stays_dirty, is_dirty, flags_erase, must_erase}
 use Rattle.user_model.specs.Painting.{painting_told, is_painting}
 
 -- what the last entry says, where the newest wasn't refused
@@ -20,30 +20,14 @@ last_says {A = A} says e past d h = ap (λ b. unwrap_or (elim b as (λ c. Option
 pub last_refused : {A : Type 0} (says : Entry → Past → Option A) (e : Entry) (past : Past) → is_refused e ≡ true → last_of says (e ∷ past) ≡ last_of says past
 last_refused {A = A} says e past h = ap (λ b. elim b as (λ c. Option A) [ true ↦ last_of says past | false ↦ elim (says e past) as (λ c. Option A) [ Some a ↦ Some a | None ↦ last_of says past ] ]) h
 
--- whether a pixel is dirty after an entry: owned and kept are that w owns it then, and that it isn't exposed
-abbrev pub dirty_after : Bool → Bool → Bool → Bool → Bool → Bool
-dirty_after owned exposed invalidated cleaned was = owned && ((exposed || invalidated) || (not cleaned && was))
-
-dirty_pick : (owned moved before invalidated cleaned was : Bool)
-    → (owned && unwrap_or (elim ((owned && (moved || not before)) || invalidated) as (λ c. Option Bool) [ true ↦ Some true | false ↦ elim cleaned as (λ c. Option Bool) [ true ↦ Some false | false ↦ None ] ]) was)
-    ≡ dirty_after owned (owned && (moved || not before)) invalidated cleaned (before && was)
-dirty_pick false moved before invalidated cleaned was = refl
-dirty_pick true true before invalidated cleaned was = refl
-dirty_pick true false false invalidated cleaned was = refl
-dirty_pick true false true true cleaned was = refl
-dirty_pick true false true false true was = refl
-dirty_pick true false true false false was = refl
-
 -- the pixels that are dirty for w after an entry that wasn't refused
 pub dirty-next : (setup : Setup) (e : Entry) (past : Past) (w : ℕ) (p : Point) → is_refused e ≡ false
-    → is_dirty setup (e ∷ past) w p ≡ dirty_after (owns setup (e ∷ past) w p) (exposes setup e past w p) (invalidates setup e.call past w p) (cleans e.call past w p) (is_dirty setup past w p)
-dirty-next setup e past w p h =
-    ap (λ b. owns setup (e ∷ past) w p && b) (last_says (touches setup w p) e past false h)
-    ∙ dirty_pick (owns setup (e ∷ past) w p) (moves e past w) (owns setup past w p) (invalidates setup e.call past w p) (cleans e.call past w p) (unwrap_or (last_of (touches setup w p) past) false)
+    → is_dirty setup (e ∷ past) w p ≡ (owns setup (e ∷ past) w p && ((exposes setup e past w p || invalidates setup e.call past w p) || (not (carries setup e past w p || cleans e.call past w p) && is_dirty setup past w p)))
+dirty-next setup e past w p h = ap (λ b. elim b as (λ c. Bool) [ true ↦ is_dirty setup past w p | false ↦ stays_dirty (is_dirty setup past w (came_from e past w p)) (is_dirty setup past w p) setup e past w p ]) h
 
--- a refused entry that leaves who owns the pixel leaves whether it is dirty
-pub dirty-refused : (setup : Setup) (e : Entry) (past : Past) (w : ℕ) (p : Point) → is_refused e ≡ true → owns setup (e ∷ past) w p ≡ owns setup past w p → is_dirty setup (e ∷ past) w p ≡ is_dirty setup past w p
-dirty-refused setup e past w p h same = ap (λ b. b && unwrap_or (last_of (touches setup w p) (e ∷ past)) false) same ∙ ap (λ o. owns setup past w p && unwrap_or o false) (last_refused (touches setup w p) e past h)
+-- and after one that was
+pub dirty-refused : (setup : Setup) (e : Entry) (past : Past) (w : ℕ) (p : Point) → is_refused e ≡ true → is_dirty setup (e ∷ past) w p ≡ is_dirty setup past w p
+dirty-refused setup e past w p h = ap (λ b. elim b as (λ c. Bool) [ true ↦ is_dirty setup past w p | false ↦ stays_dirty (is_dirty setup past w (came_from e past w p)) (is_dirty setup past w p) setup e past w p ]) h
 
 -- the erase flag of w after an entry that wasn't refused
 pub flag-next : (setup : Setup) (e : Entry) (past : Past) (w : ℕ) → is_refused e ≡ false → must_erase setup (e ∷ past) w ≡ unwrap_or (flags_erase setup w e past) (must_erase setup past w)

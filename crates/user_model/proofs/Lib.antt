@@ -3,6 +3,7 @@ pub mod ClockLaws
 pub mod ColourLaws
 pub mod DeliveryReplies
 pub mod DirtyLaws
+pub mod DirtyOwners
 pub mod Forests
 pub mod FrameLaws
 pub mod GroupLaws

@@ -1,15 +1,15 @@
 -- The colour of each pixel of the screen, and the frames that were kept of it.
-use Rattle.std.specs.Prelude.{if◌then◌else◌, ℕ, zero, suc, ◌==◌, Bool, true, ◌&&◌, List, [], ◌∷◌, map, Option, Some, None, option_map, unwrap_or}
+use Rattle.std.specs.Prelude.{if◌then◌else◌, ℕ, zero, suc, ◌==◌, Bool, true, false, ◌&&◌, List, [], ◌∷◌, map, Option, Some, None, option_map, unwrap_or}
 use Rattle.win_num.specs.declared.shapes.Point.{Point}
 use Rattle.region_box.specs.Screens.{screen_points}
 use Rattle.user_model.specs.declared.call.Call.{Call}
 use Rattle.user_model.specs.declared.call.Call.TheVariants.{BeginPaint, EndPaint, Fill, Erase, Snap}
 use Rattle.user_model.specs.declared.entry.Entry.{Entry}
 use Rattle.user_model.specs.declared.entry.Setup.{Setup}
-use Rattle.user_model.specs.Past.{Past, last_of, each_of}
+use Rattle.user_model.specs.Past.{Past, is_refused, last_of, each_of}
 use Rattle.user_model.specs.Classes.{colour_of}
 use Rattle.user_model.specs.Pixels.{owner}
-use Rattle.user_model.specs.Dirty.{owns, is_dirty, is_in_client}
+use Rattle.user_model.specs.Dirty.{owns, came_from, carries, is_dirty, is_in_client}
 
 -- that painting of w begins, with the past before it, or that it ends
 abbrev pub session_told : ℕ → Call → Past → Option (Option Past)
@@ -35,13 +35,17 @@ paints_in setup p (Fill w l t r b colour) past = if is_in_client past w l t r b 
 paints_in setup p (Erase w) past = if reaches setup past w p then Some (colour_of past w) else None
 paints_in setup p _ past = None
 
--- the colour that an entry gives the pixel: 0 where no window owns it afterwards
-abbrev pub paints : Setup → Point → Entry → Past → Option ℕ
-paints setup p e past = if (owner setup (e ∷ past) p).0 == 0 then Some 0 else paints_in setup p e.call past
+-- the colour that an entry gives the pixel: 0 where no window owns it afterwards, and where the entry carries it for the window that owns
+-- it, the colour that it had before where it came from, which is called brought
+abbrev pub paints : ℕ → Setup → Point → Entry → Past → Option ℕ
+paints brought setup p e past =
+    let w = (owner setup (e ∷ past) p).0 in
+    if w == 0 then Some 0 else (if carries setup e past w p then Some brought else paints_in setup p e.call past)
 
--- the colour of the pixel: that of the last entry that painted it
+-- the colour of the pixel: that of the last entry that painted it, else 0
 abbrev pub colour : Setup → Past → Point → ℕ
-colour setup past p = unwrap_or (last_of (paints setup p) past) 0
+colour setup [] p = 0
+colour setup (e ∷ past) p = elim (is_refused e) [ true ↦ colour setup past p | false ↦ unwrap_or (paints (colour setup past (came_from e past (owner setup (e ∷ past) p).0 p)) setup p e past) (colour setup past p) ]
 
 -- the colours of the screen, row after row
 abbrev pub frame : Setup → Past → List ℕ

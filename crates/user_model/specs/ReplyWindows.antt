@@ -2,7 +2,7 @@
 use Rattle.std.specs.Prelude.{if◌then◌else◌, ℕ, zero, suc, ◌==◌, ◌+◌, nat_lt, nat_le, Bool, true, false, not, ◌&&◌, ◌||◌, ℤ, pos, negsuc, ◌-ℤ◌, length, Option, Some, None, is_none, is_some, unwrap_or, option_map}
 use Rattle.win_num.specs.declared.message.Hwnd.{Hwnd}
 use Rattle.win_num.specs.declared.code.Code.TheVariants.{Full}
-use Rattle.win_num.specs.declared.names.TheConstants.{SWP_HIDEWINDOW, SWP_NOACTIVATE, SWP_NOMOVE, SWP_NOSIZE, SWP_NOZORDER, SWP_SHOWWINDOW, WS_CHILD, WS_DISABLED, WS_EX_TOPMOST, WS_POPUP, WS_VISIBLE}
+use Rattle.win_num.specs.declared.names.TheConstants.{SWP_HIDEWINDOW, SWP_NOACTIVATE, SWP_NOCOPYBITS, SWP_NOMOVE, SWP_NOSIZE, SWP_NOZORDER, SWP_SHOWWINDOW, WS_CHILD, WS_DISABLED, WS_EX_TOPMOST, WS_POPUP, WS_VISIBLE}
 use Rattle.win_num.specs.PixelSets.{Box, box, same_int}
 use Rattle.user_model.specs.declared.entry.Setup.{Setup}
 use Rattle.user_model.specs.declared.entry.Answer.{Answer}
@@ -85,7 +85,7 @@ drop_reply past who w = refuse (is_live past w && not (was_given past (ended w))
 
 -- the flags of a placing
 abbrev pub known_placings : ℕ
-known_placings = SWP_NOSIZE + SWP_NOMOVE + SWP_NOZORDER + SWP_NOACTIVATE + SWP_SHOWWINDOW + SWP_HIDEWINDOW
+known_placings = SWP_NOSIZE + SWP_NOMOVE + SWP_NOZORDER + SWP_NOACTIVATE + SWP_SHOWWINDOW + SWP_HIDEWINDOW + SWP_NOCOPYBITS
 
 -- an unknown flag, or one that shows with one that hides
 abbrev pub is_no_placing : ℕ → Bool

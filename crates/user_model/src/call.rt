@@ -75,7 +75,8 @@ pub enum Call {
     /// Puts a window at a place: the window; where it comes among its siblings, 0 to the top, 1 to the bottom, minus one to
     /// the top with the topmost flag set, minus two to the top with it cleared, else directly below the sibling of this
     /// number; the left, top, right and bottom edge in pixels from its parent's or the screen's left top corner; flags, which
-    /// keep the size (1), the corner (2) or the order (4), or show (64) or hide it (128) (Microsoft, SetWindowPos function).
+    /// keep the size (1), the corner (2) or the order (4), show (64) or hide it (128), or leave behind what it shows (256)
+    /// (Microsoft, SetWindowPos function).
     Place(u64, i64, i64, i64, i64, i64, u64),
     /// Shows a window (1) or hides it (0) (Microsoft, ShowWindow function).
     Show(u64, u64),

@@ -5,8 +5,14 @@ use Rattle.win_num.specs.declared.names.TheConstants.{WM_PAINT}
 use Rattle.user_model.specs.Windows.{thread_of}
 use Rattle.user_model.specs.Filters.{passes_window}
 use Rattle.user_model.specs.Dirty.{has_dirty}
-use Rattle.screen_state.proofs.Walking.{foreign_no, passes_same, thread_same, window_told}
+use Rattle.screen_state.proofs.Walking.{clean_no, foreign_no, passes_same, thread_same, window_told}
 use Rattle.screen_state.proofs.walk.wants_paint.Goals as goal
+
+pub returns-then-not-is_dirty : goal.returns-then-not-is_dirty
+returns-then-not-is_dirty c setup past seen =
+    let f = c.args.asked.filter in
+    clean_no (eqb (thread_of past c.args.w.0) c.args.asked.thread.0) (passes_range f.min f.max WM_PAINT) (passes_window past f.hwnd c.args.w.0) (has_dirty setup past c.args.w.0)
+    (sym (c.is_dirty.ensures setup past seen.dirty) ∙ c.if-not-is_dirty.true)
 
 pub returns-then-thread_of-asked : goal.returns-then-thread_of-asked
 returns-then-thread_of-asked c setup past seen =

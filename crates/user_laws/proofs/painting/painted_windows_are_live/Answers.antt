@@ -1,4 +1,5 @@
-use Rattle.user_laws.proofs.Painted.{dirty_owned, owner_lives}
+use Rattle.user_model.proofs.DirtyOwners.{dirty_owned}
+use Rattle.user_laws.proofs.Painted.{owner_lives}
 use Rattle.user_laws.proofs.painting.painted_windows_are_live.Goals as goal
 
 pub returns-clause-live : goal.returns-clause-live

@@ -21,7 +21,7 @@ use Rattle.win_num.specs.Clocks.{clock_limit}
 use Rattle.user_model.proofs.TimeBounds.{clock_small}
 use Rattle.timer_state.specs.Changes.{FitsAddedTimers}
 use Rattle.timer_state.proofs.TimerNeeds.{fits_adding, fits_following}
-use Rattle.core_state.proofs.DisplaySteps.{display_step}
+use Rattle.core_state.proofs.DisplaySteps.{display_step, fits_drawn}
 use Rattle.core_state.proofs.Timing.{still_fits, timers_step}
 use Rattle.core_state.proofs.SendCounts.{naming_fits}
 use Rattle.core_state.proofs.SendMarks.{look_fits, looks_stand, marks_kept}
@@ -39,6 +39,12 @@ after-requires c =
       order = c.self.invariant.order;
       right = subst (λ (v : Seen). e.answer ≡ reply v.setup v.past e.who.0 e.call) (sym c.self.view_is) c.requires.answer;
     }
+
+pub take_over-requires : goal.take_over-requires
+take_over-requires c =
+    let s = c.self.inside in
+    let grown = c.in_ok-add_change.ensures in
+    fits_drawn c.args.entry.now s.display c.add_change.new.display c.in_ok-change.change c.in_ok-change.ensures.drawing grown.display (c.in_ok-change.ensures.near (reverse s.history.items) c.self.invariant.display)
 
 pub add_change-requires-clause-parts : goal.add_change-requires-clause-parts
 add_change-requires-clause-parts c =

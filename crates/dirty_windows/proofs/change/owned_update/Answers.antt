@@ -5,7 +5,7 @@ use Rattle.win_num.specs.declared.shapes.Rect.{Rect}
 use Rattle.band_region.specs.Regions.{region_has}
 use Rattle.update_region.specs.Updates.{Dirty}
 use Rattle.dirty_windows.proofs.Exposing.{none_owned, owned_is}
-use Rattle.dirty_windows.proofs.change.kept_update.Goals as goal
+use Rattle.dirty_windows.proofs.change.owned_update.Goals as goal
 
 pub returns-in-Some-clause-area : goal.returns-in-Some-clause-area
 returns-in-Some-clause-area c = subst (λ (r : List Rect). IfOk c.kept_in.result (λ (u : Dirty). (p : Point) → region_has u.area p ≡ (region_has c.args.update.now.area p && region_has r p))) (owned_is c.args.owners.now c.args.w.0 _ c.in-Some.ensures) c.kept_in.ensures.area
