@@ -3,5 +3,9 @@ mod Moves
 mod Searching
 mod Stepping
 mod Backing
+mod Parts
+mod Ways
 mod Exploring
 mod Telling
+mod AllRuns
+mod Marking

@@ -90,7 +90,7 @@ held_or_not false last h = refl
 switch_is : (clock same runs : Bool) → clock ≡ false → same ≡ false → runs ≡ true → (not clock && (not same && runs)) ≡ true
 switch_is clock same runs e f g = rw (e, f, g) refl
 
-one_more : (b : Bool) (n : ℕ) → b ≡ true → n + cond b 1 0 ≡ n + 1
+pub one_more : (b : Bool) (n : ℕ) → b ≡ true → n + cond b 1 0 ≡ n + 1
 one_more b n e = rw e refl
 
 both_true : (a b : Bool) → a ≡ true → b ≡ true → (a && b) ≡ true
@@ -280,7 +280,7 @@ held_none s bound past low held le = lowest_nobody (λ t. nat_lt low t && may_mo
 
 -- ---- a move that may be made keeps to the bound
 
-no_more : (b : Bool) (n : ℕ) → b ≡ false → n + cond b 1 0 ≡ n
+pub no_more : (b : Bool) (n : ℕ) → b ≡ false → n + cond b 1 0 ≡ n
 no_more b n e = let none : cond {A = ℕ} b 1 0 ≡ 0 = rw e refl in omega (arith, none)
 
 not_last : (held last : Bool) → (not held || last) ≡ true → last ≡ false → held ≡ false
@@ -292,16 +292,16 @@ and_left true b e f = absurd (false≢true (sym e ∙ f))
 and_left false b e f = refl
 
 -- who takes the turn is no clock, and not the last one, who could still move
-record TakesTurn (s : Tree) (past : Past) (actor : ℕ) : Type 0 where
-  thread : 0 < actor
-  other : eqb actor (last_thread past) ≡ false
-  last : is_runnable s past (last_thread past) ≡ true
+pub record TakesTurn (s : Tree) (past : Past) (actor : ℕ) : Type 0 where
+  pub thread : 0 < actor
+  pub other : eqb actor (last_thread past) ≡ false
+  pub last : is_runnable s past (last_thread past) ≡ true
 
-not_false : (b : Bool) → not b ≡ true → b ≡ false
+pub not_false : (b : Bool) → not b ≡ true → b ≡ false
 not_false true e = absurd (false≢true e)
 not_false false e = refl
 
-takes_turn : (s : Tree) (past : Past) (actor : ℕ) → is_switch s past actor ≡ true → TakesTurn s past actor
+pub takes_turn : (s : Tree) (past : Past) (actor : ℕ) → is_switch s past actor ≡ true → TakesTurn s past actor
 takes_turn s past actor switch =
     let one = and_both (not (eqb actor 0)) (not (eqb actor (last_thread past)) && is_runnable s past (last_thread past)) switch in
     let two = and_both (not (eqb actor (last_thread past))) (is_runnable s past (last_thread past)) one.1 in

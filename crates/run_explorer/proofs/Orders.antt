@@ -1,6 +1,7 @@
 -- Runs in the order of their movers.
-use Rattle.std.proofs.Common.{◌≡◌, zero, suc, ◌+◌, ◌<◌, List, [], ◌∷◌, ◌++◌, get_or, refl, sym, ap, ◌∙◌, subst, inl, inr, ◌⊎◌, append_assoc, arith}
+use Rattle.std.proofs.Common.{◌≡◌, zero, suc, ◌+◌, ◌<◌, List, [], ◌∷◌, ◌++◌, length, get_or, refl, sym, ap, ◌∙◌, subst, inl, inr, ◌⊎◌, append_assoc, arith}
 use Rattle.std.specs.Prelude.{All, Contains}
+use Rattle.std.proofs.lemmas.List.{length-append}
 use Rattle.user_model.specs.declared.entry.Entry.{Entry}
 use Rattle.user_model.specs.Past.{Past}
 use Rattle.run_explorer.specs.Orders.{IsBefore}
@@ -75,6 +76,17 @@ before_too a b c p q =
       | inl x ↦ parts_later a b c p q x.front x.is
       | inr x ↦ parts_sooner a b c p q x.front x.is
     ]
+
+-- no run is before itself
+pub never_itself : (a b : Past) → a ≡ b → IsBefore a b → ⊥
+never_itself a b same p = elim (cuts p.rest p.others (p.lower ∷ p.common) (p.higher ∷ p.common) (sym p.first ∙ same ∙ p.second)) [
+  | inl x ↦ no_longer p.common p.lower p.higher x.front x.is (λ e. omega (arith, e, p.parts))
+  | inr x ↦ no_longer p.common p.higher p.lower x.front x.is (λ e. omega (arith, e, p.parts))
+]
+  where
+    no_longer : (common : Past) (x y : Entry) (front : List Entry) → x ∷ common ≡ front ++ y ∷ common → (x.who.0 ≡ y.who.0 → ⊥) → ⊥
+    no_longer common x y [] e other = other (ap (λ (z : Entry). z.who.0) (head_same e))
+    no_longer common x y (z ∷ front) e other = absurd (omega (arith, ap length e, length-append front (y ∷ common)))
 
 -- with more entries the second still comes after
 pub before_longer : (a b : Past) (newer : List Entry) → IsBefore a b → IsBefore a (newer ++ b)

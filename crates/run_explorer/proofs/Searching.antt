@@ -9,9 +9,11 @@ use Rattle.user_pool.specs.Runs.{clock_move, choice, IsMove, IsRun}
 use Rattle.user_pool.specs.Moves.{HasGoneOn}
 use Rattle.user_pool.proofs.OneRun.{move_same}
 use Rattle.user_pool.proofs.Interleavings.{run_front}
-use Rattle.run_explorer.specs.Orders.{switches, IsWithin, IsBefore, AreFirst}
+use Rattle.run_explorer.specs.declared.part.Part.{Part}
+use Rattle.run_explorer.specs.Orders.{switches, IsWithin, IsBefore}
+use Rattle.run_explorer.specs.Parts.{IsPartOf, AreFirst}
 use Rattle.run_explorer.specs.Steps.{next_above, least}
-use Rattle.run_explorer.specs.Searches.{GoesOnFrom, GoesOnBy, IsOpen, IsClosed, TurnsAt}
+use Rattle.run_explorer.specs.Searches.{GoesOnFrom, GoesOnBy, IsOpen, IsPassed, IsClosed, TurnsAt}
 use Rattle.run_explorer.proofs.Orders.{before_too, before_longer, longer_before, parts_here, parts_or_before, goes_further, all_none, all_more, all_into, here_too, there_too}
 use Rattle.run_explorer.proofs.Moves.{mover_runs, quiet_stays, clock_free, none_moves, switches_more, mover_may, none_may, above_least, none_above, next_may}
 
@@ -28,7 +30,7 @@ next_is s bound run past newer e within is = record {
 }
 
 -- a run that is over goes on no further
-ends_here : (s : Tree) (bound : ℕ) (run past : Past) → choice s past ≡ None → IsWithin s bound run → GoesOnFrom run past → run ≡ past
+pub ends_here : (s : Tree) (bound : ℕ) (run past : Past) → choice s past ≡ None → IsWithin s bound run → GoesOnFrom run past → run ≡ past
 ends_here s bound run past over within on = elim (goes_further run past on) [
   | inl same ↦ same
   | inr by ↦ absurd (none_moves s past by.next over (next_is s bound run past by.newer by.next within by.is).move)
@@ -75,56 +77,67 @@ no_lower s bound past e f first move next = elim (cases_lt 0 f.who.0) [
 later_on : (runs : List Past) (past : Past) (e : Entry) → All (λ run. IsBefore run past) runs → All (λ run. IsBefore run (e ∷ past)) runs
 later_on runs past e later = all_into (λ run. IsBefore run past) (λ run. IsBefore run (e ∷ past)) runs (λ run p. before_longer run past (e ∷ []) p) later
 
-pub open_next : (s : Tree) (bound : ℕ) (runs : List Past) (past : Past) (e : Entry) → least s bound past ≡ Some e.who.0 → IsMove s past e → IsOpen s bound runs past → IsOpen s bound runs (e ∷ past)
-open_next s bound runs past e first move were = record {
+pub open_next : (s : Tree) (bound : ℕ) (part : Part) (runs : List Past) (past : Past) (e : Entry) → least s bound past ≡ Some e.who.0 → IsMove s past e → IsOpen s bound part runs past → IsOpen s bound part runs (e ∷ past)
+open_next s bound part runs past e first move were = record {
   left = λ run within. elim (were.left run within) [
     | inl made ↦ inl made
     | inr (inl on) ↦
-        let by = goes_by s bound run past e move within on in
-        let least : e.who.0 ≤ by.next.who.0 = no_lower s bound past e by.next first move (next_is s bound run past by.newer by.next within by.is) in
-        inr (same_or_after s bound run past e move within (record { newer = by.newer; next = by.next; is = by.is; by = least }))
+        let by = goes_by s bound run past e move within.within on in
+        let least : e.who.0 ≤ by.next.who.0 = no_lower s bound past e by.next first move (next_is s bound run past by.newer by.next within.within by.is) in
+        inr (same_or_after s bound run past e move within.within (record { newer = by.newer; next = by.next; is = by.is; by = least }))
     | inr (inr after) ↦ inr (inr (longer_before past run (e ∷ []) after))
   ];
   later = later_on runs past e were.later;
 }
 
 -- a run turns off
-pub open_turn : (s : Tree) (bound : ℕ) (runs : List Past) (past : Past) (e : Entry) → IsMove s past e → TurnsAt s bound runs past e.who.0 → IsOpen s bound runs (e ∷ past)
-open_turn s bound runs past e move turn = record {
+pub open_turn : (s : Tree) (bound : ℕ) (part : Part) (runs : List Past) (past : Past) (e : Entry) → IsMove s past e → TurnsAt s bound part runs past e.who.0 → IsOpen s bound part runs (e ∷ past)
+open_turn s bound part runs past e move turn = record {
   left = λ run within. elim (turn.left run within) [
     | inl made ↦ inl made
-    | inr (inl on) ↦ inr (same_or_after s bound run past e move within on)
+    | inr (inl on) ↦ inr (same_or_after s bound run past e move within.within on)
     | inr (inr after) ↦ inr (inr (longer_before past run (e ∷ []) after))
   ];
   later = turn.later e refl;
 }
 
 -- before the first run all is left
-pub open_first : (s : Tree) (bound : ℕ) → IsOpen s bound [] []
-open_first s bound = record {
+pub open_first : (s : Tree) (bound : ℕ) (part : Part) → IsOpen s bound part [] []
+open_first s bound part = record {
   left = λ run within. inr (inl (record { newer = run; is = sym (append-nil run) }));
   later = all_none (λ run. IsBefore run []);
 }
 
 -- ---- a run ends
 
-pub closed_now : (s : Tree) (bound : ℕ) (runs : List Past) (last : Past) → IsWithin s bound last → IsOpen s bound runs last → IsClosed s bound (last ∷ runs) last
-closed_now s bound runs last within were = record {
+pub closed_now : (s : Tree) (bound : ℕ) (part : Part) (runs : List Past) (last : Past) → IsPartOf s bound part last → IsOpen s bound part runs last → IsClosed s bound part (last ∷ runs) last
+closed_now s bound part runs last within were = record {
   left = λ run inside. elim (were.left run inside) [
     | inl made ↦ inl (there_too last runs run made)
-    | inr (inl on) ↦ inl (here_too last runs run (ends_here s bound run last within.over inside on))
+    | inr (inl on) ↦ inl (here_too last runs run (ends_here s bound run last within.within.over inside.within on))
     | inr (inr after) ↦ inr after
   ];
   later = all_more (λ run. (run ≡ last) ⊎ IsBefore run last) last runs (inl refl) (all_into (λ run. IsBefore run last) (λ run. (run ≡ last) ⊎ IsBefore run last) runs (λ run p. inr p) were.later);
 }
 
-pub first_now : (s : Tree) (bound : ℕ) (runs : List Past) (last : Past) → IsWithin s bound last → IsOpen s bound runs last → AreFirst s bound runs → AreFirst s bound (last ∷ runs)
-first_now s bound runs last within were first = record {
-  each = all_more (IsWithin s bound) last runs within first.each;
+-- where it is of another part, none was made
+pub closed_left : (s : Tree) (bound : ℕ) (part : Part) (runs : List Past) (past : Past) → IsPassed s bound part past → IsOpen s bound part runs past → IsClosed s bound part runs past
+closed_left s bound part runs past passed were = record {
+  left = λ run inside. elim (were.left run inside) [
+    | inl made ↦ inl made
+    | inr (inl on) ↦ absurd (passed run inside on)
+    | inr (inr after) ↦ inr after
+  ];
+  later = all_into (λ run. IsBefore run past) (λ run. (run ≡ past) ⊎ IsBefore run past) runs (λ run p. inr p) were.later;
+}
+
+pub first_now : (s : Tree) (bound : ℕ) (part : Part) (runs : List Past) (last : Past) → IsPartOf s bound part last → IsOpen s bound part runs last → AreFirst s bound part runs → AreFirst s bound part (last ∷ runs)
+first_now s bound part runs last within were first = record {
+  each = all_more (IsPartOf s bound part) last runs within first.each;
   rising = (were.later, first.rising);
   others = λ run inside. elim (were.left run inside) [
     | inl made ↦ inl (there_too last runs run made)
-    | inr (inl on) ↦ inl (here_too last runs run (ends_here s bound run last within.over inside on))
+    | inr (inl on) ↦ inl (here_too last runs run (ends_here s bound run last within.within.over inside.within on))
     | inr (inr after) ↦ inr (all_more (λ made. IsBefore made run) last runs after (all_into (λ made. IsBefore made last) (λ made. IsBefore made run) runs (λ made p. before_too made last run p after) were.later))
   ];
 }
@@ -132,23 +145,23 @@ first_now s bound runs last within were first = record {
 -- ---- the search turns back
 
 -- what is left behind a step at which no higher thread might have moved is left behind the step before it
-pub left_back : (s : Tree) (bound : ℕ) (runs : List Past) (past : Past) (e : Entry) → next_above s bound past e.who.0 ≡ None
-    → ((run : Past) → IsWithin s bound run → Contains runs run ⊎ IsBefore (e ∷ past) run) → (run : Past) → IsWithin s bound run → Contains runs run ⊎ IsBefore past run
-left_back s bound runs past e none left run within = elim (left run within) [
+pub left_back : (s : Tree) (bound : ℕ) (part : Part) (runs : List Past) (past : Past) (e : Entry) → next_above s bound past e.who.0 ≡ None
+    → ((run : Past) → IsPartOf s bound part run → Contains runs run ⊎ IsBefore (e ∷ past) run) → (run : Past) → IsPartOf s bound part run → Contains runs run ⊎ IsBefore past run
+left_back s bound part runs past e none left run within = elim (left run within) [
   | inl made ↦ inl made
   | inr after ↦ elim (parts_or_before e past run after) [
     | inr before ↦ inr before
     | inl on ↦
-        let next = next_is s bound run past on.newer on.next within on.is in
+        let next = next_is s bound run past on.newer on.next within.within on.is in
         let above : e.who.0 < on.next.who.0 = omega (arith, on.by) in
         absurd (none_above s bound past e.who.0 on.next.who.0 none above (mover_may s bound past on.next next.move next.few (omega (arith, above))))
   ]
 ]
 
 -- at a step where one might have, the next run turns off by the least that might
-pub turn_here : (s : Tree) (bound : ℕ) (runs : List Past) (last past : Past) (e : Entry) (t : ℕ) → GoesOnFrom last (e ∷ past) → next_above s bound past e.who.0 ≡ Some t
-    → ((run : Past) → IsWithin s bound run → Contains runs run ⊎ IsBefore (e ∷ past) run) → All (λ run. (run ≡ last) ⊎ IsBefore run last) runs → TurnsAt s bound runs past t
-turn_here s bound runs last past e t on next left later =
+pub turn_here : (s : Tree) (bound : ℕ) (part : Part) (runs : List Past) (last past : Past) (e : Entry) (t : ℕ) → GoesOnFrom last (e ∷ past) → next_above s bound past e.who.0 ≡ Some t
+    → ((run : Past) → IsPartOf s bound part run → Contains runs run ⊎ IsBefore (e ∷ past) run) → All (λ run. (run ≡ last) ⊎ IsBefore run last) runs → TurnsAt s bound part runs past t
+turn_here s bound part runs last past e t on next left later =
     let parts = next_may s bound past e.who.0 t next in
     record {
       may = parts.1;
@@ -157,7 +170,7 @@ turn_here s bound runs last past e t on next left later =
         | inr after ↦ elim (parts_or_before e past run after) [
           | inr before ↦ inr (inr before)
           | inl by ↦
-              let more = next_is s bound run past by.newer by.next within by.is in
+              let more = next_is s bound run past by.newer by.next within.within by.is in
               let above : e.who.0 < by.next.who.0 = omega (arith, by.by) in
               inr (inl (record { newer = by.newer; next = by.next; is = by.is; by = above_least s bound past e.who.0 t by.next.who.0 next above (mover_may s bound past by.next more.move more.few (omega (arith, above))) }))
         ]
@@ -172,18 +185,18 @@ turn_here s bound runs last past e t on next left later =
 
 -- ---- a run goes on by what was found
 
-pub open_moved : (s : Tree) (bound : ℕ) (runs : List Past) (past after : Past) (mover : ℕ) → least s bound past ≡ Some mover → HasGoneOn s past after mover → IsOpen s bound runs past → IsOpen s bound runs after
-open_moved s bound runs past after mover first went were =
+pub open_moved : (s : Tree) (bound : ℕ) (part : Part) (runs : List Past) (past after : Past) (mover : ℕ) → least s bound past ≡ Some mover → HasGoneOn s past after mover → IsOpen s bound part runs past → IsOpen s bound part runs after
+open_moved s bound part runs past after mover first went were =
     let here : least s bound past ≡ Some went.entry.who.0 = first ∙ ap (λ (k : ℕ). let o : Option ℕ = Some k in o) (sym went.who) in
-    subst (λ (p : Past). IsOpen s bound runs p) (sym went.newest) (open_next s bound runs past went.entry here went.move were)
+    subst (λ (p : Past). IsOpen s bound part runs p) (sym went.newest) (open_next s bound part runs past went.entry here went.move were)
 
-pub open_turned : (s : Tree) (bound : ℕ) (runs : List Past) (past after : Past) (mover : ℕ) → HasGoneOn s past after mover → TurnsAt s bound runs past mover → IsOpen s bound runs after
-open_turned s bound runs past after mover went turn =
-    subst (λ (p : Past). IsOpen s bound runs p) (sym went.newest) (open_turn s bound runs past went.entry went.move (subst (λ (t : ℕ). TurnsAt s bound runs past t) (sym went.who) turn))
+pub open_turned : (s : Tree) (bound : ℕ) (part : Part) (runs : List Past) (past after : Past) (mover : ℕ) → HasGoneOn s past after mover → TurnsAt s bound part runs past mover → IsOpen s bound part runs after
+open_turned s bound part runs past after mover went turn =
+    subst (λ (p : Past). IsOpen s bound part runs p) (sym went.newest) (open_turn s bound part runs past went.entry went.move (subst (λ (t : ℕ). TurnsAt s bound part runs past t) (sym went.who) turn))
 
 -- before the first run nothing was made
-pub open_begun : (s : Tree) (bound : ℕ) (runs : List Past) (past now : Past) → now ≡ past → past ≡ [] → runs ≡ [] → IsOpen s bound runs now
-open_begun s bound runs past now same empty none = subst (λ (p : Past). IsOpen s bound runs p) (sym (same ∙ empty)) (subst (λ (rs : List Past). IsOpen s bound rs []) (sym none) (open_first s bound))
+pub open_begun : (s : Tree) (bound : ℕ) (part : Part) (runs : List Past) (past now : Past) → now ≡ past → past ≡ [] → runs ≡ [] → IsOpen s bound part runs now
+open_begun s bound part runs past now same empty none = subst (λ (p : Past). IsOpen s bound part runs p) (sym (same ∙ empty)) (subst (λ (rs : List Past). IsOpen s bound part rs []) (sym none) (open_first s bound part))
 
 pub on_more : {X E : Type 0} {P Q : Type 0} (r : Result X E) → (P → Q) → OnOk r P → OnOk r Q
 on_more (Ok x) f p = f p

@@ -11,7 +11,7 @@ use Rattle.user_pool.proofs.OneRun.{move_same}
 use Rattle.user_pool.proofs.Interleavings.{run_front}
 use Rattle.run_explorer.specs.declared.step.Step.{Step}
 use Rattle.run_explorer.specs.Orders.{switches}
-use Rattle.run_explorer.specs.Steps.{IsStepOf, AreStepsOf, IsMadeBy, IsAt, CanGoOn, MayTake, next_above}
+use Rattle.run_explorer.specs.Steps.{IsStepOf, AreStepsOf, IsMadeBy, IsAt, CanGoOn, MayTake, next_above, counts}
 use Rattle.run_explorer.specs.Searches.{GoesOnFrom, GoesOnBy}
 use Rattle.run_explorer.proofs.Orders.{goes_further}
 use Rattle.run_explorer.proofs.Moves.{move_goes, switches_more, take_few}
@@ -144,9 +144,9 @@ no_steps s bound (e ∷ past) made = absurd (no_tail made.each.before made.each.
 
 -- a move that may be made, and its step
 pub step_made : (s : Tree) (bound : ℕ) (steps now : List Step) (past after : Past) (step : Step) (mover : ℕ) → IsMadeBy s bound steps past → MayTake s bound past mover → HasGoneOn s past after mover
-    → now ≡ steps ++ step ∷ [] → step.mover ≡ mover → step.next ≡ next_above s bound past mover → IsAt s past step.position → IsMadeBy s bound now after
-step_made s bound steps now past after step mover made may went is by next at =
+    → now ≡ steps ++ step ∷ [] → step.mover ≡ mover → step.counted ≡ counts s bound past mover → step.next ≡ next_above s bound past mover → IsAt s past step.position → IsMadeBy s bound now after
+step_made s bound steps now past after step mover made may went is by counted next at =
     let here : MayTake s bound past went.entry.who.0 = subst (MayTake s bound past) (sym went.who) may in
-    let of : IsStepOf s bound past went.entry step = record { mover = by ∙ sym went.who; next = next ∙ ap (next_above s bound past) (sym went.who); position = at } in
+    let of : IsStepOf s bound past went.entry step = record { mover = by ∙ sym went.who; counted = counted ∙ ap (counts s bound past) (sym went.who); next = next ∙ ap (next_above s bound past) (sym went.who); position = at } in
     let told = step_more s bound steps past went.entry step made went.move (take_few s bound past went.entry here made.few) of in
     subst (λ (p : Past). IsMadeBy s bound now p) (sym went.newest) (subst (λ (xs : List Step). IsMadeBy s bound xs (went.entry ∷ past)) (sym is) told)

@@ -14,7 +14,8 @@ use Rattle.log_text.specs.declared.end.End.{End}
 use Rattle.log_text.specs.declared.end.End.TheVariants as ends
 use Rattle.log_text.specs.Ends.{end_of}
 use Rattle.run_explorer.specs.declared.report.Report.{Report}
-use Rattle.run_explorer.specs.Reports.{with_mover, movers, is_done, is_stuck, is_spent, first_that, IsOrderOf, AreFound, IsTold}
+use Rattle.run_explorer.specs.Marks.{is_marked}
+use Rattle.run_explorer.specs.Reports.{with_mover, movers, is_done, is_stuck, is_spent, first_that, IsOrderOf, AreFound, AreEndsTold, IsTold}
 use Rattle.run_explorer.proofs.Stepping.{steps_length}
 
 -- ---- counts
@@ -147,7 +148,7 @@ found_not test past runs found were misses = record {
 
 -- the counts of a report, with one run more
 record CountsMore (s : Tree) (bound : ℕ) (runs : List Past) (past : Past) (steps : List Step) (old now : Report) : Type 0 where
-  were : IsTold s runs old
+  were : AreEndsTold s runs old
   are : AreStepsOf s bound past steps
   runs_more : now.runs ≡ old.runs + 1
   entries_more : now.entries ≡ old.entries + length steps
@@ -157,12 +158,12 @@ entries_are s bound runs past steps old now more =
     let size : length steps ≡ length past = steps_length s bound past steps more.are in
     more.entries_more ∙ omega (arith, more.were.entries, size, sum_by-cons length past runs)
 
-module _ (s : Tree) (bound : ℕ) (runs : List Past) (past : Past) (steps : List Step) (old now : Report) (end : End) (were : IsTold s runs old) (are : AreStepsOf s bound past steps) (ended : end ≡ end_of s past)
+module _ (s : Tree) (bound : ℕ) (runs : List Past) (past : Past) (steps : List Step) (old now : Report) (end : End) (were : AreEndsTold s runs old) (are : AreStepsOf s bound past steps) (ended : end ≡ end_of s past)
     (runs_more : now.runs ≡ old.runs + 1) (entries_more : now.entries ≡ old.entries + length steps) where
   counts : CountsMore s bound runs past steps old now
   counts = record { were = were; are = are; runs_more = runs_more; entries_more = entries_more }
 
-  pub told_done : end ≡ ends.Done → now.done ≡ old.done + 1 → now.stuck ≡ old.stuck → now.spent ≡ old.spent → IsTold s (past ∷ runs) now
+  pub told_done : end ≡ ends.Done → now.done ≡ old.done + 1 → now.stuck ≡ old.stuck → now.spent ≡ old.spent → AreEndsTold s (past ∷ runs) now
   told_done is done stuck spent =
       let e : end_of s past ≡ ends.Done = sym ended ∙ is in
       record {
@@ -173,7 +174,7 @@ module _ (s : Tree) (bound : ℕ) (runs : List Past) (past : Past) (steps : List
         spent = subst (AreFound (λ p. is_spent (end_of s p)) (past ∷ runs)) (sym spent) (found_not (λ p. is_spent (end_of s p)) past runs old.spent were.spent (ap is_spent e));
       }
 
-  pub told_stuck : end ≡ ends.Stuck → now.done ≡ old.done → now.spent ≡ old.spent → ((test : Past → Bool) (t : Tree) (b : ℕ) (p : Past) (rs : List Past) → AreStepsOf t b p steps → test p ≡ true → AreFound test rs old.stuck → AreFound test (p ∷ rs) now.stuck) → IsTold s (past ∷ runs) now
+  pub told_stuck : end ≡ ends.Stuck → now.done ≡ old.done → now.spent ≡ old.spent → ((test : Past → Bool) (t : Tree) (b : ℕ) (p : Past) (rs : List Past) → AreStepsOf t b p steps → test p ≡ true → AreFound test rs old.stuck → AreFound test (p ∷ rs) now.stuck) → AreEndsTold s (past ∷ runs) now
   told_stuck is done spent found =
       let e : end_of s past ≡ ends.Stuck = sym ended ∙ is in
       record {
@@ -184,7 +185,7 @@ module _ (s : Tree) (bound : ℕ) (runs : List Past) (past : Past) (steps : List
         spent = subst (AreFound (λ p. is_spent (end_of s p)) (past ∷ runs)) (sym spent) (found_not (λ p. is_spent (end_of s p)) past runs old.spent were.spent (ap is_spent e));
       }
 
-  pub told_spent : end ≡ ends.Spent → now.done ≡ old.done → now.stuck ≡ old.stuck → ((test : Past → Bool) (t : Tree) (b : ℕ) (p : Past) (rs : List Past) → AreStepsOf t b p steps → test p ≡ true → AreFound test rs old.spent → AreFound test (p ∷ rs) now.spent) → IsTold s (past ∷ runs) now
+  pub told_spent : end ≡ ends.Spent → now.done ≡ old.done → now.stuck ≡ old.stuck → ((test : Past → Bool) (t : Tree) (b : ℕ) (p : Past) (rs : List Past) → AreStepsOf t b p steps → test p ≡ true → AreFound test rs old.spent → AreFound test (p ∷ rs) now.spent) → AreEndsTold s (past ∷ runs) now
   told_spent is done stuck found =
       let e : end_of s past ≡ ends.Spent = sym ended ∙ is in
       record {
@@ -195,7 +196,7 @@ module _ (s : Tree) (bound : ℕ) (runs : List Past) (past : Past) (steps : List
         spent = found (λ p. is_spent (end_of s p)) s bound past runs are (ap is_spent e) were.spent;
       }
 
-  pub told_cut : end ≡ ends.Cut → now.done ≡ old.done → now.stuck ≡ old.stuck → now.spent ≡ old.spent → IsTold s (past ∷ runs) now
+  pub told_cut : end ≡ ends.Cut → now.done ≡ old.done → now.stuck ≡ old.stuck → now.spent ≡ old.spent → AreEndsTold s (past ∷ runs) now
   told_cut is done stuck spent =
       let e : end_of s past ≡ ends.Cut = sym ended ∙ is in
       record {
@@ -206,12 +207,41 @@ module _ (s : Tree) (bound : ℕ) (runs : List Past) (past : Past) (steps : List
         spent = subst (AreFound (λ p. is_spent (end_of s p)) (past ∷ runs)) (sym spent) (found_not (λ p. is_spent (end_of s p)) past runs old.spent were.spent (ap is_spent e));
       }
 
--- whether these are all changes nothing that is told
-pub told_still : (s : Tree) (runs : List Past) (old now : Report) → IsTold s runs old → now.runs ≡ old.runs → now.entries ≡ old.entries → now.done ≡ old.done → now.stuck ≡ old.stuck → now.spent ≡ old.spent → IsTold s runs now
-told_still s runs old now told count entries done stuck spent = record {
+-- whether these are all, and the mark, change nothing of the ends
+pub ends_still : (s : Tree) (runs : List Past) (old now : Report) → AreEndsTold s runs old → now.runs ≡ old.runs → now.entries ≡ old.entries → now.done ≡ old.done → now.stuck ≡ old.stuck → now.spent ≡ old.spent → AreEndsTold s runs now
+ends_still s runs old now told count entries done stuck spent = record {
   count = count ∙ told.count;
   entries = entries ∙ told.entries;
   done = done ∙ told.done;
   stuck = subst (AreFound (λ p. is_stuck (end_of s p)) runs) (sym stuck) told.stuck;
   spent = subst (AreFound (λ p. is_spent (end_of s p)) runs) (sym spent) told.spent;
+}
+
+-- whether these are all changes nothing that is told
+pub told_still : (s : Tree) (name : Option (List ℕ)) (runs : List Past) (old now : Report) → IsTold s name runs old → now.runs ≡ old.runs → now.entries ≡ old.entries → now.done ≡ old.done → now.stuck ≡ old.stuck → now.spent ≡ old.spent
+    → now.marked ≡ old.marked → now.asks_marked ≡ old.asks_marked → IsTold s name runs now
+told_still s name runs old now told count entries done stuck spent marked asks = record {
+  ends = ends_still s runs old now told.ends count entries done stuck spent;
+  marked = subst (AreFound (is_marked s name) runs) (sym marked) told.marked;
+  asks = asks ∙ told.asks;
+}
+
+-- ---- the mark of one run more
+
+-- one that is marked
+pub told_marked : (s : Tree) (bound : ℕ) (name : Option (List ℕ)) (runs : List Past) (past : Past) (steps : List Step) (old mid now : Report) → AreEndsTold s (past ∷ runs) mid → IsTold s name runs old → mid.marked ≡ old.marked → mid.asks_marked ≡ old.asks_marked
+    → AreStepsOf s bound past steps → is_marked s name past ≡ true → ((test : Past → Bool) (t : Tree) (b : ℕ) (p : Past) (rs : List Past) → AreStepsOf t b p steps → test p ≡ true → AreFound test rs mid.marked → AreFound test (p ∷ rs) now.marked)
+    → now.runs ≡ mid.runs → now.entries ≡ mid.entries → now.done ≡ mid.done → now.stuck ≡ mid.stuck → now.spent ≡ mid.spent → now.asks_marked ≡ mid.asks_marked → IsTold s name (past ∷ runs) now
+told_marked s bound name runs past steps old mid now ends told were asked are marks found count entries done stuck spent asks = record {
+  ends = ends_still s (past ∷ runs) mid now ends count entries done stuck spent;
+  marked = found (is_marked s name) s bound past runs are marks (subst (AreFound (is_marked s name) runs) (sym were) told.marked);
+  asks = asks ∙ asked ∙ told.asks;
+}
+
+-- one that isn't
+pub told_unmarked : (s : Tree) (name : Option (List ℕ)) (runs : List Past) (past : Past) (old mid : Report) → AreEndsTold s (past ∷ runs) mid → IsTold s name runs old → mid.marked ≡ old.marked → mid.asks_marked ≡ old.asks_marked → is_marked s name past ≡ false → IsTold s name (past ∷ runs) mid
+told_unmarked s name runs past old mid ends told were asked misses = record {
+  ends = ends;
+  marked = found_not (is_marked s name) past runs mid.marked (subst (AreFound (is_marked s name) runs) (sym were) told.marked) misses;
+  asks = asked ∙ told.asks;
 }

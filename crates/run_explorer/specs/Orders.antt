@@ -1,5 +1,5 @@
 -- Runs that have come to their end, in the order of who moves in them, and how often a thread takes the turn from another that could still move.
-use Rattle.std.specs.Prelude.{◌≡◌, ◌<◌, ◌≤◌, ℕ, ◌+◌, ◌==◌, Bool, not, ◌&&◌, if◌then◌else◌, List, [], ◌∷◌, ◌++◌, ◌⊎◌, All, Contains, None}
+use Rattle.std.specs.Prelude.{◌≡◌, ◌<◌, ◌≤◌, ℕ, ◌+◌, ◌==◌, Bool, not, ◌&&◌, if◌then◌else◌, List, [], ◌∷◌, ◌++◌, All, None}
 use Rattle.user_model.specs.declared.entry.Entry.{Entry}
 use Rattle.user_model.specs.Past.{Past}
 use Rattle.script_tree.specs.Tree.{Tree}
@@ -35,9 +35,3 @@ pub record IsBefore (a b : Past) : Type 0 where
 abbrev pub AreRising : List Past → Type 0
 AreRising [] = Unit {0}
 AreRising (last ∷ runs) = All (λ run. IsBefore run last) runs × AreRising runs
-
--- the first runs within the bound, the last one of them first: each other one comes after all of these
-pub record AreFirst (s : Tree) (bound : ℕ) (runs : List Past) : Type 0 where
-  pub each : All (IsWithin s bound) runs
-  pub rising : AreRising runs
-  pub others : (past : Past) → IsWithin s bound past → Contains runs past ⊎ All (λ run. IsBefore run past) runs

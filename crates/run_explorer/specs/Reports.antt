@@ -1,5 +1,5 @@
 -- What is told of the runs that were made.
-use Rattle.std.specs.Prelude.{◌≡◌, ◌<◌, ◌≤◌, ◌*◌, ℕ, ◌==◌, Bool, true, false, if◌then◌else◌, List, [], ◌∷◌, ◌++◌, length, count_by, sum_by, Contains, Option, Some, None}
+use Rattle.std.specs.Prelude.{◌≡◌, ◌<◌, ◌≤◌, ◌*◌, ℕ, ◌==◌, Bool, true, false, if◌then◌else◌, List, [], ◌∷◌, ◌++◌, length, count_by, sum_by, Contains, Option, Some, None, is_some}
 use Rattle.user_model.specs.Past.{Past, or_else}
 use Rattle.script_tree.specs.Tree.{Tree}
 use Rattle.log_text.specs.declared.end.End.{End}
@@ -9,7 +9,9 @@ use Rattle.run_explorer.specs.declared.report.Report.{Report}
 use Rattle.run_explorer.specs.declared.report.Found.{Found}
 use Rattle.run_explorer.specs.declared.report.Order.{Order}
 use Rattle.run_explorer.specs.declared.report.Order.TheVariants.{Nowhere, Movers, Long}
-use Rattle.run_explorer.specs.Orders.{IsWithin, AreFirst}
+use Rattle.run_explorer.specs.declared.part.Part.{Part}
+use Rattle.run_explorer.specs.Parts.{IsPartOf, AreFirst}
+use Rattle.run_explorer.specs.Marks.{is_marked}
 
 -- the mover behind some others, if it is a thread
 abbrev pub with_mover : List ℕ → ℕ → List ℕ
@@ -53,12 +55,18 @@ pub record AreFound (test : Past → Bool) (runs : List Past) (found : Found) : 
   pub order : IsOrderOf (first_that test runs) found.order
 
 -- how many runs there are, how many entries they have, how many ended so, and who moved in the first that did
-pub record IsTold (s : Tree) (runs : List Past) (report : Report) : Type 0 where
+pub record AreEndsTold (s : Tree) (runs : List Past) (report : Report) : Type 0 where
   pub count : report.runs ≡ length runs
   pub entries : report.entries ≡ sum_by length runs
   pub done : report.done ≡ count_by (λ past. is_done (end_of s past)) runs
   pub stuck : AreFound (λ past. is_stuck (end_of s past)) runs report.stuck
   pub spent : AreFound (λ past. is_spent (end_of s past)) runs report.spent
+
+-- these, how many runs are marked by the name, and who moved in the first that is; and whether there is a name
+pub record IsTold (s : Tree) (name : Option (List ℕ)) (runs : List Past) (report : Report) : Type 0 where
+  pub ends : AreEndsTold s runs report
+  pub marked : AreFound (is_marked s name) runs report.marked
+  pub asks : report.asks_marked ≡ is_some name
 
 -- no kind has more runs than there are, and no run has more entries than a history
 pub record IsSized (report : Report) : Type 0 where
@@ -66,12 +74,13 @@ pub record IsSized (report : Report) : Type 0 where
   pub done : report.done ≤ report.runs
   pub stuck : report.stuck.count ≤ report.runs
   pub spent : report.spent.count ≤ report.runs
+  pub marked : report.marked.count ≤ report.runs
 
--- the first runs within the bound, so many at most, are told; where it is told that these are all, each run within the bound is among them; else there are as many as were asked for
-pub record Explored (s : Tree) (bound limit : ℕ) (report : Report) : Type 0 where
+-- the first runs of the part, so many at most, are told; where it is told that these are all, each run of the part is among them; else there are as many as were asked for
+pub record Explored (s : Tree) (bound limit : ℕ) (part : Part) (name : Option (List ℕ)) (report : Report) : Type 0 where
   pub runs : List Past
-  pub first : AreFirst s bound runs
-  pub told : IsTold s runs report
+  pub first : AreFirst s bound part runs
+  pub told : IsTold s name runs report
   pub few : length runs ≤ limit
-  pub all : report.is_all ≡ true → (past : Past) → IsWithin s bound past → Contains runs past
+  pub all : report.is_all ≡ true → (past : Past) → IsPartOf s bound part past → Contains runs past
   pub more : report.is_all ≡ false → length runs ≡ limit

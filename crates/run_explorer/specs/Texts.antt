@@ -18,6 +18,11 @@ order_line Long = codes "order long\n"
 abbrev pub found_lines : List ℕ → Found → List ℕ
 found_lines word found = count_line word found.count ++ order_line found.order
 
+-- the lines of the mark, where there is one
+abbrev pub marked_lines : Bool → Found → List ℕ
+marked_lines true found = found_lines (codes "marked") found
+marked_lines false found = []
+
 -- whether these are all
 abbrev pub last_line : Bool → List ℕ
 last_line true = codes "all\n"
@@ -25,4 +30,4 @@ last_line false = codes "more\n"
 
 -- the lines of a report
 unfoldable pub report_text : Report → List ℕ
-report_text r = count_line (codes "explored") r.runs ++ (count_line (codes "entries") r.entries ++ (count_line (codes "done") r.done ++ (found_lines (codes "stuck") r.stuck ++ (found_lines (codes "spent") r.spent ++ last_line r.is_all))))
+report_text r = count_line (codes "explored") r.runs ++ (count_line (codes "entries") r.entries ++ (count_line (codes "done") r.done ++ (found_lines (codes "stuck") r.stuck ++ (found_lines (codes "spent") r.spent ++ (marked_lines r.asks_marked r.marked ++ last_line r.is_all)))))

@@ -6,6 +6,9 @@
 //! one goes the same way up to its last step at which a higher thread might have moved, which moves there.
 #![tactic(auto)]
 
+mod laws;
+mod mark;
+mod part;
 mod path;
 mod play;
 mod report;
@@ -14,6 +17,8 @@ mod search;
 mod step;
 mod text;
 
+pub use laws::{all_runs_are_within, each_run_is_of_one_part, none_is_stuck, runs_are_told_once};
+pub use part::Part;
 pub use report::{Found, Order, Report};
 pub use search::explore;
 pub use text::put_report;

@@ -1,9 +1,10 @@
 //! The way that the next run takes.
 
-ghost use Rattle.std.specs.Prelude.{◌≡◌, ℕ, true, false, List, [], Contains};
+ghost use Rattle.std.specs.Prelude.{◌≡◌, ◌≤◌, ℕ, true, false, List, [], length, Contains};
 ghost use Rattle.user_model.specs.Past.{Past};
 ghost use Rattle.script_tree.specs.Tree.{Tree};
-ghost use Rattle.run_explorer.specs.Orders.{IsWithin};
+ghost use Rattle.run_explorer.specs.declared.part.Part.{Part};
+ghost use Rattle.run_explorer.specs.Parts.{IsPartOf};
 ghost use Rattle.run_explorer.specs.Steps.{IsMadeBy};
 
 use crate::step::{Position, Step};
@@ -19,11 +20,11 @@ pub struct Path {
 }
 
 impl Path {
-    ghost use Rattle.run_explorer.specs.Searches.{IsClosed, IsWay};
+    ghost use Rattle.run_explorer.specs.Searches.{IsClosed, IsWay, HasTurned};
 
     /// The way of the first run.
     pub fn new(alloc: Global) -> Path
-        ensures { (s : Tree) (bound : ℕ) → IsWay s bound [] result }
+        ensures { (s : Tree) (bound : ℕ) (part : Part) → IsWay s bound part [] result }
     {
         Path {
             steps: Vec::new(alloc),
@@ -38,8 +39,9 @@ impl Path {
     /// Goes back to the last step at which a higher thread might have moved, and lets it move there. False
     /// where there is no such step.
     pub fn turn_back(&mut self) -> bool
-        ensures turned { result ≡ true → (s : Tree) (bound : ℕ) (runs : List Past) (last : Past) → IsMadeBy s bound self.old.steps.items last → IsClosed s bound runs last → IsWay s bound runs self.new }
-        ensures none { result ≡ false → (s : Tree) (bound : ℕ) (runs : List Past) (last : Past) → IsMadeBy s bound self.old.steps.items last → IsClosed s bound runs last → (run : Past) → IsWithin s bound run → Contains runs run }
+        ensures turned { result ≡ true → (s : Tree) (bound : ℕ) (part : Part) (runs : List Past) (last : Past) → IsMadeBy s bound self.old.steps.items last → IsClosed s bound part runs last → IsWay s bound part runs self.new }
+        ensures further { result ≡ true → (s : Tree) (bound : ℕ) (last : Past) → length s.threads ≤ 15 → IsMadeBy s bound self.old.steps.items last → HasTurned self.new self.old }
+        ensures none { result ≡ false → (s : Tree) (bound : ℕ) (part : Part) (runs : List Past) (last : Past) → IsMadeBy s bound self.old.steps.items last → IsClosed s bound part runs last → (run : Past) → IsPartOf s bound part run → Contains runs run }
     {
         while let Some(step) = self.steps.pop() {
             if let Some(thread) = step.next {

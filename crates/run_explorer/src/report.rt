@@ -1,10 +1,11 @@
 //! What is told of the runs that were made.
 
-ghost use Rattle.std.specs.Prelude.{◌≡◌, ◌<◌, ◌≤◌, ◌+◌, ◌*◌, ℕ, Bool, true, false, List, [], ◌∷◌, length, IfOk, OnOk, Some};
+ghost use Rattle.std.specs.Prelude.{◌≡◌, ◌<◌, ◌≤◌, ◌+◌, ◌*◌, ℕ, Bool, true, false, List, [], ◌∷◌, length, IfOk, OnOk, Option, Some, is_some};
 ghost use Rattle.user_model.specs.Past.{Past};
 ghost use Rattle.script_tree.specs.Tree.{Tree};
 ghost use Rattle.log_text.specs.Ends.{end_of};
 ghost use Rattle.run_explorer.specs.Reports.{IsOrderOf, with_mover};
+ghost use Rattle.run_explorer.specs.Marks.{is_marked};
 ghost use Rattle.run_explorer.specs.Steps.{AreStepsOf};
 
 use crate::step::Step;
@@ -33,7 +34,8 @@ pub struct Found {
 }
 
 /// What is told of the runs that were made: how many they are, how many entries they have together, how many
-/// ended with all threads, those that got stuck, those whose budgets were used up, and whether they are all.
+/// ended with all threads, those that got stuck, those whose budgets were used up, those that are marked and
+/// whether a mark is asked for, and whether they are all.
 #[derive(Drop)]
 pub struct Report {
     pub runs: u32,
@@ -41,6 +43,8 @@ pub struct Report {
     pub done: u32,
     pub stuck: Found,
     pub spent: Found,
+    pub marked: Found,
+    pub asks_marked: bool,
     pub is_all: bool,
 }
 
@@ -113,13 +117,14 @@ impl Found {
 }
 
 impl Report {
-    ghost use Rattle.run_explorer.specs.Reports.{IsTold, IsSized};
+    ghost use Rattle.run_explorer.specs.Reports.{AreEndsTold, IsTold, IsSized};
 
-    /// No run was made yet.
-    pub fn new() -> Report
-        ensures told { (s : Tree) → IsTold s [] result }
+    /// No run was made yet. A mark is asked for, or none is.
+    pub fn new(asks_marked: bool) -> Report
+        ensures told { (s : Tree) (name : Option (List ℕ)) → is_some name ≡ asks_marked → IsTold s name [] result }
         ensures sized { IsSized result }
         ensures more { result.is_all ≡ false }
+        ensures none { result.runs ≡ 0 }
     {
         Report {
             runs: 0,
@@ -127,18 +132,22 @@ impl Report {
             done: 0,
             stuck: Found::new(),
             spent: Found::new(),
+            marked: Found::new(),
+            asks_marked,
             is_all: false,
         }
     }
 
     /// One more run was made, by these steps, which ended so. `AllocError` comes only for want of memory.
-    pub fn add(&mut self, alloc: Global, end: End, steps: &[Step]) -> Result<(), AllocError>
+    fn add_end(&mut self, alloc: Global, end: End, steps: &[Step]) -> Result<(), AllocError>
         requires room { self.old.runs < 4294967295 }
         requires sized { IsSized self.old }
         requires short { length steps.now ≤ 2097152 }
-        ensures told { OnOk result ((s : Tree) (bound : ℕ) (past : Past) (runs : List Past) → AreStepsOf s bound past steps.now → end ≡ end_of s past → IsTold s runs self.old → IsTold s (past ∷ runs) self.new) }
+        ensures told { OnOk result ((s : Tree) (bound : ℕ) (past : Past) (runs : List Past) → AreStepsOf s bound past steps.now → end ≡ end_of s past → AreEndsTold s runs self.old → AreEndsTold s (past ∷ runs) self.new) }
         ensures count { OnOk result (self.new.runs ≡ self.old.runs + 1) }
         ensures sized { OnOk result (IsSized self.new) }
+        ensures marked { OnOk result (self.new.marked ≡ self.old.marked) }
+        ensures asks { OnOk result (self.new.asks_marked ≡ self.old.asks_marked) }
         ensures same { self.new.is_all ≡ self.old.is_all }
     {
         self.runs += 1;
@@ -148,6 +157,30 @@ impl Report {
             End::Stuck => self.stuck.add(alloc, steps)?,
             End::Spent => self.spent.add(alloc, steps)?,
             End::Cut => {}
+        }
+        Ok(())
+    }
+
+    /// One more run was made, by these steps, which ended so and is marked or isn't. `AllocError` comes only
+    /// for want of memory.
+    pub fn add(
+        &mut self,
+        alloc: Global,
+        end: End,
+        marks: bool,
+        steps: &[Step],
+    ) -> Result<(), AllocError>
+        requires room { self.old.runs < 4294967295 }
+        requires sized { IsSized self.old }
+        requires short { length steps.now ≤ 2097152 }
+        ensures told { OnOk result ((s : Tree) (bound : ℕ) (name : Option (List ℕ)) (past : Past) (runs : List Past) → AreStepsOf s bound past steps.now → end ≡ end_of s past → marks ≡ is_marked s name past → IsTold s name runs self.old → IsTold s name (past ∷ runs) self.new) }
+        ensures count { OnOk result (self.new.runs ≡ self.old.runs + 1) }
+        ensures sized { OnOk result (IsSized self.new) }
+        ensures same { self.new.is_all ≡ self.old.is_all }
+    {
+        self.add_end(alloc, end, steps)?;
+        if marks {
+            self.marked.add(alloc, steps)?;
         }
         Ok(())
     }

@@ -5,7 +5,7 @@ ghost use Rattle.std.specs.Prelude.{◌≡◌, OnOk};
 ghost use Rattle.std.specs.List.{flat_map};
 ghost use Rattle.user_io.specs.Text.{Adds, operand};
 ghost use Rattle.log_text.specs.Summaries.{count_line};
-ghost use Rattle.run_explorer.specs.Texts.{order_line, found_lines, last_line, report_text};
+ghost use Rattle.run_explorer.specs.Texts.{order_line, found_lines, marked_lines, last_line, report_text};
 
 use crate::report::{Found, Order, Report};
 use std::alloc::AllocError;
@@ -55,6 +55,17 @@ fn put_found(out: &mut Vec<u8>, word: &[u8], found: &Found) -> Result<(), AllocE
     Ok(())
 }
 
+/// Adds how many runs are marked, and who moved in the first one, where a mark was asked for.
+fn put_marked(out: &mut Vec<u8>, asks: bool, found: &Found) -> Result<(), AllocError>
+    ensures { OnOk result (Adds out.old.items out.new.items (marked_lines asks found.now)) }
+{
+    if asks {
+        put_found(out, b"marked", found)
+    } else {
+        Ok(())
+    }
+}
+
 /// Adds the last line.
 fn put_last(out: &mut Vec<u8>, is_all: bool) -> Result<(), AllocError>
     ensures { OnOk result (Adds out.old.items out.new.items (last_line is_all)) }
@@ -76,6 +87,7 @@ pub fn put_report(out: &mut Vec<u8>, report: &Report) -> Result<(), AllocError>
     put_count(out, b"done", u64::from(report.done))?;
     put_found(out, b"stuck", &report.stuck)?;
     put_found(out, b"spent", &report.spent)?;
+    put_marked(out, report.asks_marked, &report.marked)?;
     put_last(out, report.is_all)?;
     Ok(())
 }
